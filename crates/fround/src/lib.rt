@@ -1,0 +1,82 @@
+// Rounding floats to whole samples: the original's src/jpeg/fround.rs. Nothing here is public outside the project: the roundings are inner.
+ghost use mathlib.Core.Path.{_≡_};
+ghost use Prim.Native.Nat.{_≤_, min};
+ghost use Rattle.laws.specs.Floats.{f32};
+ghost use Rattle.fround.specs.Rounding.{fmin, fmax, clamped, Rounded};
+
+pub struct Rounding;
+
+impl Rounding {
+    // 2^23: an f32 at or above it has a unit in the last place of 1.
+    pub const GRID: f32 = 8_388_608.0;
+
+    // 2^22: the largest limit of the grid rounding.
+    pub const LIMIT: u32 = 4_194_304;
+
+    // 65,535 in 256ths: the largest limit of the rounding from the bits.
+    pub const WIDE: u32 = 16_776_960;
+
+    // 2^23 again, as the weight of the exponent's field in a bit pattern: the digits lie below it.
+    pub const FIELD: u32 = 8_388_608;
+}
+
+// Inner: the smaller of two numbers by comparison; b where either is not a number.
+pub fn fmin(a: f32, b: f32) -> f32
+    ensures { λ r. ⌜ r ≡ fmin a b ⌝ }
+{
+    if a < b { a } else { b }
+}
+
+// Inner: the larger of two numbers by comparison; b where either is not a number.
+pub fn fmax(a: f32, b: f32) -> f32
+    ensures { λ r. ⌜ r ≡ fmax a b ⌝ }
+{
+    if a > b { a } else { b }
+}
+
+fn least(a: u32, b: u32) -> u32
+    ensures { λ r. ⌜ r ≡ min a b ⌝ }
+{
+    if a < b { a } else { b }
+}
+
+// x limited to 0..=max; 0 where x is not a number, since the comparison with 0.0 then fails.
+fn clamp(x: f32, max: u32) -> f32
+    requires { ⌜ max ≤ 16777216 ⌝ }
+    ensures { λ r. ⌜ r ≡ clamped max x ⌝ }
+{
+    fmin(fmax(x, 0.0), max as f32)
+}
+
+// Inner: x limited to 0..=max, and that to the nearest whole number, halves up. A max over LIMIT counts as LIMIT.
+//
+// With c the limited value, c + 2^23 is rounded to a whole number, ties to even, and the sum's digits are that number n.
+// c - n is exact, and 1/2 exactly where a tie went down to the even neighbour.
+pub fn round_clamped_by_grid(x: f32, max: u32) -> u32
+    ensures { λ r. do limit ← ⟦Rounding::LIMIT⟧ .entry; ⌜ Rounded (min max limit) x r ⌝ }
+{
+    let c = clamp(x, least(max, Rounding::LIMIT));
+    let t = c + Rounding::GRID;
+    let n = f32::to_bits(t) % Rounding::FIELD;
+    if c - (t - Rounding::GRID) == 0.5 {
+        n + 1
+    } else {
+        n
+    }
+}
+
+// Inner: the same past the grid's limit, from the float's bits. A max over WIDE counts as WIDE.
+//
+// The exponent's field e says how many of the 24 digits s lie below one: 150 - e. One more of them is kept, and halved upward.
+pub fn round_clamped_by_bits(x: f32, max: u32) -> u32
+    ensures { λ r. do limit ← ⟦Rounding::WIDE⟧ .entry; ⌜ Rounded (min max limit) x r ⌝ }
+{
+    let b = f32::to_bits(clamp(x, least(max, Rounding::WIDE)));
+    let e = b / Rounding::FIELD;
+    if e < 126 {
+        0
+    } else {
+        let s = Rounding::FIELD + b % Rounding::FIELD;
+        ((s * 2 >> (150 - e)) + 1) / 2
+    }
+}

@@ -1,0 +1,10 @@
+-- The laws of specs/, a file for each topic.
+pub mod Lists
+pub mod Rows
+pub mod Refusals
+pub mod Differences
+pub mod Order
+pub mod Halves
+pub mod Values
+pub mod Fractions
+pub mod Nearness

@@ -1,0 +1,72 @@
+-- Laws of refusal lists: what acceptance and a number say of the tests.
+use mathlib.Core.Path.{_≡_, refl}
+use mathlib.Core.Logic.{_⊎_, inl, inr}
+use mathlib.Core.Bool.{Bool, true, false}
+use mathlib.Core.List.{List, [], _∷_}
+use Prim.Native.Nat.{ℕ, _<_, _≤_}
+use native.Mathlib.Omega.{arith}
+use lib.Dec.{T}
+use Rattle.laws.specs.declared.Answer.{Answer}
+use Rattle.laws.specs.declared.Answer.the-variants.{Accepted, Refused}
+use Rattle.laws.specs.Refusals.{Test, first, pickAnswer, accepted, Ascending, Applies}
+
+-- every test of the list failed
+abbrev pub Failed : List Test → Type 0
+Failed [] = Unit {0}
+Failed (t ∷ ts) = (t .0 ≡ false) × Failed ts
+
+differ : (n : ℕ) → Refused n ≡ Accepted → ⊥
+differ n e = let z : _≡_ {A = ℕ} 0 1 = cc in omega arith
+
+-- acceptance means that every test failed
+pub accepted-failed : (ts : List Test) → first ts ≡ Accepted → Failed ts
+unfolding first
+accepted-failed [] e = tt
+accepted-failed (t ∷ ts) e = go (t .0) (accepted-failed ts) e
+  where
+    go : (b : Bool) → (first ts ≡ Accepted → Failed ts) → pickAnswer b (Refused (t .1)) (first ts) ≡ Accepted → (b ≡ false) × Failed ts
+    go true k e = absurd (differ (t .1) e)
+    go false k e = (refl, k e)
+
+-- and where every test failed the call is accepted
+pub failed-accepted : (ts : List Test) → Failed ts → first ts ≡ Accepted
+unfolding first
+failed-accepted [] h = refl
+failed-accepted (t ∷ ts) h = rw (h .0) (failed-accepted ts (h .1))
+
+-- a test that applies is the answer, one that doesn't is passed over: the steps of a function that tests in turn
+pub refused-here : (b : Bool) (n : ℕ) (ts : List Test) → b ≡ true → first ((b, n) ∷ ts) ≡ Refused n
+unfolding first
+refused-here b n ts e = rw e refl
+
+pub passed-over : (b : Bool) (n : ℕ) (ts : List Test) → b ≡ false → first ((b, n) ∷ ts) ≡ first ts
+unfolding first
+passed-over b n ts e = rw e refl
+
+-- "The lowest number that applies is given, and only then": a number given belongs to a test that applies,
+pub refused-applies : (ts : List Test) (n : ℕ) → first ts ≡ Refused n → Applies n ts
+unfolding first Applies
+refused-applies [] n e = absurd (differ n (let h = e in (cc)))
+refused-applies (t ∷ ts) n e = go (t .0) (refused-applies ts n) e
+  where
+    go : (b : Bool) → (first ts ≡ Refused n → Applies n ts) → pickAnswer b (Refused (t .1)) (first ts) ≡ Refused n → (T b × (t .1 ≡ n)) ⊎ Applies n ts
+    go true k e = inl (tt, (cc))
+    go false k e = inr (k e)
+
+-- and is no more than any number whose test applies, since the numbers rise along the list
+above : (ts : List Test) (least m : ℕ) → Ascending least ts → Applies m ts → least ≤ m
+unfolding Ascending Applies
+above [] least m a p = absurd p
+above (t ∷ ts) least m a (inl q) = let h = q .1 in let k = a .0 in omega arith
+above (t ∷ ts) least m a (inr q) = let h : t .1 ≤ m = above ts (t .1) m (a .1) q in let k = a .0 in omega arith
+
+pub refused-lowest : (ts : List Test) (least n m : ℕ) → Ascending least ts → first ts ≡ Refused n → Applies m ts → n ≤ m
+unfolding first Ascending Applies
+refused-lowest [] least n m a e p = absurd p
+refused-lowest (t ∷ ts) least n m a e p = go (t .0) (λ f q. refused-lowest ts (t .1) n m (a .1) f q) e p
+  where
+    go : (b : Bool) → (first ts ≡ Refused n → Applies m ts → n ≤ m) → pickAnswer b (Refused (t .1)) (first ts) ≡ Refused n → (T b × (t .1 ≡ m)) ⊎ Applies m ts → n ≤ m
+    go true k e (inl q) = let h : t .1 ≡ n = cc in let i = q .1 in omega arith
+    go true k e (inr q) = let h : t .1 ≡ n = cc in let i : t .1 ≤ m = above ts (t .1) m (a .1) q in omega arith
+    go false k e (inl q) = absurd (q .0)
+    go false k e (inr q) = k e q

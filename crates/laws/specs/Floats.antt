@@ -1,0 +1,41 @@
+-- Single precision: whole numbers as floats, and a float's value against a fraction. Definitions only.
+-- The values and the operators, each rounded once, are the library's (lib.Ieee): `fin s m e` is the number m * up e / down e, negative where s is true.
+use mathlib.Core.Path.{_≡_}
+use mathlib.Core.Bool.{Bool, true, false}
+use Prim.Native.Nat.{ℕ, _+_, _*_, _≤_}
+use lib.IntN.{pos}
+use lib.Ieee.{Float, nan, inf, fin, up, down, binary32, ofInt}
+
+-- the whole number n as an f32
+abbrev pub f32 : ℕ → Float
+f32 n = ofInt binary32 (pos n)
+
+-- the parts above and below zero of a number with the sign s and the size a
+abbrev pub over : Bool → ℕ → ℕ
+over false a = a
+over true a = 0
+
+abbrev pub under : Bool → ℕ → ℕ
+under false a = 0
+under true a = a
+
+-- (P - N) / D and (p - n) / c differ by e / 256 at most, multiplied out
+pub record Close (P N D p n c e : ℕ) : Type 0 where
+  pub hi : 256 * (P * c + n * D) ≤ 256 * (N * c + p * D) + e * (c * D)
+  pub lo : 256 * (N * c + p * D) ≤ 256 * (P * c + n * D) + e * (c * D)
+
+-- the float is finite and within e / 256 of (p - n) / c
+abbrev pub Near : Float → ℕ → ℕ → ℕ → ℕ → Type 0
+Near nan p n c e = ⊥
+Near (inf s) p n c e = ⊥
+Near (fin s m x) p n c e = Close (over s (m * up x)) (under s (m * up x)) (down x) p n c e
+
+-- (P - N) / D is (p - n) / c, multiplied out
+pub record Same (P N D p n c : ℕ) : Type 0 where
+  pub eq : P * c + n * D ≡ N * c + p * D
+
+-- the float is finite and equals (p - n) / c
+abbrev pub Is : Float → ℕ → ℕ → ℕ → Type 0
+Is nan p n c = ⊥
+Is (inf s) p n c = ⊥
+Is (fin s m x) p n c = Same (over s (m * up x)) (under s (m * up x)) (down x) p n c

@@ -1,0 +1,5 @@
+pub mod Lists
+pub mod Refusals
+pub mod Differences
+pub mod Rounding
+pub mod Floats

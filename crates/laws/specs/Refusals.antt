@@ -1,0 +1,37 @@
+-- 'Reasons for turning a call down': the tests of a call in the order of document 01's table, each with its number. Definitions only.
+use mathlib.Core.Path.{_≡_}
+use mathlib.Core.Logic.{_⊎_}
+use Prim.Native.Nat.{ℕ, _<_}
+use mathlib.Core.Bool.{Bool, true, false}
+use mathlib.Core.List.{List, [], _∷_}
+use lib.Dec.{T}
+use Rattle.laws.specs.declared.Answer.{Answer}
+use Rattle.laws.specs.declared.Answer.the-variants.{Accepted, Refused}
+
+-- one row of the table: whether it applies, and its number
+abbrev pub Test : Type 0
+Test = Bool × ℕ
+
+abbrev pub pickAnswer : Bool → Answer → Answer → Answer
+pickAnswer true a b = a
+pickAnswer false a b = b
+
+-- the number of the first test that applies; none applies: accepted
+unfoldable pub first : List Test → Answer
+first [] = Accepted
+first (t ∷ ts) = pickAnswer (t .0) (Refused (t .1)) (first ts)
+
+-- what the answer's cases are in document 01: whether the call was accepted
+abbrev pub accepted : Answer → Bool
+accepted Accepted = true
+accepted (Refused n) = false
+
+-- every number is above those before it, so that the first that applies is the lowest
+unfoldable pub Ascending : ℕ → List Test → Type 0
+Ascending least [] = Unit {0}
+Ascending least (t ∷ ts) = (least < t .1) × Ascending (t .1) ts
+
+-- some test of the list with the number n applies
+unfoldable pub Applies : ℕ → List Test → Type 0
+Applies n [] = ⊥
+Applies n (t ∷ ts) = (T (t .0) × (t .1 ≡ n)) ⊎ Applies n ts
