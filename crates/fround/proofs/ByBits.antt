@@ -1,6 +1,6 @@
 -- A value below 2 ^ 24, rounded from its bit pattern.
 use mathlib.Core.Path.{_≡_, refl, sym, ap, _∙_, subst}
-use Prim.Native.Nat.{ℕ, zero, suc, _+_, _-_, _*_, _/_, _%_, _^_, _≤_, _<_}
+use Prim.Native.Nat.{ℕ, suc, _+_, _-_, _*_, _/_, _%_, _^_, _≤_, _<_}
 use native.Mathlib.Nat.{le-of-eq, lt-of-lt-of-le, lt-of-le-of-lt, not-le-of-lt, zero-lt-suc, mul-comm, mul-assoc, mul-right-comm, mul-left-comm, add-mul, mul-pos, mul-lt-mul-of-pos-right, lt-of-mul-lt-mul-right, div-lt-iff-lt-mul, eq-of-mul-eq-mul-right, mod-eq-of-lt}
 use native.Mathlib.Omega.{arith}
 use mathlib.Core.Bool.{Bool, true, false, not, cond}

@@ -1,5 +1,5 @@
 -- What callers ask of the definitions: a rounding is within its limit, keeps whole numbers and the order; a value raised to lo and lowered to hi lies between.
-use mathlib.Core.Path.{_≡_, refl, sym, ap, _∙_}
+use mathlib.Core.Path.{_≡_, sym, ap, _∙_}
 use mathlib.Core.Bool.{Bool, true, false, true≢false, cond}
 use Prim.Native.Nat.{ℕ, _*_, _≤_, min, zero-le}
 use native.Mathlib.Nat.{le-refl, le-trans, le-of-eq, mul-one, zero-mul, eq-of-mul-eq-mul-right}

@@ -1,6 +1,6 @@
 -- x limited to 0 .. max by two comparisons, and what the limit does to the rounding.
 use mathlib.Core.Path.{_≡_, refl, sym, ap, _∙_, subst}
-use Prim.Native.Nat.{ℕ, _+_, _*_, _≤_, _<_, min, zero-le}
+use Prim.Native.Nat.{ℕ, _*_, _≤_, _<_, min, zero-le}
 use native.Mathlib.Nat.{le-of-eq, le-trans, le-of-lt, lt-of-lt-of-le, mul-one, mul-right-comm, lt-of-mul-lt-mul-right, le-of-mul-le-mul-right}
 use native.Mathlib.Omega.{arith}
 use mathlib.Core.Bool.{Bool, true, false, not, cond, true≢false}
@@ -13,7 +13,7 @@ use Rattle.laws.specs.Floats.{f32}
 use Rattle.laws.specs.Rounding.{halfUp}
 use Rattle.laws.proofs.Halves.{up-le, up-ge, up-whole}
 use Rattle.laws.proofs.Values.{whole-value}
-use Rattle.fround.specs.Rounding.{origin, fmax, fmin, clamped, roundClamped}
+use Rattle.fround.specs.Rounding.{origin, fmax, clamped, roundClamped}
 
 min-l : (a b : ℕ) → a ≤ b → min a b ≡ a
 min-l a b h = omega arith

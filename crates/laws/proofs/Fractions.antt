@@ -1,7 +1,7 @@
 -- Signed fractions (p - n) / c within e / 256 of each other: sums, products by a fraction below 1, and chains. Nothing here is about floats.
-use mathlib.Core.Path.{_≡_, refl, sym, ap, _∙_, subst}
+use mathlib.Core.Path.{_≡_, ap}
 use Prim.Native.Nat.{ℕ, _+_, _*_, _≤_, _<_}
-use native.Mathlib.Nat.{mul-le-mul-right, le-of-mul-le-mul-right, mul-pos, le-trans}
+use native.Mathlib.Nat.{mul-le-mul-right, le-of-mul-le-mul-right, mul-pos}
 use native.Mathlib.Omega.{arith}
 use Rattle.laws.specs.Floats.{Close}
 

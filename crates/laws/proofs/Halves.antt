@@ -1,9 +1,9 @@
 -- Laws of halves up, and against the ties to even of IEEE rounding (`closest`). Whole numbers alone: no floats here.
 use mathlib.Core.Path.{_≡_, refl, sym, ap, _∙_, subst}
 use Prim.Native.Nat.{ℕ, zero, suc, _+_, _-_, _*_, _/_, _%_, _≤_, _<_, compare, Ordering, Ordering·lt, Ordering·eq, Ordering·gt}
-use native.Mathlib.Nat.{mul-assoc, mul-left-comm, mul-comm, one-mul, add-mul, suc-mul, mul-pos, zero-lt-suc, le-of-suc-le-suc, le-div-iff-mul-le, div-lt-iff-lt-mul, div-add-mod', mod-lt, div-div-eq-div-mul, add-mul-div-right, add-mul-mod-self-right, mul-le-mul-right}
+use native.Mathlib.Nat.{mul-left-comm, mul-comm, one-mul, suc-mul, mul-pos, zero-lt-suc, le-of-suc-le-suc, le-div-iff-mul-le, div-lt-iff-lt-mul, div-add-mod', mod-lt, div-div-eq-div-mul, add-mul-div-right, add-mul-mod-self-right, mul-le-mul-right}
 use native.Mathlib.Omega.{arith}
-use mathlib.Core.Bool.{Bool, true, false, not}
+use mathlib.Core.Bool.{not}
 use lib.Dec.{T, isLe, isEq, eqb, leb→le, nleb→lt, eqb→eq, eqb-refl}
 use lib.Arith.{lt-of-le-ne, digits-div}
 use lib.Ieee.{nearest}

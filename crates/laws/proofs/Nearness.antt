@@ -1,7 +1,7 @@
 -- A float's nearness to a fraction, through roundings and operators: each adds 1 / 256 below 2 ^ 17, and nothing where it is exact.
 use mathlib.Core.Path.{_≡_, refl, sym, ap, _∙_, subst}
 use mathlib.Core.Bool.{Bool, true, false, not, _&&_, cond}
-use Prim.Native.Nat.{ℕ, suc, _+_, _-_, _*_, _/_, _^_, _≤_, _<_}
+use Prim.Native.Nat.{ℕ, _+_, _-_, _*_, _/_, _^_, _≤_, _<_}
 use native.Mathlib.Nat.{le-trans, le-of-eq, le-of-lt, lt-of-lt-of-le, lt-of-le-of-lt, mul-comm, mul-assoc, mul-right-comm, zero-mul, mul-pos, mul-le-mul-left, mul-le-mul-right, le-of-mul-le-mul-right, mul-lt-mul-of-pos-right, div-lt-iff-lt-mul}
 use native.Mathlib.Omega.{arith}
 use lib.Dec.{T, ltb, ltb→lt, nltb→le, lit<, lit≤}
@@ -11,7 +11,7 @@ use lib.Ieee.Digits.{size-le}
 use lib.Ieee.Fits.{round-is, down-pos}
 use lib.Ieee.Exact.{HasValue, units-val, round-exact}
 use lib.Ieee.Nearest.{closest}
-use Rattle.laws.specs.Floats.{f32, Close, Near, Same, Is, over, under}
+use Rattle.laws.specs.Floats.{f32, Close, Near, Is, over, under}
 use Rattle.laws.proofs.Halves.{Half, closest-half}
 use Rattle.laws.proofs.Values.{whole-value}
 use Rattle.laws.proofs.Fractions.{plus, chain, widen, aim, times, shift, flip, Takes}

@@ -1,6 +1,6 @@
 -- The order of floats: `lt` and `le` hold of numbers alone, so that a not-a-number is on neither side of them.
 use mathlib.Core.Path.{_≡_, refl, subst}
-use mathlib.Core.Bool.{Bool, true, false, not, _&&_, _||_}
+use mathlib.Core.Bool.{Bool, true, false, _&&_, _||_}
 use mathlib.Core.Logic.{_⊎_, inl, inr}
 use Prim.Native.Nat.{ℕ, _*_, _≤_}
 use native.Mathlib.Nat.{le-of-eq, le-of-lt}

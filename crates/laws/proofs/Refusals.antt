@@ -3,12 +3,11 @@ use mathlib.Core.Path.{_≡_, refl}
 use mathlib.Core.Logic.{_⊎_, inl, inr}
 use mathlib.Core.Bool.{Bool, true, false}
 use mathlib.Core.List.{List, [], _∷_}
-use Prim.Native.Nat.{ℕ, _<_, _≤_}
+use Prim.Native.Nat.{ℕ, _≤_}
 use native.Mathlib.Omega.{arith}
 use lib.Dec.{T}
-use Rattle.laws.specs.declared.Answer.{Answer}
 use Rattle.laws.specs.declared.Answer.the-variants.{Accepted, Refused}
-use Rattle.laws.specs.Refusals.{Test, first, pickAnswer, accepted, Ascending, Applies}
+use Rattle.laws.specs.Refusals.{Test, first, pickAnswer, Ascending, Applies}
 
 -- every test of the list failed
 abbrev pub Failed : List Test → Type 0

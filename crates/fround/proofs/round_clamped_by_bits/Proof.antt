@@ -1,7 +1,7 @@
 -- c is x limited (`limited-by`), and its bits round it (`low-field`, `high-field`).
-use mathlib.Core.Path.{_≡_, sym, ap, _∙_, subst}
+use mathlib.Core.Path.{sym, subst}
 use mathlib.Core.Bool.{not}
-use Prim.Native.Nat.{ℕ, _+_, _-_, _*_, _/_, _%_, _^_, _≤_, min}
+use Prim.Native.Nat.{_+_, _-_, _*_, _/_, _%_, _^_, min}
 use native.Mathlib.Nat.{div-le-self}
 use native.Mathlib.Omega.{arith}
 use lib.Dec.{T}

@@ -1,11 +1,10 @@
 -- c is x limited (`limited-by`), and the grid rounds c (`on-rounds`).
-use mathlib.Core.Path.{_≡_, sym, ap, _∙_, subst}
+use mathlib.Core.Path.{_≡_, sym, ap, _∙_}
 use mathlib.Core.Bool.{Bool, cond}
-use Prim.Native.Nat.{ℕ, _+_, _%_, _≤_, min}
+use Prim.Native.Nat.{_+_, _%_, min}
 use native.Mathlib.Nat.{add-zero}
 use native.Mathlib.Omega.{arith}
-use lib.Dec.{T}
-use lib.Ieee.{Float, binary32, add, fits, ofBits, toBits}
+use lib.Ieee.{binary32, add, ofBits, toBits}
 use borrow.Author.Needs.{needs}
 use Rattle.fround.specs.Rounding.{roundClamped}
 use Rattle.fround.proofs.Laws.{rounded}

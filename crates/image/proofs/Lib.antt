@@ -1,0 +1,4 @@
+-- Laws of the tests and of the picture, which callers cite.
+pub mod Quotients
+pub mod Planes
+pub mod Pictures

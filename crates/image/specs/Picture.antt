@@ -1,0 +1,47 @@
+-- The picture of document 01: "sizes, ratios, sample bytes, maxval and the samples inside its planes, without padding or surplus". Definitions only.
+use mathlib.Core.Bool.{Bool, _&&_, _||_, cond}
+use mathlib.Core.List.{List}
+use Prim.Native.Nat.{ℕ}
+use lib.Dec.{ltb}
+use lib.ListN.{length}
+use Rattle.image.specs.declared.layout.Layout.{Layout}
+use Rattle.image.specs.Tests.{badPlane}
+use Rattle.image.specs.Samples.{Plane, sampleAt}
+
+pub data Chroma : Type 0 where
+  Cb Cr : Chroma
+
+-- `luma x y` and `chroma k x y`: column first. They are 0 outside the picture.
+pub record Picture : Type 0 where
+  pub layout : Layout
+  pub luma : ℕ → ℕ → ℕ
+  pub chroma : Chroma → ℕ → ℕ → ℕ
+
+-- the planes that a call is lent
+pub record Planes : Type 0 where
+  pub y : Plane
+  pub cb : Plane
+  pub cr : Plane
+
+abbrev pub chromaPlane : Planes → Chroma → Plane
+chromaPlane ps Cb = ps .cb
+chromaPlane ps Cr = ps .cr
+
+-- the samples of w columns and h rows, and nothing of what stands behind or below them
+unfoldable pub inside : ℕ → ℕ → (ℕ → ℕ → ℕ) → ℕ → ℕ → ℕ
+inside w h f x y = cond (ltb x w && ltb y h) (f x y) 0
+
+unfoldable pub pictureOf : Layout → Planes → Picture
+pictureOf l ps = record {
+  layout = l;
+  luma = inside (l .w) (l .h) (sampleAt (l .«sample_bytes») (ps .y));
+  chroma = λ k. inside (l .cw) (l .ch) (sampleAt (l .«sample_bytes») (chromaPlane ps k));
+}
+
+-- 7 for one plane of w columns and h rows
+unfoldable pub shortPlane : Layout → ℕ → ℕ → Plane → Bool
+shortPlane l w h p = badPlane (l .«sample_bytes») w h (p .stride) (length (p .bytes))
+
+-- 7 for the three planes of a picture
+unfoldable pub badPlanes : Layout → Planes → Bool
+badPlanes l ps = shortPlane l (l .w) (l .h) (ps .y) || (shortPlane l (l .cw) (l .ch) (ps .cb) || shortPlane l (l .cw) (l .ch) (ps .cr))

@@ -1,0 +1,37 @@
+-- The tests behind refusals 2, 3, 4, 5 and 7, in the order and words of document 01's table. Definitions only.
+use mathlib.Core.Bool.{Bool, true, false, _||_, not, cond}
+use Prim.Native.Nat.{ℕ, _+_, _-_, _*_, _/_}
+use lib.Dec.{ltb, eqb}
+use Rattle.image.specs.declared.layout.Layout.{Layout}
+
+-- x lies outside lo .. hi
+abbrev pub outsideOf : ℕ → ℕ → ℕ → Bool
+outsideOf lo hi x = ltb x lo || ltb hi x
+
+-- 2: "width or height 0 or over 8,192"
+unfoldable pub badSize : Layout → Bool
+badSize l = outsideOf 1 8192 (l .w) || outsideOf 1 8192 (l .h)
+
+-- 3: "ratio outside 1..4"
+unfoldable pub badRatio : Layout → Bool
+badRatio l = outsideOf 1 4 (l .rh) || outsideOf 1 4 (l .rv)
+
+-- the most that a sample of one or of two bytes holds
+abbrev pub mostOf : ℕ → ℕ
+mostOf bytes = cond (eqb bytes 1) 255 65535
+
+-- 4: "sample bytes not 1 or 2, or maxval outside 1..255 (1..65,535 for 2 bytes)"
+unfoldable pub badSamples : Layout → Bool
+badSamples l = outsideOf 1 2 (l .«sample_bytes») || outsideOf 1 (mostOf (l .«sample_bytes»)) (l .maxval)
+
+-- "the rounded-up quotient" n / r
+unfoldable pub divCeil : ℕ → ℕ → ℕ
+divCeil n r = (n + (r - 1)) / r
+
+-- 5: "chroma size not the rounded-up quotient"
+unfoldable pub badChroma : Layout → Bool
+badChroma l = not (eqb (l .cw) (divCeil (l .w) (l .rh))) || not (eqb (l .ch) (divCeil (l .h) (l .rv)))
+
+-- 7: "a plane's stride below its row, or data ending before its last row's end": h rows of w samples, in `len` bytes
+unfoldable pub badPlane : ℕ → ℕ → ℕ → ℕ → ℕ → Bool
+badPlane bytes w h stride len = ltb stride (w * bytes) || ltb len ((h - 1) * stride + w * bytes)

@@ -1,0 +1,10 @@
+// What a picture is made of: its layout, the samples of its planes, and the tests behind refusals 2 to 5 and 7.
+mod layout;
+mod plane;
+
+pub use layout::Layout;
+pub use layout::div_ceil;
+pub use layout::either;
+pub use layout::outside;
+pub use plane::bad_plane;
+pub use plane::sample;
