@@ -1,7 +1,9 @@
 // Sizes, ratios, sample bytes and maxval, and the tests on them. Each test is answered for every number.
 ghost use mathlib.Core.Path.{_≡_};
-ghost use mathlib.Core.Bool.{_||_};
-ghost use Rattle.image.specs.Tests.{outsideOf, mostOf, divCeil, badSize, badRatio, badSamples, badChroma};
+ghost use mathlib.Core.Bool.{_&&_, _||_, not};
+ghost use Rattle.laws.specs.Refusals.{first, accepted};
+ghost use Rattle.image.specs.Tests.{outsideOf, mostOf, divCeil, badSize, badRatio, badSamples, badChroma, layoutTests};
+use laws::Answer;
 
 // The numbers of a picture: w by h pixels, rh by rv of them to a cell, cw by ch cells, and how a sample is stored.
 pub struct Layout {
@@ -28,6 +30,13 @@ pub fn either(a: bool, b: bool) -> bool
     ensures { λ r. ⌜ r ≡ (a || b) ⌝ }
 {
     if a { true } else { b }
+}
+
+// Inner: a and b, likewise.
+pub fn both(a: bool, b: bool) -> bool
+    ensures { λ r. ⌜ r ≡ (a && b) ⌝ }
+{
+    if a { b } else { false }
 }
 
 // Inner: whether x lies outside lo..=hi.
@@ -78,14 +87,13 @@ impl Layout {
         )
     }
 
-    // Inner: refusal 4's test, less what it says of the fixed kernel.
-    pub fn bad_samples(self) -> bool
-        ensures { λ r. ⌜ r ≡ badSamples self ⌝ }
+    // Inner: refusal 4's test; `fixed` for a fill by the fixed kernel.
+    pub fn bad_samples(self, fixed: bool) -> bool
+        ensures { λ r. ⌜ r ≡ badSamples fixed self ⌝ }
     {
-        either(
-            outside(1, 2, self.sample_bytes),
-            outside(1, most(self.sample_bytes), self.maxval as usize),
-        )
+        let bytes = outside(1, 2, self.sample_bytes);
+        let range = outside(1, most(self.sample_bytes), self.maxval as usize);
+        either(either(bytes, range), both(fixed, self.maxval != 255))
     }
 
     // Inner: refusal 5's test.
@@ -96,5 +104,34 @@ impl Layout {
             self.cw != div_ceil(self.w, self.rh),
             self.ch != div_ceil(self.h, self.rv),
         )
+    }
+
+    // Inner: the lowest of refusals 2 to 5 that applies.
+    pub fn answer(self, fixed: bool) -> Answer
+        ensures { λ r. ⌜ r ≡ first (layoutTests fixed self) ⌝ }
+    {
+        if self.bad_size() {
+            return Answer::Refused(2);
+        }
+        if self.bad_ratio() {
+            return Answer::Refused(3);
+        }
+        if self.bad_samples(fixed) {
+            return Answer::Refused(4);
+        }
+        if self.bad_chroma() {
+            return Answer::Refused(5);
+        }
+        Answer::Accepted
+    }
+}
+
+// Inner: whether an answer is a refusal.
+pub fn refused(answer: Answer) -> bool
+    ensures { λ r. ⌜ r ≡ not (accepted answer) ⌝ }
+{
+    match answer {
+        Answer::Accepted => false,
+        Answer::Refused(_) => true,
     }
 }

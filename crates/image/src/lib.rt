@@ -3,8 +3,10 @@ mod layout;
 mod plane;
 
 pub use layout::Layout;
+pub use layout::both;
 pub use layout::div_ceil;
 pub use layout::either;
 pub use layout::outside;
+pub use layout::refused;
 pub use plane::bad_plane;
 pub use plane::sample;

@@ -2,13 +2,14 @@
 use mathlib.Core.Path.{_≡_, refl, ap, _∙_}
 use mathlib.Core.Logic.{inl, inr}
 use mathlib.Core.List.{List, [], _∷_, _++_}
-use Prim.Native.Nat.{ℕ, zero, suc, _+_, _≤_, _<_}
-use native.Mathlib.Nat.{eq-or-lt-of-le, le-of-suc-le-suc, zero-add}
+use Prim.Native.Nat.{ℕ, zero, suc, _+_, _*_, _≤_, _<_}
+use native.Mathlib.Nat.{eq-or-lt-of-le, le-of-suc-le-suc, zero-add, suc-mul}
 use native.Mathlib.Numerals.{add-one}
 use native.Mathlib.Omega.{arith}
 use lib.ListN.{length, getD, set, take, length-set, length-append, List·getD-append}
 use lib.Seq.{getD-at, getD-set-same, getD-set-other, take-suc-set}
-use Rattle.laws.specs.Lists.{put, table}
+use Rattle.laws.proofs.Rows.{rows-apart}
+use Rattle.laws.specs.Lists.{put, rows, table}
 
 module _ {A : Type 0} where
   -- a run keeps the length
@@ -84,6 +85,40 @@ module _ {A : Type 0} where
   table-same zero f g e = refl
   table-same (suc n) f g e = rw (table-same n f g (λ i l. e i (omega arith)), e n (omega arith)) refl
 
+  -- ---- n rows of w values each, one after another
+
+  pub length-rows : (xs : List A) (w n : ℕ) (f : ℕ → ℕ → A) → length (rows xs w n f) ≡ length xs
+  unfolding rows
+  length-rows xs w zero f = refl
+  length-rows xs w (suc n) f = length-put (rows xs w n f) (n * w) w (f n) ∙ length-rows xs w n f
+
+  -- what lies after the rows is as it was
+  pub rows-after : (xs : List A) (w n : ℕ) (f : ℕ → ℕ → A) (k : ℕ) (d : A) → n * w ≤ k → getD (rows xs w n f) k d ≡ getD xs k d
+  unfolding rows
+  rows-after xs w zero f k d h = refl
+  rows-after xs w (suc n) f k d h =
+      let s : suc n * w ≡ n * w + w = suc-mul n w in
+      put-after (rows xs w n f) (n * w) w (f n) k d (omega arith) ∙ rows-after xs w n f k d (omega arith)
+
+  -- column x of row y is f(y)(x)
+  pub rows-inside : (xs : List A) (w n : ℕ) (f : ℕ → ℕ → A) (x y : ℕ) (d : A) → x < w → y < n → n * w ≤ length xs → getD (rows xs w n f) (y * w + x) d ≡ f y x
+  unfolding rows
+  rows-inside xs w zero f x y d k h l = absurd (omega arith)
+  rows-inside xs w (suc n) f x y d k h l =
+      let s : suc n * w ≡ n * w + w = suc-mul n w in
+      elim (eq-or-lt-of-le (le-of-suc-le-suc h)) [
+        | inl e ↦ rw e (put-inside (rows xs w n f) (n * w) w (f n) x d k (rw length-rows (omega arith)))
+        | inr q ↦ put-before (rows xs w n f) (n * w) w (f n) (y * w + x) d (rows-apart y n w x q k) ∙ rows-inside xs w n f x y d k q (omega arith)
+      ]
+
+  -- rows of equal values are equal
+  pub rows-same : (xs : List A) (w n : ℕ) (f g : ℕ → ℕ → A) → ((y x : ℕ) → y < n → x < w → f y x ≡ g y x) → rows xs w n f ≡ rows xs w n g
+  unfolding rows
+  rows-same xs w zero f g h = refl
+  rows-same xs w (suc n) f g h =
+      ap (λ (ys : List A). put ys (n * w) w (f n)) (rows-same xs w n f g (λ y x k l. h y x (omega arith) l))
+      ∙ put-same (rows xs w n g) (n * w) w (f n) (g n) (λ x l. h n x (omega arith) l)
+
 -- ---- a loop that writes a run: its invariant is `Run`, and its three steps are `run-none`, `run-more` and `run-end`
 
 -- ys is xs after the first n values of f were put from `at` on
@@ -116,3 +151,27 @@ module _ {A : Type 0} {xs ys : List A} {at n : ℕ} {f : ℕ → A} (r : Run xs 
 
   pub run-inside : (i : ℕ) (d : A) → i < n → at + n ≤ length xs → getD ys (at + i) d ≡ f i
   run-inside i d h b = ap (λ (l : List A). getD l (at + i) d) (r .eq) ∙ put-inside xs at n f i d h b
+
+-- ---- a loop over rows: its invariant is `Rows`, and its steps are `rows-none`, `rows-more` and `rows-end`
+
+-- ys is xs after the first n rows of w values of f were written
+pub record Rows {A : Type 0} (xs ys : List A) (w n : ℕ) (f : ℕ → ℕ → A) : Type 0 where
+  pub len : length ys ≡ length xs
+  pub eq : ys ≡ rows xs w n f
+
+pub rows-none : {A : Type 0} (xs : List A) (w : ℕ) (f : ℕ → ℕ → A) → Rows xs xs w 0 f
+unfolding rows
+rows-none xs w f = record { len = refl; eq = refl }
+
+module _ {A : Type 0} {xs ys : List A} {w n : ℕ} {f : ℕ → ℕ → A} (r : Rows xs ys w n f) where
+  -- a turn's row, as a callee that writes it says
+  pub rows-more : (zs : List A) → zs ≡ put ys (n * w) w (f n) → Rows xs zs w (n + 1) f
+  unfolding rows
+  rows-more zs h =
+      let q = r .eq in
+      let z : zs ≡ put (rows xs w n f) (n * w) w (f n) = cc in
+      record { len = ap length h ∙ length-put ys (n * w) w (f n) ∙ r .len; eq = rw (add-one n) z }
+
+  -- the loop's end, at the bound m
+  pub rows-end : (m : ℕ) → n ≤ m → m ≤ n → ys ≡ rows xs w m f
+  rows-end m h g = let q : n ≡ m = omega arith in let z = r .eq in cc

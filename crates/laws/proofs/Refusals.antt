@@ -2,12 +2,12 @@
 use mathlib.Core.Path.{_≡_, refl}
 use mathlib.Core.Logic.{_⊎_, inl, inr}
 use mathlib.Core.Bool.{Bool, true, false}
-use mathlib.Core.List.{List, [], _∷_}
+use mathlib.Core.List.{List, [], _∷_, _++_}
 use Prim.Native.Nat.{ℕ, _≤_}
 use native.Mathlib.Omega.{arith}
 use lib.Dec.{T}
 use Rattle.laws.specs.declared.Answer.the-variants.{Accepted, Refused}
-use Rattle.laws.specs.Refusals.{Test, first, pickAnswer, Ascending, Applies}
+use Rattle.laws.specs.Refusals.{Test, first, pickAnswer, accepted, Ascending, Applies}
 
 -- every test of the list failed
 abbrev pub Failed : List Test → Type 0
@@ -69,3 +69,30 @@ refused-lowest (t ∷ ts) least n m a e p = go (t .0) (λ f q. refused-lowest ts
     go true k e (inr q) = let h : t .1 ≡ n = cc in let i : t .1 ≤ m = above ts (t .1) m (a .1) q in omega arith
     go false k e (inl q) = absurd (q .0)
     go false k e (inr q) = k e q
+
+-- ---- a list in two parts
+
+-- a refusal by the first part stands
+pub refused-early : (ts us : List Test) → accepted (first ts) ≡ false → first (ts ++ us) ≡ first ts
+unfolding first
+refused-early [] us e = let z : _≡_ {A = ℕ} 0 1 = cc in absurd (omega arith)
+refused-early (t ∷ ts) us e = go (t .0) (refused-early ts us) e
+  where
+    go : (b : Bool) → (accepted (first ts) ≡ false → first (ts ++ us) ≡ first ts) → accepted (pickAnswer b (Refused (t .1)) (first ts)) ≡ false → pickAnswer b (Refused (t .1)) (first (ts ++ us)) ≡ pickAnswer b (Refused (t .1)) (first ts)
+    go true k e = refl
+    go false k e = k e
+
+-- and past it the second part answers
+pub passed-early : (ts us : List Test) → accepted (first ts) ≡ true → first (ts ++ us) ≡ first us
+unfolding first
+passed-early [] us e = refl
+passed-early (t ∷ ts) us e = go (t .0) (passed-early ts us) e
+  where
+    go : (b : Bool) → (accepted (first ts) ≡ true → first (ts ++ us) ≡ first us) → accepted (pickAnswer b (Refused (t .1)) (first ts)) ≡ true → pickAnswer b (Refused (t .1)) (first (ts ++ us)) ≡ first us
+    go true k e = let z : _≡_ {A = ℕ} 0 1 = cc in absurd (omega arith)
+    go false k e = k e
+
+-- acceptance by both parts
+pub failed-both : (ts us : List Test) → Failed (ts ++ us) → Failed ts × Failed us
+failed-both [] us h = (tt, h)
+failed-both (t ∷ ts) us h = let w = failed-both ts us (h .1) in ((h .0, w .0), w .1)

@@ -18,6 +18,12 @@ outside-requires-2 c κs = search needs
 either-requires : tie.Need-either-requires
 either-requires c κs = search needs
 
+both-requires : tie.Need-both-requires
+both-requires c κs = search needs
+
+either-requires-2 : tie.Need-either-requires-2
+either-requires-2 c κs = search needs
+
 returns : tie.Need-returns
 unfolding badSamples
 returns c = cc
@@ -31,4 +37,6 @@ bad-samples-spec =
     cast-outside
     outside-requires-2
     either-requires
+    both-requires
+    either-requires-2
     returns)
