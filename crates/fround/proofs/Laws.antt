@@ -1,19 +1,21 @@
 -- What callers ask of the definitions: a rounding is within its limit, keeps whole numbers and the order; a value raised to lo and lowered to hi lies between.
-use mathlib.Core.Path.{_≡_, sym, ap, _∙_}
-use mathlib.Core.Bool.{Bool, true, false, true≢false, cond}
+use mathlib.Core.Path.{_≡_, refl, sym, ap, _∙_}
+use mathlib.Core.Bool.{Bool, true, false, not, _&&_, true≢false, cond}
 use Prim.Native.Nat.{ℕ, _*_, _≤_, min, zero-le}
 use native.Mathlib.Nat.{le-refl, le-trans, le-of-eq, mul-one, zero-mul, eq-of-mul-eq-mul-right}
 use native.Mathlib.Omega.{arith}
-use lib.Dec.{T}
-use lib.Ieee.{Float, nan, inf, fin, up, down, lt, le}
+use lib.Dec.{T, eqb}
+use lib.Ieee.{Float, nan, inf, fin, up, down, lt, le, binary32, fits, isNan, ofBits, toBits}
 use lib.Ieee.Fits.{down-pos}
+use lib.Ieee.Bits.{ofBits-toBits}
 use lib.Ieee.Exact.{HasValue}
+use borrow.Author.Tests.{eqb-true}
 use Rattle.laws.specs.Floats.{f32}
 use Rattle.laws.specs.Rounding.{halfUp}
 use Rattle.laws.proofs.Halves.{up-whole, up-mono}
 use Rattle.laws.proofs.Order.{lt-le, le-self, not-nan-left, not-nan-right, le-cross, le-negative}
 use Rattle.laws.proofs.Values.{whole-value}
-use Rattle.fround.specs.Rounding.{fmin, fmax, roundClamped, Rounded}
+use Rattle.fround.specs.Rounding.{fmin, fmax, roundClamped, sameFloat, Rounded}
 
 min-left : (a b : ℕ) → min a b ≤ a
 min-left a b = omega arith
@@ -85,3 +87,25 @@ between v lo hi h = go (lt lo v) (lt-le lo v)
     go : (b : Bool) → (T b → T (le lo v)) → T (le lo (fmin (cond b v lo) hi)) × T (le (fmin (cond b v lo) hi) hi)
     go true k = last v (k tt) (lt v hi) (lt-le v hi)
     go false k = last lo bottom (lt lo hi) (lt-le lo hi)
+
+-- ---- the same value
+
+bits-same : (x y : Float) → T (fits binary32 x) → T (fits binary32 y) → toBits binary32 x ≡ toBits binary32 y → x ≡ y
+bits-same x y f g e = sym (ofBits-toBits binary32 x f) ∙ ap (ofBits binary32) e ∙ ofBits-toBits binary32 y g
+
+nan-is : (x : Float) → isNan x ≡ true → x ≡ nan
+unfolding isNan
+nan-is nan e = refl
+nan-is (inf s) e = let z : _≡_ {A = ℕ} 0 1 = cc in absurd (omega arith)
+nan-is (fin s m d) e = let z : _≡_ {A = ℕ} 0 1 = cc in absurd (omega arith)
+
+-- two f32 that pass are equal
+pub same-float : (x y : Float) → T (fits binary32 x) → T (fits binary32 y) → sameFloat x y ≡ true → x ≡ y
+unfolding sameFloat
+same-float x y f g e = go (isNan x) (nan-is x) (isNan y) (nan-is y) (eqb (toBits binary32 x) (toBits binary32 y)) (eqb-true (toBits binary32 x) (toBits binary32 y)) e
+  where
+    go : (a : Bool) → (a ≡ true → x ≡ nan) → (b : Bool) → (b ≡ true → y ≡ nan) → (c : Bool) → (c ≡ true → toBits binary32 x ≡ toBits binary32 y) → cond a b (not b && c) ≡ true → x ≡ y
+    go true p true q c r e = p refl ∙ sym (q refl)
+    go true p false q c r e = let z : _≡_ {A = ℕ} 0 1 = cc in absurd (omega arith)
+    go false p true q c r e = let z : _≡_ {A = ℕ} 0 1 = cc in absurd (omega arith)
+    go false p false q c r e = bits-same x y f g (r e)

@@ -1,9 +1,10 @@
 -- 'Rounding' of document 01. Definitions only.
 use mathlib.Core.Path.{_≡_}
-use mathlib.Core.Bool.{Bool, true, false, cond}
+use mathlib.Core.Bool.{Bool, true, false, not, _&&_, cond}
 use Prim.Native.Nat.{ℕ, _*_, _≤_, min}
 use lib.IntN.{pos}
-use lib.Ieee.{Float, nan, inf, fin, up, down, lt}
+use lib.Dec.{eqb}
+use lib.Ieee.{Float, nan, inf, fin, up, down, lt, binary32, isNan, toBits}
 use Rattle.laws.specs.Floats.{f32}
 use Rattle.laws.specs.Rounding.{halfUp}
 
@@ -35,3 +36,7 @@ roundClamped limit (fin false m e) = min limit (halfUp (m * up e) (down e))
 pub record Rounded (limit : ℕ) (x : Float) (r : ℕ) : Type 0 where
   pub is : r ≡ roundClamped limit x
   pub within : r ≤ limit
+
+-- x and y are the same value: both not-a-number, or the same bits, by which -0 and 0 differ
+unfoldable pub sameFloat : Float → Float → Bool
+sameFloat x y = cond (isNan x) (isNan y) (not (isNan y) && eqb (toBits binary32 x) (toBits binary32 y))

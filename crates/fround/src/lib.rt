@@ -2,7 +2,7 @@
 ghost use mathlib.Core.Path.{_≡_};
 ghost use Prim.Native.Nat.{_≤_, min};
 ghost use Rattle.laws.specs.Floats.{f32};
-ghost use Rattle.fround.specs.Rounding.{fmin, fmax, clamped, Rounded};
+ghost use Rattle.fround.specs.Rounding.{fmin, fmax, clamped, sameFloat, Rounded};
 
 pub struct Rounding;
 
@@ -32,6 +32,19 @@ pub fn fmax(a: f32, b: f32) -> f32
     ensures { λ r. ⌜ r ≡ fmax a b ⌝ }
 {
     if a > b { a } else { b }
+}
+
+// Inner: whether x and y are the same value, the sign of zero counted. A comparison can't tell: -0 equals 0, and a NaN not itself.
+pub fn same_float(x: f32, y: f32) -> bool
+    ensures { λ r. ⌜ r ≡ sameFloat x y ⌝ }
+{
+    if x == x {
+        if y == y {
+            return f32::to_bits(x) == f32::to_bits(y);
+        }
+        return false;
+    }
+    y != y
 }
 
 fn least(a: u32, b: u32) -> u32

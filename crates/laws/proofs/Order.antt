@@ -1,12 +1,13 @@
 -- The order of floats: `lt` and `le` hold of numbers alone, so that a not-a-number is on neither side of them.
-use mathlib.Core.Path.{_≡_, refl, subst}
-use mathlib.Core.Bool.{Bool, true, false, _&&_, _||_}
+use mathlib.Core.Path.{_≡_, refl, sym, _∙_, subst}
+use mathlib.Core.Bool.{Bool, true, false, not, _&&_, _||_}
 use mathlib.Core.Logic.{_⊎_, inl, inr}
 use Prim.Native.Nat.{ℕ, _*_, _≤_}
 use native.Mathlib.Nat.{le-of-eq, le-of-lt}
 use lib.IntN.{ℤ}
-use lib.Dec.{T, ltb, eqb, eqb-refl, ltb→lt, eqb→eq}
-use lib.Ieee.{Float, nan, inf, fin, up, down, lt, eq, le}
+use lib.Dec.{T, ltb, eqb, ltb→lt, eqb→eq}
+use lib.Ieee.{Float, nan, inf, fin, up, down, lt, eq, ne, le, isNan}
+use borrow.Author.Tests.{eq-eqb, not-true, not-false}
 use lib.Ieee.Fits.{and-l, and-r}
 
 or-l : (a b : Bool) → T a → T (a || b)
@@ -21,26 +22,44 @@ or-split : (a b : Bool) → T (a || b) → T a ⊎ T b
 or-split true b t = inl tt
 or-split false b t = inr t
 
-and-true : (b : Bool) → T b → T (b && true)
-and-true true t = tt
-and-true false t = t
-
 pub lt-le : (x y : Float) → T (lt x y) → T (le x y)
 unfolding le
 lt-le x y t = or-l (lt x y) (eq x y) t
 
-eq-self : (x : Float) → (x ≡ nan → ⊥) → T (eq x x)
-unfolding eq
-eq-self nan h = absurd (h refl)
-eq-self (inf true) h = tt
-eq-self (inf false) h = tt
-eq-self (fin true m e) h = and-true (eqb (m * up e * down e) (m * up e * down e)) (eqb-refl (m * up e * down e))
-eq-self (fin false m e) h = and-true (eqb (m * up e * down e) (m * up e * down e)) (eqb-refl (m * up e * down e))
+-- a float equals itself where it is no not-a-number
+pub eq-self : (x : Float) → eq x x ≡ not (isNan x)
+unfolding eq isNan
+eq-self nan = refl
+eq-self (inf true) = refl
+eq-self (inf false) = refl
+eq-self (fin true m e) = rw (eq-eqb _ _ refl)
+eq-self (fin false m e) = rw (eq-eqb _ _ refl)
+
+-- so that the test x == x tells the two apart
+pub self-equal : (x : Float) → eq x x ≡ true → isNan x ≡ false
+self-equal x e = not-true (isNan x) (sym (eq-self x) ∙ e)
+
+pub self-unequal : (x : Float) → eq x x ≡ false → isNan x ≡ true
+self-unequal x e = not-false (isNan x) (sym (eq-self x) ∙ e)
+
+pub differs-self : (x : Float) → ne x x ≡ isNan x
+unfolding ne
+differs-self x = go (isNan x) (eq-self x)
+  where
+    go : (b : Bool) → eq x x ≡ not b → not (eq x x) ≡ b
+    go true e = rw e refl
+    go false e = rw e refl
+
+is-number : (x : Float) → (x ≡ nan → ⊥) → T (not (isNan x))
+unfolding isNan
+is-number nan h = absurd (h refl)
+is-number (inf s) h = tt
+is-number (fin s m e) h = tt
 
 -- what is no not-a-number is at most itself
 pub le-self : (x : Float) → (x ≡ nan → ⊥) → T (le x x)
 unfolding le
-le-self x h = or-r (lt x x) (eq x x) (eq-self x h)
+le-self x h = or-r (lt x x) (eq x x) (subst T (sym (eq-self x)) (is-number x h))
 
 nan-left : (y : Float) → T (le nan y) → ⊥
 unfolding le
