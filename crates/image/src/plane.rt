@@ -51,6 +51,8 @@ pub fn sample(plane: &[u8], sample_bytes: usize, at: usize) -> u16
     if sample_bytes == 1 {
         wide(plane[at])
     } else {
-        wide(plane[at]) + 256 * wide(plane[at + 1])
+        let low = wide(plane[at]);
+        let high = wide(plane[at + 1]);
+        low + 256 * high
     }
 }

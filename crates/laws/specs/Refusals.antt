@@ -12,6 +12,11 @@ use Rattle.laws.specs.declared.Answer.the-variants.{Accepted, Refused}
 abbrev pub Test : Type 0
 Test = Bool × ℕ
 
+-- what the answer's cases are in document 01: whether the call was accepted
+abbrev pub accepted : Answer → Bool
+accepted Accepted = true
+accepted (Refused n) = false
+
 abbrev pub pickAnswer : Bool → Answer → Answer → Answer
 pickAnswer true a b = a
 pickAnswer false a b = b
@@ -20,11 +25,6 @@ pickAnswer false a b = b
 unfoldable pub first : List Test → Answer
 first [] = Accepted
 first (t ∷ ts) = pickAnswer (t .0) (Refused (t .1)) (first ts)
-
--- what the answer's cases are in document 01: whether the call was accepted
-abbrev pub accepted : Answer → Bool
-accepted Accepted = true
-accepted (Refused n) = false
 
 -- every number is above those before it, so that the first that applies is the lowest
 unfoldable pub Ascending : ℕ → List Test → Type 0
