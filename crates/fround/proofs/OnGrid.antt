@@ -211,10 +211,16 @@ on-is m e f h =
 bound : (a d max : ℕ) → max ≤ 4194304 → a ≤ max * d → a ≤ 4194304 * d
 bound a d max h k = le-trans k (mul-le-mul-right d h)
 
-pub on-rounds : (x c : Float) (max : ℕ) → max ≤ 4194304 → Limited max x c → on c ≡ roundClamped max x
+on-rounds : (x c : Float) (max : ℕ) → max ≤ 4194304 → Limited max x c → on c ≡ roundClamped max x
 on-rounds x c max h L = ap on (L .is) ∙ on-is (L .m) (L .e) (L .fits') (bound (L .m * up (L .e)) (down (L .e)) max h (L .within)) ∙ L .rounds
 
 pub sum-no-nan : (x c : Float) (max : ℕ) → max ≤ 4194304 → Limited max x c → T (not (isNan (add binary32 c two23)))
 sum-no-nan x c max h L =
     subst (λ (z : Float). T (not (isNan (add binary32 z two23)))) (sym (L .is))
     (value-no-nan (add binary32 (fin false (L .m) (L .e)) two23) false (8388608 + closest (L .m * up (L .e)) (down (L .e))) 1 (t-val (L .m) (L .e) (bound (L .m * up (L .e)) (down (L .e)) max h (L .within))))
+
+-- the same by the sum t that the code has
+pub on-sum : (x c t : Float) (max : ℕ) → max ≤ 4194304 → t ≡ add binary32 c two23 → Limited max x c
+    → toBits binary32 t % 8388608 + cond (eq (sub binary32 c (sub binary32 t two23)) half) 1 0 ≡ roundClamped max x
+unfolding on
+on-sum x c t max h e L = rw e (on-rounds x c max h L)

@@ -1,7 +1,7 @@
 // Rounding floats to whole samples: the original's src/jpeg/fround.rs. Nothing here is public outside the project: the roundings are inner.
 ghost use mathlib.Core.Path.{_≡_};
 ghost use Prim.Native.Nat.{_≤_, min};
-ghost use Rattle.laws.specs.Floats.{f32};
+ghost use lib.Ieee.{add, binary32};
 ghost use Rattle.fround.specs.Rounding.{fmin, fmax, clamped, sameFloat, Rounded};
 
 pub struct Rounding;
@@ -61,15 +61,22 @@ fn clamp(x: f32, max: u32) -> f32
     fmin(fmax(x, 0.0), max as f32)
 }
 
+// A value moved onto the grid, where consecutive floats are 1 apart: the sum rounds it to a whole number, ties to even.
+fn on_grid(c: f32) -> f32
+    ensures { λ r. do grid ← ⟦Rounding::GRID⟧ .entry; ⌜ r ≡ add binary32 c grid ⌝ }
+{
+    c + Rounding::GRID
+}
+
 // Inner: x limited to 0..=max, and that to the nearest whole number, halves up. A max over LIMIT counts as LIMIT.
 //
-// With c the limited value, c + 2^23 is rounded to a whole number, ties to even, and the sum's digits are that number n.
+// With c the limited value, the digits of c on the grid are the nearest whole number n, a tie's even neighbour.
 // c - n is exact, and 1/2 exactly where a tie went down to the even neighbour.
 pub fn round_clamped_by_grid(x: f32, max: u32) -> u32
     ensures { λ r. do limit ← ⟦Rounding::LIMIT⟧ .entry; ⌜ Rounded (min max limit) x r ⌝ }
 {
     let c = clamp(x, least(max, Rounding::LIMIT));
-    let t = c + Rounding::GRID;
+    let t = on_grid(c);
     let n = f32::to_bits(t) % Rounding::FIELD;
     if c - (t - Rounding::GRID) == 0.5 {
         n + 1
