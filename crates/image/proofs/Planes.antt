@@ -1,6 +1,6 @@
 -- Laws of refusal 7's test: what the code's divisions say of its products, and where the samples of a plane that passes stand.
 use mathlib.Core.Path.{_≡_, refl, sym}
-use mathlib.Core.Bool.{Bool, true, false, _||_}
+use mathlib.Core.Bool.{Bool, true, false}
 use Prim.Native.Nat.{ℕ, _+_, _-_, _*_, _/_, _≤_, _<_}
 use native.Mathlib.Nat.{mul-zero, div-lt-iff-lt-mul, le-div-iff-mul-le}
 use native.Mathlib.Omega.{arith}
@@ -8,7 +8,11 @@ use lib.Dec.{ltb}
 use borrow.Author.Tests.{lt-ltb, le-ltb, ltb-true, ltb-false}
 use Rattle.laws.proofs.Rows.{row-fits, row-begins}
 use Rattle.image.specs.Tests.{badPlane}
-use Rattle.image.specs.Samples.{place}
+use Rattle.image.proofs.Layouts.{neither}
+use lib.ListN.{length}
+use Rattle.image.specs.declared.layout.Layout.{Layout}
+use Rattle.image.specs.Samples.{Plane, place}
+use Rattle.image.specs.Picture.{shortPlane}
 
 -- tests that follow from each other are equal
 same-test : (a b c d : ℕ) → (a < b → c < d) → (b ≤ a → d ≤ c) → ltb a b ≡ ltb c d
@@ -53,10 +57,6 @@ unfolding badPlane
 holds bytes w h stride len e =
     let p = neither (ltb stride (w * bytes)) (ltb len ((h - 1) * stride + w * bytes)) e in
     record { row = ltb-false stride (w * bytes) (p .0); last = ltb-false len ((h - 1) * stride + w * bytes) (p .1) }
-  where
-    neither : (a b : Bool) → (a || b) ≡ false → (a ≡ false) × (b ≡ false)
-    neither true b e = let z : _≡_ {A = ℕ} 0 1 = cc in absurd (omega arith)
-    neither false b e = (refl, e)
 
 -- row y, its padding left out, ends within the data
 pub row-inside : {bytes w h stride len : ℕ} → Holds bytes w h stride len → (y : ℕ) → y < h → y * stride + w * bytes ≤ len
@@ -65,3 +65,8 @@ row-inside {bytes} {w} {h} {stride} o y l = omega (arith, o .last, row-begins y 
 -- and so does the sample in column x of row y
 pub sample-inside : {bytes w h stride len : ℕ} → Holds bytes w h stride len → (x y : ℕ) → x < w → y < h → place bytes stride x y + bytes ≤ len
 sample-inside {bytes} {w} o x y k l = omega (arith, row-inside o y l, row-fits x w bytes k)
+
+-- the same of a plane as a call is lent it
+pub short-holds : (l : Layout) (w h : ℕ) (p : Plane) → shortPlane l w h p ≡ false → Holds (l .«sample_bytes») w h (p .stride) (length (p .bytes))
+unfolding shortPlane
+short-holds l w h p e = holds (l .«sample_bytes») w h (p .stride) (length (p .bytes)) e

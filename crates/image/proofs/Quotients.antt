@@ -1,8 +1,8 @@
 -- Laws of the rounded-up quotient.
 use mathlib.Core.Path.{_≡_, ap, _∙_}
 use mathlib.Core.Logic.{inl, inr}
-use Prim.Native.Nat.{ℕ, _+_, _-_, _*_, _/_, _%_, _≤_, _<_}
-use native.Mathlib.Nat.{div-zero, div-add-mod', mod-lt, suc-mul, le-div-iff-mul-le, div-mul-le-self, mul-le-mul-left, eq-zero-or-pos}
+use Prim.Native.Nat.{ℕ, suc, _+_, _-_, _*_, _/_, _%_, _≤_, _<_}
+use native.Mathlib.Nat.{div-zero, div-add-mod', mod-lt, suc-mul, div-lt-iff-lt-mul, le-of-suc-le-suc, le-div-iff-mul-le, div-mul-le-self, mul-le-mul-left, eq-zero-or-pos}
 use native.Mathlib.Numerals.{add-one}
 use native.Mathlib.Omega.{arith}
 use lib.Arith.{digits-div}
@@ -45,3 +45,26 @@ quotient-less n r p h =
     let d : n / r * r + n % r ≡ n = div-add-mod' n r in
     let l : n / r * 1 ≤ n / r * r = mul-le-mul-left (n / r) p in
     omega arith
+
+-- the cells reach over the pixels
+pub ceil-covers : (n r : ℕ) → 0 < r → n ≤ divCeil n r * r
+unfolding divCeil
+ceil-covers n r p =
+    let m = n + (r - 1) in
+    let d : m / r * r + m % r ≡ m = div-add-mod' m r in
+    let l : m % r < r = mod-lt m p in
+    omega arith
+
+-- there are no more cells than pixels, and one at least
+pub ceil-most : (n r : ℕ) → 0 < r → divCeil n r ≤ n
+unfolding divCeil
+ceil-most n r p = le-of-suc-le-suc (div-lt-iff-lt-mul p .1 (less n r p))
+  where
+    less : (n r : ℕ) → 0 < r → n + (r - 1) < suc n * r
+    less n r p = omega (arith, suc-mul n r, mul-le-mul-left n p)
+
+pub ceil-some : (n r : ℕ) → 0 < r → 0 < n → 0 < divCeil n r
+ceil-some n r p h = elim (eq-zero-or-pos (divCeil n r)) [ inl e ↦ absurd (none (divCeil n r) e (ceil-covers n r p)) | inr l ↦ l ]
+  where
+    none : (c : ℕ) → c ≡ 0 → n ≤ c * r → ⊥
+    none c e k = let z : c * r ≡ 0 * r = ap (λ (x : ℕ). x * r) e in omega arith

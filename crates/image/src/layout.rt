@@ -1,5 +1,6 @@
 // Sizes, ratios, sample bytes and maxval, and the tests on them. Each test is answered for every number.
 ghost use mathlib.Core.Path.{_≡_};
+ghost use Prim.Native.Nat.{min};
 ghost use mathlib.Core.Bool.{_&&_, _||_, not};
 ghost use Rattle.laws.specs.Refusals.{first, accepted};
 ghost use Rattle.image.specs.Tests.{outsideOf, mostOf, divCeil, badSize, badRatio, badSamples, badChroma, layoutTests};
@@ -44,6 +45,13 @@ pub fn outside(lo: usize, hi: usize, x: usize) -> bool
     ensures { λ r. ⌜ r ≡ outsideOf lo hi x ⌝ }
 {
     either(x < lo, hi < x)
+}
+
+// Inner: the smaller of two numbers.
+pub fn least(a: usize, b: usize) -> usize
+    ensures { λ r. ⌜ r ≡ min a b ⌝ }
+{
+    if a < b { a } else { b }
 }
 
 // Inner: the quotient n / r rounded up; 0 for a divisor of 0.

@@ -6,6 +6,7 @@ pub use layout::Layout;
 pub use layout::both;
 pub use layout::div_ceil;
 pub use layout::either;
+pub use layout::least;
 pub use layout::outside;
 pub use layout::refused;
 pub use plane::bad_plane;

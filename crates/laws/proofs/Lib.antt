@@ -8,3 +8,5 @@ pub mod Halves
 pub mod Values
 pub mod Fractions
 pub mod Nearness
+pub mod Units
+pub mod Operators

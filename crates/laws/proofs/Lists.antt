@@ -139,6 +139,10 @@ module _ {A : Type 0} {xs ys : List A} {at n : ℕ} {f : ℕ → A} (r : Run xs 
       let z : set ys (at + n) v ≡ set (put xs at n f) (at + n) (f n) = cc in
       record { len = length-set ys (at + n) v ∙ r .len; eq = rw (add-one n) z }
 
+  -- the same run, counted another way
+  pub run-at : (m : ℕ) → n ≡ m → Run xs ys at m f
+  run-at m e = let z = r .eq in record { len = r .len; eq = (cc) }
+
   -- the loop's end, at the bound m
   pub run-end : (m : ℕ) → n ≤ m → m ≤ n → ys ≡ put xs at m f
   run-end m h g = let q : n ≡ m = omega arith in let z = r .eq in cc

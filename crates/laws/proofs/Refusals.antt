@@ -6,6 +6,7 @@ use mathlib.Core.List.{List, [], _∷_, _++_}
 use Prim.Native.Nat.{ℕ, _≤_}
 use native.Mathlib.Omega.{arith}
 use lib.Dec.{T}
+use Rattle.laws.specs.declared.Answer.{Answer}
 use Rattle.laws.specs.declared.Answer.the-variants.{Accepted, Refused}
 use Rattle.laws.specs.Refusals.{Test, first, pickAnswer, accepted, Ascending, Applies}
 
@@ -16,6 +17,11 @@ Failed (t ∷ ts) = (t .0 ≡ false) × Failed ts
 
 differ : (n : ℕ) → Refused n ≡ Accepted → ⊥
 differ n e = let z : _≡_ {A = ℕ} 0 1 = cc in omega arith
+
+-- the answer that is accepted
+pub accepted-is : (a : Answer) → accepted a ≡ true → a ≡ Accepted
+accepted-is Accepted e = refl
+accepted-is (Refused n) e = let z : _≡_ {A = ℕ} 0 1 = cc in absurd (omega arith)
 
 -- acceptance means that every test failed
 pub accepted-failed : (ts : List Test) → first ts ≡ Accepted → Failed ts

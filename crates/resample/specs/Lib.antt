@@ -1,0 +1,4 @@
+pub mod Taps
+pub mod Linear
+pub mod Rows
+pub mod Bound
