@@ -4,11 +4,26 @@ use mathlib.Core.Path.{_≡_}
 use mathlib.Core.Bool.{Bool, true, false}
 use Prim.Native.Nat.{ℕ, _+_, _*_, _≤_}
 use lib.IntN.{pos}
-use lib.Ieee.{Float, nan, inf, fin, up, down, binary32, ofInt}
+use lib.Ieee.{Float, nan, inf, fin, up, down, binary32, ofInt, add, sub, mul, div}
 
 -- the whole number n as an f32
 abbrev pub f32 : ℕ → Float
 f32 n = ofInt binary32 (pos n)
+
+-- the operators of single precision, each rounded once
+infixl 60 _⊕_ _⊖_
+infixl 70 _⊗_ _⊘_
+abbrev pub _⊕_ : Float → Float → Float
+_⊕_ a b = add binary32 a b
+
+abbrev pub _⊖_ : Float → Float → Float
+_⊖_ a b = sub binary32 a b
+
+abbrev pub _⊗_ : Float → Float → Float
+_⊗_ a b = mul binary32 a b
+
+abbrev pub _⊘_ : Float → Float → Float
+_⊘_ a b = div binary32 a b
 
 -- the parts above and below zero of a number with the sign s and the size a
 abbrev pub over : Bool → ℕ → ℕ

@@ -1,0 +1,4 @@
+pub mod Guided
+pub mod Scratch
+pub mod Calls
+pub mod Events

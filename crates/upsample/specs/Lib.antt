@@ -1,0 +1,2 @@
+pub mod Triangular
+pub mod Rows

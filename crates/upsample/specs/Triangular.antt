@@ -1,0 +1,60 @@
+-- 'Triangular' of document 01: a whole chroma plane in whole numbers, and the reasons for turning the call down. Definitions only.
+use mathlib.Core.Path.{_≡_}
+use mathlib.Core.Bool.{Bool, true, false, _&&_, _||_, not, cond}
+use mathlib.Core.List.{List, [], _∷_, _++_}
+use Prim.Native.Nat.{ℕ, _+_, _-_, _*_, _/_, _%_, min}
+use lib.Dec.{ltb, leb, eqb}
+use lib.ListN.{length}
+use Rattle.laws.specs.declared.Answer.{Answer}
+use Rattle.laws.specs.Lists.{rows}
+use Rattle.laws.specs.Refusals.{Test, first, accepted}
+use Rattle.image.specs.declared.layout.Layout.{Layout}
+use Rattle.image.specs.Tests.{layoutTests}
+use Rattle.image.specs.Samples.{Plane, sampleAt}
+use Rattle.image.specs.Picture.{shortPlane}
+
+abbrev pub even : ℕ → Bool
+even o = eqb (o % 2) 0
+
+-- "Far is the cell before at even positions, after at odd, edges repeated": position o of an axis of n cells
+unfoldable pub far : ℕ → ℕ → ℕ
+far n o = cond (even o) (o / 2 - 1) (min (o / 2 + 1) (n - 1))
+
+-- "3·near + far" of the cells c of that axis
+unfoldable pub weighed : ℕ → (ℕ → ℕ) → ℕ → ℕ
+weighed n c o = 3 * c (o / 2) + c (far n o)
+
+-- "One axis: (3·near + far + b) >> 2 with b = 1 at even and 2 at odd positions"
+unfoldable pub oneAxis : ℕ → (ℕ → ℕ) → ℕ → ℕ
+oneAxis n c o = (weighed n c o + cond (even o) 1 2) / 4
+
+-- "Both axes: vertical sums 3·near + far, then the same across with b = 8 and 7 and >> 4"; c i j is column i of row j
+unfoldable pub bothAxes : ℕ → ℕ → (ℕ → ℕ → ℕ) → ℕ → ℕ → ℕ
+bothAxes cw ch c x y = (weighed cw (λ i. weighed ch (c i) y) x + cond (even x) 8 7) / 16
+
+-- the sample in column x of row y, by the ratios: (2,1), (1,2), and otherwise (2,2)
+unfoldable pub triangularSample : Layout → (ℕ → ℕ → ℕ) → ℕ → ℕ → ℕ
+triangularSample l c y x =
+    cond (eqb (l .rv) 1) (oneAxis (l .cw) (λ i. c i y) x)
+    (cond (eqb (l .rh) 1) (oneAxis (l .ch) (c x) y)
+    (bothAxes (l .cw) (l .ch) c x y))
+
+-- 6: "triangular with ratios not (2,1), (1,2), (2,2), or rh 2 and cw at most 2"
+abbrev pub ratios : Layout → ℕ → ℕ → Bool
+ratios l rh rv = eqb (l .rh) rh && eqb (l .rv) rv
+
+unfoldable pub badTriangular : Layout → Bool
+badTriangular l = not (ratios l 2 1 || (ratios l 1 2 || ratios l 2 2)) || (eqb (l .rh) 2 && leb (l .cw) 2)
+
+-- "Refusals 2, 3, 4, 5, 6, 7, 10, lowest first"; `room` is how many values the output holds
+unfoldable pub triangularTests : Layout → Plane → ℕ → List Test
+triangularTests l p room = layoutTests false l ++ ((badTriangular l, 6) ∷ (shortPlane l (l .cw) (l .ch) p, 7) ∷ (ltb room (l .w * l .h), 10) ∷ [])
+
+-- the output afterwards: the first w·h values are the plane's, row by row, the rest is as it was; all of it is, where the call was refused
+unfoldable pub triangularPlane : Layout → Plane → List ℕ → List ℕ
+triangularPlane l p out = rows out (l .w) (l .h) (triangularSample l (sampleAt (l .«sample_bytes») p))
+
+-- what `triangular_plane` promises: of its answer, and of the output after it
+pub record TriangularGiven (l : Layout) (p : Plane) (before : List ℕ) (answer : Answer) (after : List ℕ) : Type 0 where
+  pub answers : answer ≡ first (triangularTests l p (length before))
+  pub leaves : after ≡ cond (accepted answer) (triangularPlane l p before) before

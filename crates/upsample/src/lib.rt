@@ -1,0 +1,66 @@
+// Triangular chroma upsampling of a whole plane: the original's src/jpeg/upsample.rs.
+mod across;
+mod answer;
+mod both;
+mod down;
+mod weights;
+
+ghost use mathlib.Core.Path.{_≡_};
+ghost use Prim.Native.Nat.{_*_, _<_};
+ghost use lib.ListN.{length};
+ghost use Rattle.laws.specs.declared.Answer.the-variants.{Accepted};
+ghost use Rattle.laws.specs.Lists.{put};
+ghost use Rattle.laws.specs.Refusals.{first};
+ghost use Rattle.image.specs.Samples.{Plane, sampleAt};
+ghost use Rattle.upsample.specs.Triangular.{TriangularGiven, triangularPlane, triangularSample};
+ghost use Rattle.upsample.specs.Rows.{numberTests};
+use image::Layout;
+use laws::Answer;
+
+// Row y of an accepted call.
+fn triangular_row(layout: Layout, plane: &[u8], stride: usize, y: usize, out: &mut [u16])
+    requires { ⌜ first (numberTests layout stride (length (now plane)) (length (now out))) ≡ Accepted ⌝ }
+    requires { ⌜ y < layout .h ⌝ }
+    ensures { λ _. ⌜ now (out .exit) ≡ put (now (out .entry)) (y * layout .w) (layout .w) (triangularSample layout (sampleAt (layout .«sample_bytes») (record { bytes = now (plane .entry); stride = stride })) y) ⌝ }
+{
+    let bytes = layout.sample_bytes;
+    let cw = layout.cw;
+    let w = layout.w;
+    let at = y * w;
+    if layout.rv == 1 {
+        across::across_row(plane, bytes, y * stride, cw, w, out, at);
+        return;
+    }
+    let near = y / 2 * stride;
+    let far = weights::far(y, layout.ch) * stride;
+    if layout.rh == 1 {
+        let bias = weights::one_axis_bias(y);
+        down::down_row(plane, bytes, near, far, bias, w, out, at);
+        return;
+    }
+    both::both_row(plane, bytes, near, far, cw, w, out, at);
+}
+
+// All rows of an accepted call.
+fn triangular(layout: Layout, plane: &[u8], stride: usize, out: &mut [u16])
+    requires { ⌜ first (numberTests layout stride (length (now plane)) (length (now out))) ≡ Accepted ⌝ }
+    ensures { λ _. ⌜ now (out .exit) ≡ triangularPlane layout (record { bytes = now (plane .entry); stride = stride }) (now (out .entry)) ⌝ }
+{
+    let mut y = 0;
+    while y < layout.h {
+        triangular_row(layout, plane, stride, y, out);
+        y += 1;
+    }
+}
+
+// One whole chroma plane, triangular: w by h values into out. Refusals 2, 3, 4, 5, 6, 7 and 10.
+pub fn triangular_plane(layout: Layout, plane: &[u8], stride: usize, out: &mut [u16]) -> Answer
+    ensures { λ r. ⌜ TriangularGiven layout (record { bytes = now (plane .entry); stride = stride }) (now (out .entry)) r (now (out .exit)) ⌝ }
+{
+    let answer = answer::triangular_answer(layout, stride, plane.len(), out.len());
+    if image::refused(answer) {
+        return answer;
+    }
+    triangular(layout, plane, stride, out);
+    answer
+}
