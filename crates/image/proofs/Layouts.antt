@@ -1,7 +1,8 @@
 -- What a layout is whose tests all failed.
 use mathlib.Core.Path.{_≡_, refl}
 use mathlib.Core.Bool.{Bool, true, false, _&&_, _||_, not, cond}
-use Prim.Native.Nat.{ℕ, _≤_}
+use Prim.Native.Nat.{ℕ, _*_, _≤_}
+use native.Mathlib.Nat.{mul-le-mul}
 use native.Mathlib.Omega.{arith}
 use lib.Dec.{ltb, eqb}
 use borrow.Author.Tests.{ltb-false, eqb-true, not-false}
@@ -85,3 +86,7 @@ sound fixed l f =
 -- the same of a layout whose answer is no refusal
 pub sound-answer : (fixed : Bool) (l : Layout) → accepted (first (layoutTests fixed l)) ≡ true → Sound l
 sound-answer fixed l e = sound fixed l (accepted-failed (layoutTests fixed l) (accepted-is (first (layoutTests fixed l)) e))
+
+-- the number of pixels is no product that wraps
+pub area : {l : Layout} → Sound l → l .w * l .h ≤ 67108864
+area s = mul-le-mul (s .w-most) (s .h-most)

@@ -13,9 +13,10 @@ use Rattle.laws.specs.Refusals.{first, accepted}
 use Rattle.laws.proofs.Refusals.{accepted-failed, failed-accepted, failed-both}
 use Rattle.laws.proofs.Rows.{row-fits}
 use Rattle.image.specs.declared.layout.Layout.{Layout}
-use Rattle.image.specs.Tests.{outsideOf, badSize, badSamples, badChroma, divCeil, layoutTests}
+use Rattle.image.specs.Tests.{divCeil, layoutTests, Sound}
 use Rattle.image.specs.Samples.{Plane}
 use Rattle.image.specs.Picture.{shortPlane}
+use Rattle.image.proofs.Layouts.{sound}
 use Rattle.image.proofs.Planes.{Holds, holds, row-inside}
 use Rattle.upsample.specs.Triangular.{badTriangular, triangularTests}
 use Rattle.upsample.specs.Rows.{numberTests, RowInside, Doubled}
@@ -25,52 +26,10 @@ pub by-numbers : (l : Layout) (p : Plane) (room : ℕ) → numberTests l (p .str
 unfolding numberTests triangularTests shortPlane
 by-numbers l p room = refl
 
-pub accepted-is : (a : Answer) → accepted a ≡ true → a ≡ Accepted
-accepted-is Accepted e = refl
-accepted-is (Refused n) e = let z : _≡_ {A = ℕ} 0 1 = cc in absurd (omega arith)
-
-neither : (a b : Bool) → (a || b) ≡ false → (a ≡ false) × (b ≡ false)
-neither true b e = let z : _≡_ {A = ℕ} 0 1 = cc in absurd (omega arith)
-neither false b e = (refl, e)
-
-within : (lo hi x : ℕ) → outsideOf lo hi x ≡ false → (lo ≤ x) × (x ≤ hi)
-within lo hi x e = let p = neither (ltb x lo) (ltb hi x) e in (ltb-false x lo (p .0), ltb-false hi x (p .1))
-
-same : (a b : ℕ) → not (eqb a b) ≡ false → a ≡ b
-same a b e = eqb-true a b (not-false (eqb a b) e)
-
--- ---- refusals 2 to 5 passed
-
-pub record Sized (l : Layout) : Type 0 where
-  pub w : (1 ≤ l .w) × (l .w ≤ 8192)
-  pub h : (1 ≤ l .h) × (l .h ≤ 8192)
-  pub bytes : (1 ≤ l .«sample_bytes») × (l .«sample_bytes» ≤ 2)
-  pub cw : l .cw ≡ divCeil (l .w) (l .rh)
-  pub ch : l .ch ≡ divCeil (l .h) (l .rv)
-
-pub sized : (l : Layout) → first (layoutTests false l) ≡ Accepted → Sized l
-unfolding layoutTests badSize badSamples badChroma
-sized l e =
-    let f = accepted-failed (layoutTests false l) e in
-    let s = neither (outsideOf 1 8192 (l .w)) (outsideOf 1 8192 (l .h)) (f .0) in
-    let m = neither _ _ (neither _ _ (f .1 .1 .0) .0) in
-    let c = neither _ _ (f .1 .1 .1 .0) in
-    record {
-      w = within 1 8192 (l .w) (s .0);
-      h = within 1 8192 (l .h) (s .1);
-      bytes = within 1 2 (l .«sample_bytes») (m .0);
-      cw = same _ _ (c .0);
-      ch = same _ _ (c .1);
-    }
-
--- so the number of pixels is no product that wraps
-pub area : {l : Layout} → Sized l → l .w * l .h ≤ 67108864
-area s = mul-le-mul (s .w .1) (s .h .1)
-
 -- ---- all refusals passed
 
 pub record Taken (l : Layout) (stride len room : ℕ) : Type 0 where
-  pub size : Sized l
+  pub size : Sound l
   pub kind : badTriangular l ≡ false
   pub plane : Holds (l .«sample_bytes») (l .cw) (l .ch) stride len
   pub output : l .w * l .h ≤ room
@@ -80,7 +39,7 @@ unfolding numberTests
 taken l stride len room e =
     let f = failed-both (layoutTests false l) _ (accepted-failed (numberTests l stride len room) e) in
     record {
-      size = sized l (failed-accepted (layoutTests false l) (f .0));
+      size = sound false l (f .0);
       kind = f .1 .0;
       plane = holds _ _ _ _ _ (f .1 .1 .0);
       output = ltb-false room (l .w * l .h) (f .1 .1 .1 .0);
@@ -123,10 +82,10 @@ both-kind l b f =
     go false b d e h = let z : _≡_ {A = ℕ} 0 1 = cc in absurd (omega arith)
 
 -- cells that are halves of the width, more than two
-pub doubled : (l : Layout) → Sized l → l .rh ≡ 2 → 2 < l .cw → Doubled (l .cw) (l .w)
+pub doubled : (l : Layout) → Sound l → l .rh ≡ 2 → 2 < l .cw → Doubled (l .cw) (l .w)
 unfolding divCeil
 doubled l s e h =
-    let d : l .cw ≡ (l .w + 1) / 2 = rw e at (s .cw) in
+    let d : l .cw ≡ (l .w + 1) / 2 = rw e at (s .cw-is) in
     record { wide = h; least = omega arith; most = omega arith }
 
 -- ---- rows
@@ -138,21 +97,21 @@ module _ {l : Layout} {stride len room : ℕ} (t : Taken l stride len room) wher
 
   -- row j of cells
   pub cell-row : (j : ℕ) → j < l .ch → RowInside (l .«sample_bytes») (l .cw) (j * stride) len
-  cell-row j h = record { one = t .size .bytes .0; two = t .size .bytes .1; ends = row-inside (t .plane) j h }
+  cell-row j h = record { one = t .size .bytes-some; two = t .size .bytes-most; ends = row-inside (t .plane) j h }
 
   -- the cell row of output row y, at either ratio down
   pub near-one : l .rv ≡ 1 → (y : ℕ) → y < l .h → y < l .ch
   unfolding divCeil
-  near-one e y h = let d : l .ch ≡ (l .h + 0) / 1 = rw e at (t .size .ch) in omega arith
+  near-one e y h = let d : l .ch ≡ (l .h + 0) / 1 = rw e at (t .size .ch-is) in omega arith
 
   pub near-two : l .rv ≡ 2 → (y : ℕ) → y < l .h → y / 2 < l .ch
   unfolding divCeil
-  near-two e y h = let d : l .ch ≡ (l .h + 1) / 2 = rw e at (t .size .ch) in omega arith
+  near-two e y h = let d : l .ch ≡ (l .h + 1) / 2 = rw e at (t .size .ch-is) in omega arith
 
   -- row j of cells where they are as many as the output's columns
   pub cell-row-all : l .rh ≡ 1 → (j : ℕ) → j < l .ch → RowInside (l .«sample_bytes») (l .w) (j * stride) len
   unfolding divCeil
   cell-row-all e j h =
-      let d : l .cw ≡ (l .w + 0) / 1 = rw e at (t .size .cw) in
+      let d : l .cw ≡ (l .w + 0) / 1 = rw e at (t .size .cw-is) in
       let q : l .cw ≡ l .w = omega arith in
       rw q at (cell-row j h)

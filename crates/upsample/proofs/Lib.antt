@@ -2,5 +2,4 @@
 pub mod Axis
 pub mod Ratios
 pub mod Inside
-pub mod Runs
 pub mod Accepted

@@ -3,7 +3,8 @@ use lib.ListN.{length}
 use borrow.Author.Needs.{needs}
 use borrow.Author.Tests.{not-true, not-false}
 use Rattle.laws.specs.Refusals.{first, accepted}
-use Rattle.upsample.proofs.Accepted.{by-numbers, accepted-is}
+use Rattle.upsample.proofs.Accepted.{by-numbers}
+use Rattle.laws.proofs.Refusals.{accepted-is}
 use Rattle.upsample.proofs.triangular_plane.Statement.{statement}
 use Rattle.upsample.proofs.triangular_plane.Tie as tie
 

@@ -3,14 +3,13 @@ use Prim.Native.Nat.{_*_, _≤_}
 use mathlib.Core.Bool.{true, false}
 use mathlib.Core.List.{List, [], _∷_}
 use lib.Dec.{ltb}
-use native.Mathlib.Nat.{mul-le-mul}
 use borrow.Author.Tests.{not-true, not-false}
 use Rattle.laws.specs.declared.Answer.{Answer}
 use Rattle.laws.specs.Refusals.{Test, first, accepted}
 use Rattle.laws.proofs.Refusals.{refused-early, passed-early}
 use Rattle.image.specs.Tests.{layoutTests, Sound}
 use Rattle.image.specs.Picture.{shortPlane}
-use Rattle.image.proofs.Layouts.{sound-answer}
+use Rattle.image.proofs.Layouts.{sound-answer, area}
 use Rattle.resample.specs.Linear.{scratchNeed, linearTests}
 use borrow.Author.Tests.{lt-ltb, le-ltb}
 use native.Mathlib.Omega.{arith}
@@ -73,7 +72,7 @@ returns-3 c =
     (rw (plane-passed (c .before .before), lt-ltb (c .before .before .before .before .before .before .before .before .args .space) (scratchNeed (c .before .before .before .before .before .before .before .before .args .layout)) (rw (sym (c .before .scratch-need .ensures)) (c .if3 .taken))) refl)
 
 mul-if4 : tie.Need-mul-if4
-mul-if4 c = let o = sound (c .before .before .before .before .before) in let k : c .before .before .before .before .before .before .before .before .before .args .layout .w * c .before .before .before .before .before .before .before .before .before .args .layout .h ≤ 8192 * 8192 = mul-le-mul (o .w-most) (o .h-most) in omega arith
+mul-if4 c = let o = sound (c .before .before .before .before .before) in omega (arith, area o)
 
 returns-4 : tie.Need-returns-4
 unfolding first

@@ -4,7 +4,7 @@ use native.Mathlib.Omega.{arith}
 use borrow.Author.Needs.{needs}
 use Rattle.upsample.specs.Rows.{cells}
 use Rattle.upsample.specs.Triangular.{oneAxis}
-use Rattle.upsample.proofs.Runs.{run-of, run-run}
+use Rattle.laws.proofs.Lists.{run-of, run-run}
 use Rattle.upsample.proofs.across.across_row.Statement.{statement}
 use Rattle.upsample.proofs.across.across_row.Tie as tie
 

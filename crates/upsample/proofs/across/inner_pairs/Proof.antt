@@ -7,7 +7,7 @@ use Rattle.upsample.specs.Rows.{cells}
 use Rattle.upsample.specs.Triangular.{oneAxis}
 use Rattle.upsample.proofs.Axis.{one-even, one-odd}
 use Rattle.upsample.proofs.Inside.{cells-to}
-use Rattle.upsample.proofs.Runs.{run-two}
+use Rattle.laws.proofs.Lists.{run-two}
 use Rattle.upsample.proofs.across.inner_pairs.Statement.{statement}
 use Rattle.upsample.proofs.across.inner_pairs.Tie as tie
 

@@ -8,7 +8,7 @@ use Rattle.upsample.specs.Rows.{cells}
 use Rattle.upsample.specs.Triangular.{oneAxis}
 use Rattle.upsample.proofs.Axis.{one-even, one-odd}
 use Rattle.upsample.proofs.Inside.{cells-to}
-use Rattle.upsample.proofs.Runs.{run-one, run-two}
+use Rattle.laws.proofs.Lists.{run-one, run-two}
 use Rattle.upsample.proofs.across.last_cell.Statement.{statement}
 use Rattle.upsample.proofs.across.last_cell.Tie as tie
 

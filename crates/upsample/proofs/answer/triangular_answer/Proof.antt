@@ -9,7 +9,7 @@ use Rattle.laws.specs.Refusals.{first, accepted}
 use Rattle.laws.proofs.Refusals.{refused-early, passed-early, refused-here, passed-over, failed-accepted}
 use Rattle.image.specs.Tests.{layoutTests}
 use Rattle.upsample.specs.Rows.{numberTests}
-use Rattle.upsample.proofs.Accepted.{accepted-is, sized, area}
+use Rattle.image.proofs.Layouts.{sound-answer, area}
 use Rattle.upsample.proofs.answer.triangular_answer.Statement.{statement}
 use Rattle.upsample.proofs.answer.triangular_answer.Tie as tie
 
@@ -54,7 +54,7 @@ returns-3 c =
 mul-if4 : tie.Need-mul-if4
 mul-if4 c =
     let a = c .before .before .before .before .before .before .before .before .args in
-    omega (arith, area (sized (a .layout) (accepted-is _ (layout-passed (c .before .before .before .before .before)))))
+    omega (arith, area (sound-answer false (a .layout) (layout-passed (c .before .before .before .before .before))))
 
 returns-4 : tie.Need-returns-4
 unfolding numberTests

@@ -6,7 +6,7 @@ use Rattle.laws.proofs.Lists.{Run, run-none, run-end}
 use Rattle.upsample.specs.Rows.{sums, bothRow}
 use Rattle.upsample.proofs.Axis.{both-even, both-odd}
 use Rattle.upsample.proofs.Inside.{cells-to}
-use Rattle.upsample.proofs.Runs.{run-two}
+use Rattle.laws.proofs.Lists.{run-two}
 use Rattle.upsample.proofs.both.inner_pairs.Statement.{statement}
 use Rattle.upsample.proofs.both.inner_pairs.Tie as tie
 

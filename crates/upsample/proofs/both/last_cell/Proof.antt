@@ -7,7 +7,7 @@ use Rattle.laws.proofs.Lists.{run-none}
 use Rattle.upsample.specs.Rows.{sums, bothRow}
 use Rattle.upsample.proofs.Axis.{both-even, both-odd}
 use Rattle.upsample.proofs.Inside.{cells-to}
-use Rattle.upsample.proofs.Runs.{run-one, run-two}
+use Rattle.laws.proofs.Lists.{run-one, run-two}
 use Rattle.upsample.proofs.both.last_cell.Statement.{statement}
 use Rattle.upsample.proofs.both.last_cell.Tie as tie
 
