@@ -3,5 +3,15 @@ mod geometry;
 mod state;
 
 pub use geometry::Geometry;
+pub use geometry::geometry_of;
+pub use state::Counters;
 pub use state::Reader;
 pub use state::Reply;
+pub use state::bad_state;
+pub use state::done_counters;
+pub use state::fresh_counters;
+pub use state::last_of;
+pub use state::layout_of;
+pub use state::seek;
+pub use state::sought_state;
+pub use state::top_of;
