@@ -3,7 +3,7 @@ use lib.Dec.{leb}
 use Rattle.laws.specs.Refusals.{first}
 use Rattle.laws.proofs.Refusals.{refused-here, passed-over}
 use Rattle.guided.specs.Calls.{badState, seekTests}
-use Rattle.guided.proofs.Sounds.{state-sound}
+use Rattle.guided.proofs.Acceptance.{fine}
 use mathlib.Core.Path.{_≡_, refl, sym, _∙_}
 use borrow.Author.Tests.{le-leb, lt-leb}
 use native.Mathlib.Omega.{arith}
@@ -28,7 +28,7 @@ returns-2 c =
     record { answers = sym (passed-over (badState (a .reader)) 1 _ (passed (c .before .before .before)) ∙ refused-here (leb (a .reader .geometry .h) (a .y)) 11 _ (le-leb (a .reader .geometry .h) (a .y) (c .if2 .taken))); leaves = refl }
 
 sought-state-requires : tie.Need-sought-state-requires
-sought-state-requires c κs = (state-sound (c .before .before .before .before .before .args .reader) (passed (c .before .before .before)), omega arith)
+sought-state-requires c κs = (fine (c .before .before .before .before .before .args .reader) (passed (c .before .before .before)) .sound, omega arith)
 
 returns-3 : tie.Need-returns-3
 unfolding seekTests first
