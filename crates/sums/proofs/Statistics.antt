@@ -1,0 +1,135 @@
+-- Slopes over scratch: what is written leaves the sums that they are made of, and a row in parts.
+use mathlib.Core.Path.{_≡_, refl, sym, ap, _∙_}
+use mathlib.Core.Logic.{inl, inr}
+use mathlib.Core.List.{List}
+use Prim.Native.Nat.{ℕ, _+_, _-_, _≤_, _<_}
+use native.Mathlib.Omega.{arith}
+use lib.ListN.{getD}
+use lib.Ieee.{Float, nan}
+use Rattle.laws.specs.Lists.{put}
+use Rattle.laws.proofs.Lists.{Run, run-before, run-after, length-put, put-same, put-chain}
+use Rattle.resample.specs.Rows.{cellAt}
+use Rattle.sums.specs.declared.places.Window.{Window}
+use Rattle.sums.specs.declared.slopes.Stats.{Stats}
+use Rattle.sums.specs.Slopes.{slopeBy, meanAt, slopeAt, slopeRun, Inside, AllInside, Apart, ClearOf, Clear, statsOf, slopeRow}
+use lib.Dec.{lit≤, lit<}
+use Rattle.image.specs.declared.layout.Layout.{Layout}
+use Rattle.image.specs.Picture.{Chroma, Cb, Cr}
+use Rattle.resample.specs.Linear.{scratchNeed}
+use Rattle.guided.specs.Guided.{three, mean, slopeOf, epsilon}
+use Rattle.guided.specs.Scratch.{slotAt, firstOf, numSlope, readAcross}
+use Rattle.sums.specs.Buffers.{windowOf}
+use Rattle.sums.proofs.Blocks.{run-block}
+use Rattle.sums.proofs.Buffers.{slot-fits, window-inside, window-clear}
+
+pub by-same : {y y' yy yy' c c' yc yc' : Float} (eps : Float) → y ≡ y' → yy ≡ yy' → c ≡ c' → yc ≡ yc' → slopeBy y yy c yc eps ≡ slopeBy y' yy' c' yc' eps
+by-same eps p q r s = rw (p, q, r, s) refl
+
+plus-none : (n : ℕ) → n + 0 ≡ n
+plus-none n = omega arith
+
+none-plus : (n : ℕ) → 0 + n ≡ n
+none-plus n = omega arith
+
+-- fewer cells, of a list as long or longer
+inside-less : {t : Window} {n len : ℕ} → Inside t n len → (k l : ℕ) → k ≤ n → len ≤ l → Inside t k l
+inside-less o k l p q = record { up = omega arith; at = omega arith; down = omega arith }
+
+pub all-less : {t : Stats} {n len : ℕ} → AllInside t n len → (k l : ℕ) → k ≤ n → len ≤ l → AllInside t k l
+all-less o k l p q = record { y = inside-less (o .y) k l p q; yy = inside-less (o .yy) k l p q; c = inside-less (o .c) k l p q; yc = inside-less (o .yc) k l p q }
+
+-- a run inside the row at dst leaves every row apart from it
+module _ (dst from n : ℕ) {xs ys : List Float} {m : ℕ} {f : ℕ → Float} (w : Run xs ys (dst + from) m f) (h : from + m ≤ n) where
+  cell-same : (src : ℕ) → Apart src dst n → (i : ℕ) → i < n → cellAt ys src i ≡ cellAt xs src i
+  cell-same src (inl a) i k = run-before w (src + i) nan (omega arith)
+  cell-same src (inr a) i k = run-after w (src + i) nan (omega arith)
+
+  mean-same : (t : Window) → ClearOf t dst n → (i : ℕ) → i < n → meanAt ys t i ≡ meanAt xs t i
+  unfolding meanAt
+  mean-same t o i k = rw (cell-same (t .up) (o .up) i k, cell-same (t .at) (o .at) i k, cell-same (t .down) (o .down) i k) refl
+
+  pub slope-same : (t : Stats) (eps : Float) → Clear t dst n → (i : ℕ) → i < n → slopeAt ys t eps i ≡ slopeAt xs t eps i
+  unfolding slopeAt
+  slope-same t eps o i k = by-same eps (mean-same (t .y) (o .y) i k) (mean-same (t .yy) (o .yy) i k) (mean-same (t .c) (o .c) i k) (mean-same (t .yc) (o .yc) i k)
+
+-- a block's values, read from scratch while the row is written, are those of its beginning
+module _ (t : Stats) (eps : Float) (dst n : ℕ) (o : Clear t dst n) where
+  pub block-more : {xs ys : List Float} {i : ℕ} → Run xs ys (dst + 0) i (λ k. slopeAt xs t eps (0 + k)) → i + 8 ≤ n → (zs v : List Float) → ((k : ℕ) → k < 8 → getD v k nan ≡ slopeAt ys t eps (i + k))
+      → zs ≡ put ys (dst + i) 8 (λ k. getD v k nan) → Run xs zs (dst + 0) (i + 8) (λ k. slopeAt xs t eps (0 + k))
+  block-more {xs} {ys} {i} w h zs v e q =
+      run-block w zs v (λ k l. e k l ∙ slope-same dst 0 n w (omega arith) t eps o (i + k) (omega arith) ∙ ap (slopeAt xs t eps) (sym (none-plus (i + k))))
+      (q ∙ ap (λ (a : ℕ). put ys a 8 (λ k. getD v k nan)) (ap (λ (a : ℕ). a + i) (sym (plus-none dst))))
+
+  -- the first m of n, and then the rest
+  pub slope-parts : (m : ℕ) (s : List Float) → m ≤ n → slopeRun t eps dst m (n - m) (slopeRun t eps dst 0 m s) ≡ slopeRun t eps dst 0 n s
+  unfolding slopeRun
+  slope-parts m s h =
+      let f : ℕ → Float = λ i. slopeAt s t eps (0 + i) in
+      let xs = put s (dst + 0) m f in
+      let w : Run s xs (dst + 0) m f = record { len = length-put s (dst + 0) m f; eq = refl } in
+      ap (λ (a : ℕ). put xs a (n - m) (λ i. slopeAt xs t eps (m + i))) (ap (λ (a : ℕ). a + m) (sym (plus-none dst)))
+      ∙ put-same xs (dst + 0 + m) (n - m) _ (λ i. f (m + i)) (λ i l. slope-same dst 0 n w (omega arith) t eps o (m + i) (omega arith) ∙ ap (slopeAt s t eps) (sym (none-plus (m + i))))
+      ∙ put-chain s (dst + 0) m (n - m) f ∙ ap (λ (k : ℕ). put s (dst + 0) k f) (whole m n h)
+    where
+      whole : (a n : ℕ) → a ≤ n → a + (n - a) ≡ n
+      whole a n h = omega arith
+
+-- ---- a component's row
+
+few : (k : Chroma) → firstOf k ≤ 7
+few Cb = lit≤ tt
+few Cr = lit≤ tt
+
+pub some : (k : Chroma) → 3 ≤ firstOf k
+some Cb = lit≤ tt
+some Cr = lit≤ tt
+
+-- its sums end within scratch, and its slopes' buffer meets none of them
+pub stats-inside : (l : Layout) (k : Chroma) (j : ℕ) → AllInside (statsOf l k j) (l .cw) (scratchNeed l)
+unfolding statsOf
+stats-inside l k j =
+    let h = few k in
+    record { y = window-inside l 1 j (lit< tt); yy = window-inside l 2 j (lit< tt); c = window-inside l (firstOf k + 1) j (omega arith); yc = window-inside l (firstOf k + 2) j (omega arith) }
+
+pub stats-clear : (l : Layout) (k : Chroma) (j : ℕ) → Clear (statsOf l k j) (slotAt l (numSlope k) j) (l .cw)
+unfolding statsOf
+stats-clear l k j =
+    let h = few k in
+    let o = some k in
+    record {
+      y = window-clear l 1 (firstOf k + 3) j (omega arith) (omega arith);
+      yy = window-clear l 2 (firstOf k + 3) j (omega arith) (omega arith);
+      c = window-clear l (firstOf k + 1) (firstOf k + 3) j (omega arith) (omega arith);
+      yc = window-clear l (firstOf k + 2) (firstOf k + 3) j (omega arith) (omega arith);
+    }
+
+-- the slope by its windows is the definition's
+pub slope-is : (l : Layout) (k : Chroma) (j : ℕ) (s : List Float) (i : ℕ) → slopeAt s (statsOf l k j) (epsilon l) i ≡ slopeOf l (readAcross l s) k j i
+unfolding slopeAt slopeBy meanAt statsOf windowOf slopeOf mean three readAcross
+slope-is l k j s i = refl
+
+pub row-is : (l : Layout) (k : Chroma) (j : ℕ) (s : List Float) → slopeRun (statsOf l k j) (epsilon l) (slotAt l (numSlope k) j) 0 (l .cw) s ≡ slopeRow l k j s
+unfolding slopeRun slopeRow
+row-is l k j s =
+    ap (λ (a : ℕ). put s a (l .cw) (λ i. slopeAt s (statsOf l k j) (epsilon l) (0 + i))) (plus-none (slotAt l (numSlope k) j))
+    ∙ put-same s (slotAt l (numSlope k) j) (l .cw) _ _ (λ i h. ap (slopeAt s (statsOf l k j) (epsilon l)) (none-plus i) ∙ slope-is l k j s i)
+
+-- a component's sums, by its first buffer's number
+pub stats-are : (l : Layout) (k : Chroma) (j f : ℕ) (y yy c yc : Window) → f ≡ firstOf k → y ≡ windowOf l 1 j → yy ≡ windowOf l 2 j → c ≡ windowOf l (f + 1) j → yc ≡ windowOf l (f + 2) j
+    → record { y = y; yy = yy; c = c; yc = yc } ≡ statsOf l k j
+unfolding statsOf
+stats-are l k j f y yy c yc e p q r s = rw (sym e, sym p, sym q, sym r, sym s) refl
+
+-- what a row of slopes asks, and gives, by the numbers that it was handed
+module _ (l : Layout) (k : Chroma) (j f dst : ℕ) (t : Stats) (e : f ≡ firstOf k) (p : t ≡ statsOf l k j) (q : dst ≡ slotAt l (f + 3) j) where
+  at : dst ≡ slotAt l (numSlope k) j
+  at = q ∙ ap (λ (n : ℕ). slotAt l (n + 3) j) e
+
+  pub row-ready : (len : ℕ) → scratchNeed l ≤ len → AllInside t (l .cw) len × Clear t dst (l .cw) × (dst + l .cw ≤ len)
+  row-ready len h =
+      let x : slotAt l (numSlope k) j + l .cw ≤ scratchNeed l = (let a = few k in slot-fits l (firstOf k + 3) j (omega arith)) in
+      let b : dst ≡ slotAt l (numSlope k) j = at in
+      (rw p (all-less (stats-inside l k j) (l .cw) len (omega arith) h), rw (p, at) (stats-clear l k j), omega arith)
+
+  pub row-slopes : (eps : Float) (s : List Float) → eps ≡ epsilon l → slopeRun t eps dst 0 (l .cw) s ≡ slopeRow l k j s
+  row-slopes eps s g = rw (p, g, at) (row-is l k j s)

@@ -1,0 +1,55 @@
+-- The steps of a chroma row over lent scratch, as the inner functions' contracts say them. Definitions only.
+use mathlib.Core.Path.{_≡_}
+use mathlib.Core.Bool.{Bool, true, false}
+use mathlib.Core.List.{List, [], _∷_}
+use Prim.Native.Nat.{ℕ, _+_, _≤_}
+use lib.Ieee.{Float}
+use Rattle.laws.specs.Floats.{f32, _⊕_, _⊗_}
+use Rattle.laws.specs.Lists.{put}
+use Rattle.image.specs.declared.layout.Layout.{Layout}
+use Rattle.image.specs.Tests.{Sound}
+use Rattle.image.specs.Samples.{Plane}
+use Rattle.image.specs.Picture.{Chroma, Cb, Cr, Planes, shortPlane}
+use Rattle.resample.specs.Linear.{scratchNeed}
+use Rattle.resample.specs.Rows.{cellAt}
+use Rattle.guided.specs.Guided.{three, lumaOf}
+use Rattle.guided.specs.Scratch.{slotAt, firstOf}
+use Rattle.sums.specs.declared.across.Slots.{Slots}
+
+-- what `slots_at` promises: the buffers n, n + 1 and n + 2 of chroma row j, apart and within scratch
+pub record SlotsGiven (l : Layout) (n j : ℕ) (t : Slots) : Type 0 where
+  pub at : t .at ≡ slotAt l n j
+  pub sums : t .sums ≡ slotAt l (n + 1) j
+  pub products : t .products ≡ slotAt l (n + 2) j
+  pub sums-behind : t .at + l .cw ≤ t .sums
+  pub products-behind : t .sums + l .cw ≤ t .products
+  pub fits : t .products + l .cw ≤ scratchNeed l
+
+-- what is known of a layout and a chroma plane
+pub record ChromaCells (l : Layout) (p : Plane) : Type 0 where
+  pub sound : Sound l
+  pub plane : shortPlane l (l .cw) (l .ch) p ≡ false
+
+-- and of a layout and its planes, of which Cr is looked at only where `both` holds
+pub record Lent (l : Layout) (ps : Planes) (both : Bool) : Type 0 where
+  pub sound : Sound l
+  pub luma : shortPlane l (l .w) (l .h) (ps .y) ≡ false
+  pub cb : shortPlane l (l .cw) (l .ch) (ps .cb) ≡ false
+  pub cr : both ≡ true → shortPlane l (l .cw) (l .ch) (ps .cr) ≡ false
+
+-- the components: Cb alone, or both
+abbrev pub components : Bool → List Chroma
+components true = Cb ∷ Cr ∷ []
+components false = Cb ∷ []
+
+-- cells f of chroma row j, their sums, and the sums of products h, put into the buffers n, n + 1 and n + 2
+unfoldable pub statRows : Layout → ℕ → (ℕ → Float) → (ℕ → Float) → ℕ → List Float → List Float
+statRows l n f h j s = put (put (put s (slotAt l n j) (l .cw) f) (slotAt l (n + 1) j) (l .cw) (three _⊕_ (l .cw) f)) (slotAt l (n + 2) j) (l .cw) (three _⊕_ (l .cw) h)
+
+-- luma's rows, `luma x y` being the samples
+unfoldable pub lumaPart : Layout → (ℕ → ℕ → ℕ) → ℕ → List Float → List Float
+lumaPart l luma j = statRows l 0 (lumaOf l luma j) (λ i. lumaOf l luma j i ⊗ lumaOf l luma j i) j
+
+-- a component's rows, `c i j` being the samples, from the cell luma that scratch holds
+unfoldable pub chromaPart : Layout → (ℕ → ℕ → ℕ) → Chroma → ℕ → List Float → List Float
+chromaPart l c k j s = statRows l (firstOf k) (λ i. f32 (c i j)) (λ i. cellAt s (slotAt l 0 j) i ⊗ f32 (c i j)) j s
