@@ -1,5 +1,8 @@
 // The reader of guided rows: the original's GuidedRows as calls over lent planes and scratch.
 mod opening;
+mod rows;
+mod steps;
 
 pub use opening::bad_planes;
 pub use opening::open;
+pub use steps::catch_up;

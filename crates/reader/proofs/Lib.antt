@@ -1,0 +1,2 @@
+-- Laws of the reader's loops.
+pub mod Catching

@@ -1,0 +1,80 @@
+// The row call: its checks, its steps over scratch, and the finished rows given out.
+ghost use mathlib.Core.Path.{_≡_};
+ghost use Prim.Native.Nat.{_+_, _≤_, _<_};
+ghost use lib.ListN.{length};
+ghost use Rattle.laws.specs.Lists.{put};
+ghost use Rattle.laws.specs.Refusals.{first};
+ghost use Rattle.image.specs.Tests.{Sound};
+ghost use Rattle.resample.specs.Rows.{cellAt};
+ghost use Rattle.guided.specs.Calls.{layoutOf, rowed, rowTests};
+use super::opening::bad_planes;
+use guided::Reader;
+use laws::Answer;
+
+// The lowest refusal of `row` that applies. It writes nothing.
+fn row_answer(
+    reader: Reader,
+    y: &[u8],
+    y_stride: usize,
+    cb: &[u8],
+    cb_stride: usize,
+    cr: &[u8],
+    cr_stride: usize,
+    row: usize,
+    s: &[f32],
+    out_cb: &[f32],
+    out_cr: &[f32],
+) -> Answer
+    ensures { λ r. ⌜ r ≡ first (rowTests (record { y = row; planes = record { y = record { bytes = now (y .entry); stride = «y_stride» }; cb = record { bytes = now (cb .entry); stride = «cb_stride» }; cr = record { bytes = now (cr .entry); stride = «cr_stride» } }; reader = reader; scratch = now (s .entry); outCb = now («out_cb» .entry); outCr = now («out_cr» .entry) })) ⌝ }
+{
+    if guided::bad_state(reader) {
+        return Answer::Refused(1);
+    }
+    let layout = guided::layout_of(reader);
+    if bad_planes(layout, y, y_stride, cb, cb_stride, cr, cr_stride) {
+        return Answer::Refused(7);
+    }
+    if s.len() < resample::scratch_need(layout) {
+        return Answer::Refused(9);
+    }
+    if image::either(out_cb.len() < layout.w, out_cr.len() < layout.w) {
+        return Answer::Refused(10);
+    }
+    if layout.h <= row {
+        return Answer::Refused(11);
+    }
+    if row < reader.place {
+        return Answer::Refused(12);
+    }
+    Answer::Accepted
+}
+
+// The state that row leaves.
+fn rowed_state(reader: Reader, y: usize) -> Reader
+    requires { ⌜ Sound (layoutOf reader) ⌝ }
+    requires { ⌜ y < reader .geometry .h ⌝ }
+    ensures { λ r. ⌜ r ≡ rowed reader y ⌝ }
+{
+    let c = guided::done_counters(guided::layout_of(reader), y);
+    let geometry = reader.geometry;
+    Reader {
+        geometry,
+        sample_bytes: reader.sample_bytes,
+        maxval: reader.maxval,
+        place: y,
+        h_next: c.h_next,
+        f_next: c.f_next,
+    }
+}
+
+// The n values of s from src on, to out from at on.
+fn copy_row(s: &[f32], src: usize, n: usize, out: &mut [f32], at: usize)
+    requires { ⌜ (src + n ≤ length (now s)) × (at + n ≤ length (now out)) ⌝ }
+    ensures { λ _. ⌜ now (out .exit) ≡ put (now (out .entry)) at n (cellAt (now (s .entry)) src) ⌝ }
+{
+    let mut i = 0;
+    while i < n {
+        out[at + i] = s[src + i];
+        i += 1;
+    }
+}
