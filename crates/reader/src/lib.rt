@@ -5,4 +5,6 @@ mod steps;
 
 pub use opening::bad_planes;
 pub use opening::open;
+pub use rows::row;
 pub use steps::catch_up;
+pub use steps::row_steps;

@@ -6,9 +6,11 @@ ghost use Rattle.laws.specs.Lists.{put};
 ghost use Rattle.laws.specs.Refusals.{first};
 ghost use Rattle.image.specs.Tests.{Sound};
 ghost use Rattle.resample.specs.Rows.{cellAt};
-ghost use Rattle.guided.specs.Calls.{layoutOf, rowed, rowTests};
+ghost use Rattle.guided.specs.Calls.{layoutOf, rowed, rowTests, RowGiven};
 use super::opening::bad_planes;
+use super::steps::row_steps;
 use guided::Reader;
+use guided::Reply;
 use laws::Answer;
 
 // The lowest refusal of `row` that applies. It writes nothing.
@@ -76,5 +78,62 @@ fn copy_row(s: &[f32], src: usize, n: usize, out: &mut [f32], at: usize)
     while i < n {
         out[at + i] = s[src + i];
         i += 1;
+    }
+}
+
+// Row `row` of Cb and of Cr to the front of the outputs: the guided rows of the picture that was opened, whatever was read before.
+// Refusals 1, 7, 9, 10, 11 and 12. Scratch afterwards is `rowScratch` of guided's specs/Calls.
+pub fn row(
+    reader: Reader,
+    y: &[u8],
+    y_stride: usize,
+    cb: &[u8],
+    cb_stride: usize,
+    cr: &[u8],
+    cr_stride: usize,
+    row: usize,
+    s: &mut [f32],
+    out_cb: &mut [f32],
+    out_cr: &mut [f32],
+) -> Reply
+    ensures { λ r. ⌜ RowGiven (record { y = row; planes = record { y = record { bytes = now (y .entry); stride = «y_stride» }; cb = record { bytes = now (cb .entry); stride = «cb_stride» }; cr = record { bytes = now (cr .entry); stride = «cr_stride» } }; reader = reader; scratch = now (s .entry); outCb = now («out_cb» .entry); outCr = now («out_cr» .entry) }) r (now (s .exit)) (now («out_cb» .exit)) (now («out_cr» .exit)) ⌝ }
+{
+    let answer = row_answer(
+        reader,
+        y,
+        y_stride,
+        cb,
+        cb_stride,
+        cr,
+        cr_stride,
+        row,
+        s,
+        out_cb,
+        out_cr,
+    );
+    if image::refused(answer) {
+        return Reply { answer, reader };
+    }
+    let layout = guided::layout_of(reader);
+    let w = layout.w;
+    row_steps(
+        layout,
+        y,
+        y_stride,
+        cb,
+        cb_stride,
+        cr,
+        cr_stride,
+        true,
+        reader.h_next,
+        reader.f_next,
+        row,
+        s,
+    );
+    copy_row(s, 0, w, out_cb, 0);
+    copy_row(s, w, w, out_cr, 0);
+    Reply {
+        answer,
+        reader: rowed_state(reader, row),
     }
 }

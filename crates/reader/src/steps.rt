@@ -1,10 +1,11 @@
 // Catching up: the chroma rows that a picture row needs, summed across and finished in turn.
 ghost use mathlib.Core.Path.{_≡_};
-ghost use Prim.Native.Nat.{_-_, _≤_, max};
+ghost use Prim.Native.Nat.{_-_, _≤_, _<_, max};
 ghost use lib.ListN.{length};
 ghost use Rattle.image.specs.Picture.{pictureOf};
 ghost use Rattle.resample.specs.Linear.{scratchNeed};
-ghost use Rattle.guided.specs.Scratch.{hsteps, fsteps};
+ghost use Rattle.guided.specs.Calls.{doneF};
+ghost use Rattle.guided.specs.Scratch.{hsteps, fsteps, rowSteps};
 ghost use Rattle.sums.specs.Parts.{Lent, components};
 use image::Layout;
 
@@ -91,4 +92,52 @@ pub fn catch_up(
         h_next = greatest(h_next, end);
         j += 1;
     }
+}
+
+// Inner: all the steps of a picture row over scratch, h and f being the next chroma rows to sum across and to finish. Cb's row alone, or both.
+pub fn row_steps(
+    layout: Layout,
+    y: &[u8],
+    y_stride: usize,
+    cb: &[u8],
+    cb_stride: usize,
+    cr: &[u8],
+    cr_stride: usize,
+    both: bool,
+    h: usize,
+    f: usize,
+    row: usize,
+    s: &mut [f32],
+)
+    requires { ⌜ Lent layout (record { y = record { bytes = now y; stride = «y_stride» }; cb = record { bytes = now cb; stride = «cb_stride» }; cr = record { bytes = now cr; stride = «cr_stride» } }) both ⌝ }
+    requires { ⌜ (row < layout .h) × (scratchNeed layout ≤ length (now s)) ⌝ }
+    ensures { λ _. ⌜ now (s .exit) ≡ rowSteps (pictureOf layout (record { y = record { bytes = now (y .entry); stride = «y_stride» }; cb = record { bytes = now (cb .entry); stride = «cb_stride» }; cr = record { bytes = now (cr .entry); stride = «cr_stride» } })) (components both) h f (doneF layout row - f) row (now (s .entry)) ⌝ }
+{
+    let done = guided::done_counters(layout, row);
+    catch_up(
+        layout,
+        y,
+        y_stride,
+        cb,
+        cb_stride,
+        cr,
+        cr_stride,
+        both,
+        h,
+        f,
+        done.f_next,
+        s,
+    );
+    details::guided_row(
+        layout,
+        y,
+        y_stride,
+        cb,
+        cb_stride,
+        cr,
+        cr_stride,
+        both,
+        row,
+        s,
+    );
 }

@@ -1,5 +1,12 @@
 // The public crate: document 01's calls and their types, and nothing else.
+pub use guided::Geometry;
+pub use guided::Reader;
+pub use guided::Reply;
+pub use guided::seek;
 pub use image::Layout;
 pub use laws::Answer;
+pub use reader::open;
+pub use reader::row;
+pub use resample::Phase;
 pub use resample::linear_plane;
 pub use upsample::triangular_plane;

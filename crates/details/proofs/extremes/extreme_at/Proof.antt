@@ -1,0 +1,50 @@
+use Rattle.details.proofs.Nines.{three-of}
+use Rattle.details.specs.Extremes.{opOf}
+use Rattle.guided.specs.Guided.{three, extremeOf}
+use Rattle.image.specs.Samples.{Plane, sampleAt}
+use Rattle.laws.specs.Floats.{f32}
+use borrow.Author.Needs.{needs}
+use Rattle.details.proofs.extremes.extreme_at.Statement.{statement}
+use Rattle.details.proofs.extremes.extreme_at.Tie as tie
+
+before-requires : tie.Need-before-requires
+before-requires c κs = search needs
+
+across-requires : tie.Need-across-requires
+across-requires c κs = search needs
+
+across-requires-2 : tie.Need-across-requires-2
+across-requires-2 c κs = search needs
+
+after-requires : tie.Need-after-requires
+after-requires c κs = search needs
+
+across-requires-3 : tie.Need-across-requires-3
+across-requires-3 c κs = search needs
+
+pick-requires : tie.Need-pick-requires
+pick-requires c κs = search needs
+
+pick-requires-2 : tie.Need-pick-requires-2
+pick-requires-2 c κs = search needs
+
+returns : tie.Need-returns
+unfolding extremeOf
+returns c =
+    let a = c .before .before .before .before .before .before .before .before .args in
+    let p : Plane = record { bytes = a .plane .now; stride = a .stride } in
+    three-of (opOf (a .greatest)) (a .layout .ch) (λ r. three (opOf (a .greatest)) (a .layout .cw) (λ q. f32 (sampleAt (a .layout .«sample_bytes») p q r)) (a .i)) (a .j) _ _ _ _ _ _ _
+    (c .before .before .before .before .before .before .before2 .ensures) (c .before .before .before .after .ensures) (c .before .before .before .before .before .across .ensures) (c .before .before .before .before .across2 .ensures) (c .before .before .across3 .ensures) (c .before .pick .ensures) (c .pick2 .ensures)
+
+pub extreme-at-spec : {M : Type 1} → statement M
+extreme-at-spec =
+    tie.close
+    (tie.spec
+    before-requires
+    across-requires
+    across-requires-2
+    after-requires
+    across-requires-3
+    pick-requires
+    pick-requires-2
+    returns)

@@ -1,0 +1,63 @@
+use Rattle.image.specs.Samples.{sampleAt}
+use Rattle.guided.specs.Guided.{extremeOf}
+use Rattle.details.specs.Extremes.{opOf, extremeRow}
+use borrow.Author.Needs.{needs}
+use Prim.Native.Nat.{_-_, _≤_}
+use Rattle.laws.proofs.Lists.{Run, run-none, run-more, run-end}
+use native.Mathlib.Omega.{arith}
+use Rattle.details.proofs.extremes.extreme_row.Statement.{statement}
+use Rattle.details.proofs.extremes.extreme_row.Tie as tie
+
+abbrev Inv-loop : tie.InvT-loop
+Inv-loop layout plane stride greatest j s₀ dst n i₀ s i = (i ≤ n) × Run s₀ s dst i (extremeOf layout (opOf greatest) (sampleAt (layout .«sample_bytes») (record { bytes = plane; stride = stride })) j)
+
+abbrev μ-loop : tie.MeasureT-loop
+μ-loop layout plane stride greatest j s₀ dst n i₀ s i = n - i
+
+loop-holds : tie.Need-loop-holds Inv-loop μ-loop
+loop-holds c = (omega arith, run-none _ _ _)
+
+extreme-at-requires : tie.Need-extreme-at-requires Inv-loop μ-loop
+extreme-at-requires c κs = search needs
+
+add-s : tie.Need-add-s Inv-loop μ-loop
+add-s c = omega arith
+
+mul-s : tie.Need-mul-s Inv-loop μ-loop
+mul-s c = omega arith
+
+slice-write-s : tie.Need-slice-write-s Inv-loop μ-loop
+slice-write-s c = omega arith
+
+add-i : tie.Need-add-i Inv-loop μ-loop
+add-i c = omega arith
+
+loop-less : tie.Need-loop-less Inv-loop μ-loop
+loop-less c = omega arith
+
+loop-again : tie.Need-loop-again Inv-loop μ-loop
+loop-again c = (omega arith, run-more (c .before .before .loop .inv .1) _ (c .extreme-at .ensures))
+
+same-length : tie.Need-same-length Inv-loop μ-loop
+same-length c = c .before .loop .inv .1 .len
+
+returns : tie.Need-returns Inv-loop μ-loop
+unfolding extremeRow
+returns c = run-end (c .before .loop .inv .1) _ (omega arith) (omega arith)
+
+pub extreme-row-spec : {M : Type 1} → statement M
+extreme-row-spec =
+    tie.close
+    (tie.spec
+    Inv-loop
+    μ-loop
+    loop-holds
+    extreme-at-requires
+    add-s
+    mul-s
+    slice-write-s
+    add-i
+    loop-less
+    loop-again
+    same-length
+    returns)

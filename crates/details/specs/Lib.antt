@@ -1,0 +1,4 @@
+pub mod Columns
+pub mod Extremes
+pub mod Pixels
+pub mod Row

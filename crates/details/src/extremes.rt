@@ -1,0 +1,75 @@
+// The least and the greatest sample of the three by three cells round each cell.
+ghost use mathlib.Core.Path.{_≡_};
+ghost use Prim.Native.Nat.{_+_, _≤_, _<_};
+ghost use lib.ListN.{length};
+ghost use Rattle.laws.specs.Floats.{f32};
+ghost use Rattle.image.specs.Samples.{Plane, sampleAt};
+ghost use Rattle.guided.specs.Guided.{three, extremeOf};
+ghost use Rattle.sums.specs.Parts.{ChromaCells};
+ghost use Rattle.details.specs.Extremes.{opOf, extremeRow};
+use super::cells::after;
+use super::cells::before;
+use super::cells::sample_at;
+use image::Layout;
+
+// The greater or the smaller of two.
+fn pick(greatest: bool, a: f32, b: f32) -> f32
+    ensures { λ r. ⌜ r ≡ opOf greatest a b ⌝ }
+{
+    if greatest {
+        return fround::fmax(a, b);
+    }
+    fround::fmin(a, b)
+}
+
+// Of the three cells across round cell i of row r.
+fn across(layout: Layout, plane: &[u8], stride: usize, greatest: bool, r: usize, i: usize) -> f32
+    requires { ⌜ ChromaCells layout (record { bytes = now plane; stride = stride }) × (i < layout .cw) × (r < layout .ch) ⌝ }
+    ensures { λ v. ⌜ v ≡ three (opOf greatest) (layout .cw) (λ q. f32 (sampleAt (layout .«sample_bytes») (record { bytes = now (plane .entry); stride = stride }) q r)) i ⌝ }
+{
+    let w = layout.cw;
+    let h = layout.ch;
+    let a = sample_at(layout, plane, stride, w, h, before(i), r);
+    let b = sample_at(layout, plane, stride, w, h, i, r);
+    let c = sample_at(layout, plane, stride, w, h, after(i, w), r);
+    pick(greatest, pick(greatest, a, b), c)
+}
+
+// Of the nine round cell i of row j: the three rows' in turn.
+fn extreme_at(
+    layout: Layout,
+    plane: &[u8],
+    stride: usize,
+    greatest: bool,
+    j: usize,
+    i: usize,
+) -> f32
+    requires { ⌜ ChromaCells layout (record { bytes = now plane; stride = stride }) × (i < layout .cw) × (j < layout .ch) ⌝ }
+    ensures { λ v. ⌜ v ≡ extremeOf layout (opOf greatest) (sampleAt (layout .«sample_bytes») (record { bytes = now (plane .entry); stride = stride })) j i ⌝ }
+{
+    let a = across(layout, plane, stride, greatest, before(j), i);
+    let b = across(layout, plane, stride, greatest, j, i);
+    let c = across(layout, plane, stride, greatest, after(j, layout.ch), i);
+    pick(greatest, pick(greatest, a, b), c)
+}
+
+// Inner: the least, or the greatest, samples round the cells of chroma row j, to s from dst on.
+pub fn extreme_row(
+    layout: Layout,
+    plane: &[u8],
+    stride: usize,
+    greatest: bool,
+    j: usize,
+    s: &mut [f32],
+    dst: usize,
+)
+    requires { ⌜ ChromaCells layout (record { bytes = now plane; stride = stride }) × (j < layout .ch) × (dst + layout .cw ≤ length (now s)) ⌝ }
+    ensures { λ _. ⌜ now (s .exit) ≡ extremeRow layout (record { bytes = now (plane .entry); stride = stride }) greatest j dst (now (s .entry)) ⌝ }
+{
+    let n = layout.cw;
+    let mut i = 0;
+    while i < n {
+        s[dst + i] = extreme_at(layout, plane, stride, greatest, j, i);
+        i += 1;
+    }
+}
