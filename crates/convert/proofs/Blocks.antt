@@ -1,0 +1,35 @@
+-- A block's rows: filled from the front, and its pixels.
+use mathlib.Core.Path.{_≡_, refl}
+use mathlib.Core.List.{List}
+use Prim.Native.Nat.{ℕ, _+_, _<_, _≤_}
+use native.Mathlib.Nat.{zero-add}
+use lib.ListN.{length, getD, set}
+use Rattle.laws.proofs.Lists.{Run, run-more, run-inside}
+use Rattle.convert.specs.declared.bytes.Rgb.{Rgb}
+use Rattle.convert.specs.Kernels.{exact255}
+use Rattle.convert.specs.Pixels.{BlockOf}
+use Rattle.convert.specs.Forms.{colourOf}
+use Rattle.convert.specs.Stores.{pixels, blockPixel}
+use Rattle.convert.proofs.Puts.{pixels-same}
+
+module _ {xs ys : List ℕ} {n : ℕ} {f : ℕ → ℕ} (r : Run xs ys 0 n f) where
+  -- one store more
+  pub front-more : (v : ℕ) → v ≡ f n → Run xs (set ys n v) 0 (n + 1) f
+  front-more v e = rw (zero-add n) at (run-more r v e)
+
+  -- what was stored
+  pub front-at : (i : ℕ) → i < n → n ≤ length xs → getD ys i 0 ≡ f i
+  front-at i h b = rw (zero-add i) at (run-inside r i 0 h (rw (zero-add n) b))
+
+module _ {rows : List (List ℕ)} {y cb256 cr256 : List ℕ} (b : BlockOf rows y cb256 cr256) (k : ℕ) (h : k < 16) where
+  -- pixel k of a block is the exact kernel's
+  pub block-pixel : blockPixel rows k ≡ exact255 (getD y k 0) (getD cb256 k 0) (getD cr256 k 0)
+  block-pixel = rw (b .red k h, b .green k h, b .blue k h) refl
+
+  -- "Both give the same bytes": the block's pixel is what the plain form gives
+  pub block-plain : (p : Rgb) → colourOf p ≡ exact255 (getD y k 0) (getD cb256 k 0) (getD cr256 k 0) → blockPixel rows k ≡ colourOf p
+  block-plain p e = rw e block-pixel
+
+-- so a block stored is the exact kernel's pixels stored
+pub block-stored : {rows : List (List ℕ)} {y cb256 cr256 : List ℕ} → BlockOf rows y cb256 cr256 → (l : List ℕ) (at size : ℕ) → pixels l at size (blockPixel rows) 16 ≡ pixels l at size (λ k. exact255 (getD y k 0) (getD cb256 k 0) (getD cr256 k 0)) 16
+block-stored {rows = rows} b l at size = pixels-same l at size (blockPixel rows) _ 16 (λ k h. block-pixel b k h)

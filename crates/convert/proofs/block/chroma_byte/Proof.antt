@@ -1,0 +1,22 @@
+use mathlib.Core.Path.{sym, _∙_}
+use borrow.Author.Needs.{needs}
+use Rattle.convert.specs.Forms.{plusChroma}
+use Rattle.convert.proofs.Channels.{add-limited}
+use Rattle.convert.proofs.block.chroma_byte.Statement.{statement}
+use Rattle.convert.proofs.block.chroma_byte.Tie as tie
+
+chroma-offset-requires : tie.Need-chroma-offset-requires
+chroma-offset-requires c κs = search needs
+
+add-limit8 : tie.Need-add-limit8
+add-limit8 c = search needs
+
+limit8-requires : tie.Need-limit8-requires
+limit8-requires c κs = search needs
+
+returns : tie.Need-returns
+unfolding plusChroma
+returns c = c .limit8 .ensures ∙ sym (add-limited _ (c .before .chroma-offset .ensures))
+
+pub chroma-byte-spec : {M : Type 1} → statement M
+chroma-byte-spec = tie.close (tie.spec chroma-offset-requires add-limit8 limit8-requires returns)

@@ -1,0 +1,5 @@
+pub mod T871
+pub mod Kernels
+pub mod Pixels
+pub mod Forms
+pub mod Stores
