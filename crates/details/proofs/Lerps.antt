@@ -54,10 +54,11 @@ detail-ready l src len o h =
     let k : 3 * l .w ≤ columnAt l 0 = column-behind l 0 in
     (omega arith, omega (arith, o .fits))
 
-plus-none : (n : ℕ) → n + 0 ≡ n
+-- nothing added
+pub plus-none : (n : ℕ) → n + 0 ≡ n
 plus-none n = omega arith
 
-none-plus : (n : ℕ) → 0 + n ≡ n
+pub none-plus : (n : ℕ) → 0 + n ≡ n
 none-plus n = omega arith
 
 -- a whole row is the run from 0

@@ -3,3 +3,4 @@ pub mod Downs
 pub mod Lerps
 pub mod Nines
 pub mod Steps
+pub mod Twos

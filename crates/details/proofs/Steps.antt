@@ -3,7 +3,6 @@ use mathlib.Core.Path.{_≡_, refl, sym, ap, _∙_}
 use mathlib.Core.Bool.{true, false}
 use mathlib.Core.List.{List, [], _∷_}
 use Prim.Native.Nat.{ℕ, _+_, _/_, _<_}
-use native.Mathlib.Omega.{arith}
 use lib.Ieee.{Float}
 use Rattle.laws.specs.Floats.{f32}
 use Rattle.laws.specs.Lists.{put}
@@ -19,14 +18,12 @@ use Rattle.guided.specs.Guided.{extremeOf, extreme, detailOf}
 use Rattle.guided.specs.Scratch.{firstOf, columnAt, columnOf, detailAt, readAcross, readSlope, lumaColumn, detailRow, componentColumns, finishedRow, componentsOver}
 use Rattle.guided.proofs.Taken.{own-row}
 use Rattle.sums.proofs.Threes.{three-same}
+use Rattle.details.proofs.Lerps.{plus-none}
 use Rattle.details.specs.declared.pixels.Bands.{Bands}
 use Rattle.details.specs.Columns.{downColumn}
 use Rattle.details.specs.Extremes.{extremeRow}
 use Rattle.details.specs.Pixels.{detailLine, bandsOf, valueAt, valueRow}
 use Rattle.details.specs.Row.{downsOf, boundsOf, componentRow, guidedStep}
-
-plus-none : (n : ℕ) → n + 0 ≡ n
-plus-none n = omega arith
 
 -- a component's rows lerped down, by the numbers of its first rows
 pub downs-are : (l : Layout) (k : Chroma) (y n m : ℕ) (s : List Float) → n ≡ firstOf k → m ≡ columnOf k → downColumn l (n + 3) (m + 1) y (downColumn l n m y s) ≡ downsOf l k y s

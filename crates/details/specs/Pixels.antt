@@ -1,23 +1,28 @@
 -- The pixels of a picture row over lent scratch, as the inner functions' contracts say them. Definitions only.
 use mathlib.Core.Bool.{cond}
 use mathlib.Core.List.{List}
-use Prim.Native.Nat.{ℕ, _+_, _-_, _≤_, min}
+use Prim.Native.Nat.{ℕ, _+_, _-_, _*_, _≤_, min}
 use lib.Ieee.{Float}
 use Rattle.laws.specs.Floats.{f32}
 use Rattle.laws.specs.Lists.{put}
 use Rattle.image.specs.declared.layout.Layout.{Layout}
 use Rattle.image.specs.Samples.{Plane, sampleAt}
 use Rattle.resample.specs.declared.taps.Phase.{Phase}
-use Rattle.resample.specs.Taps.{lerpOf}
+use Rattle.resample.specs.Taps.{lerpOf, fractionOf}
 use Rattle.resample.specs.Rows.{cellAt}
 use Rattle.image.specs.Picture.{Chroma}
 use Rattle.guided.specs.Guided.{detailOf, valueOf}
 use Rattle.guided.specs.Scratch.{detailAt, finishedAt, columnAt, columnOf}
 use Rattle.details.specs.declared.pixels.Bands.{Bands}
+use Rattle.details.specs.declared.pixels.Pair.{Pair}
 
 -- cell i of the n cells g, lerped across by a phase
 unfoldable pub phased : (ℕ → Float) → ℕ → Phase → ℕ → Float
 phased g n p i = cond (p .left) (lerpOf (g (i - 1)) (g i) (p .f)) (lerpOf (g i) (g (min (i + 1) (n - 1))) (p .f))
+
+-- the two pixels of cell i + 1 at ratio 2, where no edge is met
+unfoldable pub pairOf : (ℕ → Float) → ℕ → Pair
+pairOf g i = record { left = lerpOf (g i) (g (i + 1)) (fractionOf 3 4); right = lerpOf (g (i + 1)) (g (i + 2)) (fractionOf 1 4) }
 
 -- the detail of columns from, .. from + n - 1 of row y by the cells at src, put at dst + from
 unfoldable pub detailRun : Layout → Plane → ℕ → ℕ → ℕ → ℕ → ℕ → List Float → List Float
@@ -45,6 +50,10 @@ pub record BandsInside (t : Bands) (low n len : ℕ) : Type 0 where
 -- a component's value in column x, from its rows of cells and the detail
 unfoldable pub valueAt : Layout → List Float → Bands → ℕ → Float
 valueAt l s t x = valueOf l (cellAt s (t .cells)) (cellAt s (t .slopes)) (cellAt s (t .least)) (cellAt s (t .greatest)) (cellAt s (detailAt l) x) x
+
+-- its values in the two pixels of cell i + 1 at ratio 2
+unfoldable pub valuePair : Layout → List Float → Bands → ℕ → Pair
+valuePair l s t i = record { left = valueAt l s t (2 + 2 * i); right = valueAt l s t (2 + (2 * i + 1)) }
 
 -- those of columns from, .. from + n - 1, put at dst + from, and of all columns, put where the finished row lies
 unfoldable pub valueRun : Layout → Bands → ℕ → ℕ → ℕ → List Float → List Float

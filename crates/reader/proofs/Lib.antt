@@ -1,2 +1,3 @@
 -- Laws of the reader's loops.
 pub mod Catching
+pub mod PlaneRows

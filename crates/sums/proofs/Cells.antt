@@ -17,7 +17,8 @@ use Rattle.image.specs.Picture.{inside}
 use Rattle.image.proofs.Planes.{short-holds, sample-inside}
 use Rattle.image.proofs.Pictures.{inside-is}
 use Rattle.guided.specs.Guided.{sumTo, lumaOf}
-use Rattle.sums.specs.Luma.{Cells, rowSum, cellSum, quadAt, quadRun, lumaRun, lumaRow}
+use Rattle.sums.specs.Luma.{Cells, rowSum, cellSum, quadAt, quadRun, pairAt, pairRun, lumaRun, lumaRow}
+use Rattle.sums.proofs.Counts.{plus-none, none-plus, part-rest}
 
 -- ---- a loop that sums: its invariant is `Summed`, and its steps are `sum-none`, `sum-more` and `sum-end`
 
@@ -41,12 +42,6 @@ pub sum-same : (n : ℕ) (f g : ℕ → ℕ) → ((i : ℕ) → i < n → f i �
 unfolding sumTo
 sum-same zero f g e = refl
 sum-same (suc n) f g e = rw (sum-same n f g (λ i l. e i (omega arith)), e n (omega arith)) refl
-
-plus-none : (n : ℕ) → n + 0 ≡ n
-plus-none n = omega arith
-
-none-plus : (n : ℕ) → 0 + n ≡ n
-none-plus n = omega arith
 
 -- ---- the pixels of a cell
 
@@ -86,7 +81,7 @@ luma-inside l f j i =
     ap (λ (s : ℕ). f32 s ⊘ f32 (nx * ny))
     (sum-same ny _ _ (λ dy q. sum-same nx _ _ (λ dx r. sym (inside-is (l .w) (l .h) f (i * l .rh + dx) (j * l .rv + dy) (omega arith) (omega arith)))))
 
--- ---- quads
+-- ---- quads and pairs
 
 -- a byte as a sample
 corner : (p : Plane) (x y at : ℕ) → at ≡ y * p .stride + x * 1 → getD (p .bytes) at 0 ≡ sampleAt 1 p x y
@@ -128,7 +123,34 @@ quads-are l p j dst s a b e h =
     put-same s dst (l .w / 2) _ _ (λ i k. quad-is l p j i a b e h k ∙ ap (lumaOf l (sampleAt (l .«sample_bytes») p) j) (sym (none-plus i)))
     ∙ ap (λ (a : ℕ). put s a (l .w / 2) (λ i. lumaOf l (sampleAt (l .«sample_bytes») p) j (0 + i))) (sym (plus-none dst))
 
--- no quads leave scratch as it was
+-- a cell of a pair of bytes in one row
+pair-is : (l : Layout) (p : Plane) (j i : ℕ) → l .rh ≡ 2 → l .«sample_bytes» ≡ 1 → min (l .rv) (l .h - j * l .rv) ≡ 1 → i < l .w / 2
+    → pairAt (p .bytes) (j * l .rv * p .stride) i ≡ lumaOf l (sampleAt (l .«sample_bytes») p) j i
+unfolding lumaOf sumTo
+pair-is l p j i a e n k =
+    let m : min 2 (l .w - i * 2) ≡ 2 = omega arith in
+    let S : ℕ → ℕ = λ dx. sampleAt 1 p (i * 2 + dx) (j * l .rv + 0) in
+    rw (n, a, e, m)
+    (ap (λ (s : ℕ). f32 s ⊘ f32 2)
+    (sums _ _ (S 0) (S 1) (corner p (i * 2 + 0) (j * l .rv + 0) _ (left (j * l .rv) (p .stride) i)) (corner p (i * 2 + 1) (j * l .rv + 0) _ (right (j * l .rv) (p .stride) i))))
+  where
+    left : (y t i : ℕ) → y * t + 2 * i ≡ (y + 0) * t + (i * 2 + 0) * 1
+    left y t i = omega arith
+
+    right : (y t i : ℕ) → y * t + (2 * i + 1) ≡ (y + 0) * t + (i * 2 + 1) * 1
+    right y t i = omega arith
+
+    sums : (a b a' b' : ℕ) → a ≡ a' → b ≡ b' → a + b ≡ 0 + (0 + a' + b')
+    sums a b a' b' p q = omega arith
+
+pub pairs-are : (l : Layout) (p : Plane) (j dst : ℕ) (s : List Float) → l .rh ≡ 2 → l .«sample_bytes» ≡ 1 → min (l .rv) (l .h - j * l .rv) ≡ 1
+    → pairRun (p .bytes) (j * l .rv * p .stride) (l .w / 2) dst s ≡ lumaRun l p j dst 0 (l .w / 2) s
+unfolding pairRun lumaRun
+pairs-are l p j dst s a e n =
+    put-same s dst (l .w / 2) _ _ (λ i k. pair-is l p j i a e n k ∙ ap (lumaOf l (sampleAt (l .«sample_bytes») p) j) (sym (none-plus i)))
+    ∙ ap (λ (a : ℕ). put s a (l .w / 2) (λ i. lumaOf l (sampleAt (l .«sample_bytes») p) j (0 + i))) (sym (plus-none dst))
+
+-- no cells leave scratch as it was
 pub luma-none : (l : Layout) (p : Plane) (j dst : ℕ) (s : List Float) → s ≡ lumaRun l p j dst 0 0 s
 unfolding lumaRun put
 luma-none l p j dst s = refl
@@ -141,7 +163,4 @@ luma-parts l p j dst n s h =
     let f = lumaOf l (sampleAt (l .«sample_bytes») p) j in
     ap (λ (xs : List Float). put xs (dst + n) (l .cw - n) (λ i. f (n + i)))
     (ap (λ (a : ℕ). put s a n (λ i. f (0 + i))) (plus-none dst) ∙ put-same s dst n _ _ (λ i k. ap f (none-plus i)))
-    ∙ put-chain s dst n (l .cw - n) f ∙ ap (λ (k : ℕ). put s dst k f) (whole n (l .cw) h)
-  where
-    whole : (a n : ℕ) → a ≤ n → a + (n - a) ≡ n
-    whole a n h = omega arith
+    ∙ put-chain s dst n (l .cw - n) f ∙ ap (λ (k : ℕ). put s dst k f) (part-rest n (l .cw) h)

@@ -1,4 +1,5 @@
 -- Laws that the proofs and callers cite.
+pub mod Counts
 pub mod Threes
 pub mod Cells
 pub mod Buffers

@@ -21,15 +21,10 @@ use Rattle.guided.specs.Scratch.{slotAt, firstOf, numSlope, readAcross}
 use Rattle.sums.specs.Buffers.{windowOf}
 use Rattle.sums.proofs.Blocks.{run-block}
 use Rattle.sums.proofs.Buffers.{slot-fits, window-inside, window-clear}
+use Rattle.sums.proofs.Counts.{plus-none, none-plus, part-rest}
 
 pub by-same : {y y' yy yy' c c' yc yc' : Float} (eps : Float) → y ≡ y' → yy ≡ yy' → c ≡ c' → yc ≡ yc' → slopeBy y yy c yc eps ≡ slopeBy y' yy' c' yc' eps
 by-same eps p q r s = rw (p, q, r, s) refl
-
-plus-none : (n : ℕ) → n + 0 ≡ n
-plus-none n = omega arith
-
-none-plus : (n : ℕ) → 0 + n ≡ n
-none-plus n = omega arith
 
 -- fewer cells, of a list as long or longer
 inside-less : {t : Window} {n len : ℕ} → Inside t n len → (k l : ℕ) → k ≤ n → len ≤ l → Inside t k l
@@ -69,10 +64,7 @@ module _ (t : Stats) (eps : Float) (dst n : ℕ) (o : Clear t dst n) where
       let w : Run s xs (dst + 0) m f = record { len = length-put s (dst + 0) m f; eq = refl } in
       ap (λ (a : ℕ). put xs a (n - m) (λ i. slopeAt xs t eps (m + i))) (ap (λ (a : ℕ). a + m) (sym (plus-none dst)))
       ∙ put-same xs (dst + 0 + m) (n - m) _ (λ i. f (m + i)) (λ i l. slope-same dst 0 n w (omega arith) t eps o (m + i) (omega arith) ∙ ap (slopeAt s t eps) (sym (none-plus (m + i))))
-      ∙ put-chain s (dst + 0) m (n - m) f ∙ ap (λ (k : ℕ). put s (dst + 0) k f) (whole m n h)
-    where
-      whole : (a n : ℕ) → a ≤ n → a + (n - a) ≡ n
-      whole a n h = omega arith
+      ∙ put-chain s (dst + 0) m (n - m) f ∙ ap (λ (k : ℕ). put s (dst + 0) k f) (part-rest m n h)
 
 -- ---- a component's row
 

@@ -10,14 +10,12 @@ use Rattle.laws.specs.Lists.{put}
 use Rattle.laws.proofs.Lists.{put-same, put-before, put-chain, Run, run-more, run-before}
 use Rattle.guided.specs.Guided.{three}
 use Rattle.sums.specs.Rows.{cellsAt, productsAt, threeRun, threeRow}
+use Rattle.sums.proofs.Counts.{plus-none, none-plus}
 
 -- a value by its own three cells
 pub three-is : (n : ℕ) (g : ℕ → Float) (i l r : ℕ) (v : Float) → l ≡ i - 1 → r ≡ min (i + 1) (n - 1) → v ≡ g l ⊕ g i ⊕ g r → v ≡ three _⊕_ n g i
 unfolding three
 three-is n g i l r v p q e = rw (sym p, sym q) e
-
-plus-none : (n : ℕ) → n + 0 ≡ n
-plus-none n = omega arith
 
 -- cells that are alike have like sums
 pub three-same : (op : Float → Float → Float) (n : ℕ) (g h : ℕ → Float) (i : ℕ) → i < n → ((k : ℕ) → k < n → g k ≡ h k) → three op n g i ≡ three op n h i
@@ -78,9 +76,6 @@ unfolding threeRun threeRow
 whole-is g n dst s =
     ap (λ (a : ℕ). put s a n (λ i. three _⊕_ n (g s) (0 + i))) (plus-none dst)
     ∙ put-same s dst n _ _ (λ i l. ap (λ (j : ℕ). three _⊕_ n (g s) j) (none-plus i))
-  where
-    none-plus : (n : ℕ) → 0 + n ≡ n
-    none-plus n = omega arith
 
 module _ (g : List Float → ℕ → Float) (n dst : ℕ) (s : List Float) where
   -- a row of one value, and a longer one: edge, the inner values, edge

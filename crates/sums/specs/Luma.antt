@@ -34,6 +34,13 @@ quadAt plane top bottom i =
 unfoldable pub quadRun : List ℕ → ℕ → ℕ → ℕ → ℕ → List Float → List Float
 quadRun plane top bottom n dst s = put s dst n (quadAt plane top bottom)
 
+-- the mean of pair i of bytes of the row that begins at top, and n of them
+abbrev pub pairAt : List ℕ → ℕ → ℕ → Float
+pairAt plane top i = f32 (getD plane (top + 2 * i) 0 + getD plane (top + (2 * i + 1)) 0) ⊘ f32 2
+
+unfoldable pub pairRun : List ℕ → ℕ → ℕ → ℕ → List Float → List Float
+pairRun plane top n dst s = put s dst n (pairAt plane top)
+
 -- the luma of cells from, .. from + n - 1 of chroma row j, put at dst + from
 unfoldable pub lumaRun : Layout → Plane → ℕ → ℕ → ℕ → ℕ → List Float → List Float
 lumaRun l p j dst from n s = put s (dst + from) n (λ i. lumaOf l (sampleAt (l .«sample_bytes») p) j (from + i))

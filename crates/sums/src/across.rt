@@ -1,9 +1,9 @@
 // The steps of a chroma row: its rows of cells with their sums across, and its slopes from the rows round it.
 ghost use mathlib.Core.Path.{_≡_};
-ghost use Prim.Native.Nat.{_+_, _≤_, _<_};
+ghost use Prim.Native.Nat.{_≤_, _<_};
 ghost use lib.ListN.{length};
 ghost use Rattle.image.specs.Tests.{Sound};
-ghost use Rattle.image.specs.Samples.{Plane, sampleAt};
+ghost use Rattle.image.specs.Samples.{sampleAt};
 ghost use Rattle.image.specs.Picture.{Planes, pictureOf};
 ghost use Rattle.resample.specs.Linear.{scratchNeed};
 ghost use Rattle.guided.specs.Scratch.{horizontal, finish};

@@ -1,14 +1,11 @@
 // The luma of a chroma row's cells: the mean of each cell's pixels inside the picture.
 ghost use mathlib.Core.Path.{_≡_};
-ghost use mathlib.Core.Bool.{false};
-ghost use Prim.Native.Nat.{_+_, _-_, _*_, _≤_, _<_};
+ghost use Prim.Native.Nat.{_+_, _*_, _≤_, _<_};
 ghost use lib.ListN.{length};
 ghost use Rattle.laws.specs.Floats.{f32, _⊘_};
-ghost use Rattle.image.specs.Tests.{Sound};
-ghost use Rattle.image.specs.Samples.{Plane, sampleAt};
-ghost use Rattle.image.specs.Picture.{shortPlane};
-ghost use Rattle.guided.specs.Guided.{sumTo, lumaOf};
-ghost use Rattle.sums.specs.Luma.{Cells, rowSum, cellSum, quadRun, lumaRun, lumaRow};
+ghost use Rattle.image.specs.Samples.{sampleAt};
+ghost use Rattle.guided.specs.Guided.{lumaOf};
+ghost use Rattle.sums.specs.Luma.{Cells, rowSum, cellSum, quadRun, pairRun, lumaRun, lumaRow};
 use image::Layout;
 
 // The sum of the n samples of row y from column x on.
@@ -64,10 +61,12 @@ fn cell_luma(layout: Layout, plane: &[u8], stride: usize, j: usize, i: usize) ->
     requires { ⌜ (j < layout .ch) × (i < layout .cw) ⌝ }
     ensures { λ r. ⌜ r ≡ lumaOf layout (sampleAt (layout .«sample_bytes») (record { bytes = now (plane .entry); stride = stride })) j i ⌝ }
 {
-    let x = i * layout.rh;
-    let y = j * layout.rv;
-    let nx = image::least(layout.rh, layout.w - x);
-    let ny = image::least(layout.rv, layout.h - y);
+    let rh = layout.rh;
+    let rv = layout.rv;
+    let x = i * rh;
+    let y = j * rv;
+    let nx = image::least(rh, layout.w - x);
+    let ny = image::least(rv, layout.h - y);
     mean_of(cell_sum(layout, plane, stride, x, y, nx, ny), nx * ny)
 }
 
@@ -151,12 +150,80 @@ fn luma_quads(
     n
 }
 
+// A sum of two bytes divided by 2.
+fn half(sum: u16) -> f32
+    ensures { λ r. ⌜ r ≡ f32 sum ⊘ f32 2 ⌝ }
+{
+    sum as f32 / 2.0
+}
+
+// The means of n pairs of bytes of the row of a plane that begins at top.
+fn pairs(plane: &[u8], top: usize, n: usize, s: &mut [f32], dst: usize)
+    requires { ⌜ (top + 2 * n ≤ length (now plane)) × (dst + n ≤ length (now s)) ⌝ }
+    ensures { λ _. ⌜ now (s .exit) ≡ pairRun (now (plane .entry)) top n dst (now (s .entry)) ⌝ }
+{
+    let mut i = 0;
+    while i < n {
+        s[dst + i] = half(wide(plane[top + 2 * i]) + wide(plane[top + (2 * i + 1)]));
+        i += 1;
+    }
+}
+
+// Likewise the cells that are pairs of bytes: at vertical ratio 1, and in a last row of one pixel row.
+fn luma_pairs(
+    layout: Layout,
+    plane: &[u8],
+    stride: usize,
+    j: usize,
+    s: &mut [f32],
+    dst: usize,
+) -> usize
+    requires { ⌜ Cells layout (record { bytes = now plane; stride = stride }) ⌝ }
+    requires { ⌜ (j < layout .ch) × (dst + layout .cw ≤ length (now s)) ⌝ }
+    ensures { λ r. ⌜ (r ≤ layout .cw) × (now (s .exit) ≡ lumaRun layout (record { bytes = now (plane .entry); stride = stride }) j dst 0 r (now (s .entry))) ⌝ }
+{
+    let rv = layout.rv;
+    let y = j * rv;
+    if layout.rh != 2 {
+        return 0;
+    }
+    if layout.sample_bytes != 1 {
+        return 0;
+    }
+    if image::least(rv, layout.h - y) != 1 {
+        return 0;
+    }
+    let m = layout.w / 2;
+    pairs(plane, y * stride, m, s, dst);
+    m
+}
+
+// The cells at the row's beginning by whichever of the two fits, and how many.
+fn luma_head(
+    layout: Layout,
+    plane: &[u8],
+    stride: usize,
+    j: usize,
+    s: &mut [f32],
+    dst: usize,
+) -> usize
+    requires { ⌜ Cells layout (record { bytes = now plane; stride = stride }) ⌝ }
+    requires { ⌜ (j < layout .ch) × (dst + layout .cw ≤ length (now s)) ⌝ }
+    ensures { λ r. ⌜ (r ≤ layout .cw) × (now (s .exit) ≡ lumaRun layout (record { bytes = now (plane .entry); stride = stride }) j dst 0 r (now (s .entry))) ⌝ }
+{
+    let n = luma_quads(layout, plane, stride, j, s, dst);
+    if n != 0 {
+        return n;
+    }
+    luma_pairs(layout, plane, stride, j, s, dst)
+}
+
 // Inner: the luma of the cells of chroma row j, to s from dst on.
 pub fn luma_row(layout: Layout, plane: &[u8], stride: usize, j: usize, s: &mut [f32], dst: usize)
     requires { ⌜ Cells layout (record { bytes = now plane; stride = stride }) ⌝ }
     requires { ⌜ (j < layout .ch) × (dst + layout .cw ≤ length (now s)) ⌝ }
     ensures { λ _. ⌜ now (s .exit) ≡ lumaRow layout (record { bytes = now (plane .entry); stride = stride }) j dst (now (s .entry)) ⌝ }
 {
-    let n = luma_quads(layout, plane, stride, j, s, dst);
+    let n = luma_head(layout, plane, stride, j, s, dst);
     luma_cells(layout, plane, stride, j, s, dst, n, layout.cw - n);
 }

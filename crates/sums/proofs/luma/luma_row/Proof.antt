@@ -7,8 +7,8 @@ use borrow.Author.Needs.{needs}
 use Rattle.sums.proofs.luma.luma_row.Statement.{statement}
 use Rattle.sums.proofs.luma.luma_row.Tie as tie
 
-luma-quads-requires : tie.Need-luma-quads-requires
-luma-quads-requires c κs = search needs
+luma-head-requires : tie.Need-luma-head-requires
+luma-head-requires c κs = search needs
 
 sub-luma-cells : tie.Need-sub-luma-cells
 sub-luma-cells c = search needs
@@ -24,9 +24,9 @@ returns c =
     let a = c .before .before .before .before .before .before .before .before .before .before .before .args in
     let l = a .layout in
     let p : Plane = record { bytes = a .plane .now; stride = a .stride } in
-    let q = c .before .before .before .before .before .before .before .luma-quads in
+    let q = c .before .before .before .before .before .before .before .luma-head in
     c .before .before .luma-cells .ensures ∙ ap (lumaRun l p (a .j) (a .dst) (q .result) (l .cw - q .result)) (q .ensures .1) ∙ luma-parts l p (a .j) (a .dst) (q .result) (a .s .now) (q .ensures .0)
 
 pub luma-row-spec : {M : Type 1} → statement M
 luma-row-spec =
-    tie.close (tie.spec luma-quads-requires sub-luma-cells luma-cells-requires same-length returns)
+    tie.close (tie.spec luma-head-requires sub-luma-cells luma-cells-requires same-length returns)
