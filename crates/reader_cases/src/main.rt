@@ -4,7 +4,6 @@
 // w h rh rv cw ch sample_bytes maxval(2) y_stride cb_stride cr_stride y_len cb_len cr_len seed shape
 // space(2) room_cb room_cr row change value(2) answer sum(2).
 ghost use Prim.Native.Nat.{_≤_, _<_};
-ghost use lib.ListN.{length};
 use guided::Geometry;
 use guided::Reader;
 use guided::Reply;
@@ -276,8 +275,15 @@ fn state_agrees(text: &[u8; 142], given: Reader, reply: Reply) -> bool {
 }
 
 // What a call's reply makes of a line; a changed reader's is dropped.
-fn judged(text: &[u8; 142], reader: Reader, given: Reader, reply: Reply, sum: u64) -> Step {
-    let answered = number(reply.answer) == word(text, 25);
+fn judged(
+    text: &[u8; 142],
+    reader: Reader,
+    given: Reader,
+    reply: Reply,
+    sum: u64,
+    kept: bool,
+) -> Step {
+    let answered = kept && number(reply.answer) == word(text, 25);
     let left = state_agrees(text, given, reply) && sum as usize == long(text, 26);
     if word(text, 22) != 0 {
         return Step {
@@ -303,13 +309,18 @@ fn open_step(text: &[u8; 142], reader: Reader, y: &[u8], cb: &[u8], cr: &[u8], s
         s,
         reader,
     );
-    judged(text, reader, reader, reply, 0)
+    judged(text, reader, reader, reply, 0, true)
 }
 
 fn seek_step(text: &[u8; 142], reader: Reader) -> Step {
     let given = handed(text, reader);
     let reply = reconstruction::seek(given, size(text, 21));
-    judged(text, reader, given, reply, 0)
+    judged(text, reader, given, reply, 0, true)
+}
+
+// Whether scratch is as it was, by its sums, where the line's call is refused.
+fn kept_scratch(text: &[u8; 142], before: u64, after: u64) -> bool {
+    word(text, 25) == 0 || before == after
 }
 
 fn row_step(
@@ -323,6 +334,7 @@ fn row_step(
     out_cr: &mut [f32],
 ) -> Step {
     let given = handed(text, reader);
+    let before = summed(0, s);
     let reply = reconstruction::row(
         given,
         y,
@@ -337,7 +349,8 @@ fn row_step(
         out_cr,
     );
     let sum = summed(summed(0, out_cb), out_cr);
-    judged(text, reader, given, reply, sum)
+    let kept = kept_scratch(text, before, summed(0, s));
+    judged(text, reader, given, reply, sum, kept)
 }
 
 // What is lent of a buffer: what the line asks for, or all that there is.

@@ -1,0 +1,239 @@
+//! Random pictures and call lists, the crates' sources beside the original.
+//! Usage: compare PICTURES LISTS; it ends with status 1 where anything differs.
+use oracle::{Bytes, Chroma, GuidedReader, Numbers};
+use sources::guided::{Geometry, Reader};
+use sources::image::Layout;
+use sources::laws::Answer;
+use sources::resample::Phase;
+
+/// Marsaglia's 64-bit xorshift with the shifts 13, 7, 17.
+struct Random(u64);
+
+impl Random {
+    fn next(&mut self) -> u64 {
+        self.0 ^= self.0 << 13;
+        self.0 ^= self.0 >> 7;
+        self.0 ^= self.0 << 17;
+        self.0
+    }
+
+    fn below(&mut self, n: usize) -> usize {
+        (self.next() % n as u64) as usize
+    }
+}
+
+struct Plane {
+    data: Vec<u8>,
+    stride: usize,
+}
+
+struct Picture {
+    layout: Layout,
+    y: Plane,
+    cb: Plane,
+    cr: Plane,
+}
+
+/// Noise, flat noise with peaks, or a slope; with padding and surplus.
+fn plane(r: &mut Random, kind: usize, row: usize, h: usize) -> Plane {
+    let stride = row + r.below(5);
+    let len = (h - 1) * stride + row + r.below(4);
+    let byte = |i: usize| match kind {
+        0 => r.next() as u8,
+        1 if r.below(4) == 0 => 255,
+        1 => r.below(16) as u8,
+        _ => ((i * 3) as u8).wrapping_add(r.below(7) as u8),
+    };
+    Plane { data: (0..len).map(byte).collect(), stride }
+}
+
+/// Picture t: the ratio pairs in turn, sides to 40 by 30, at times 1 by 1.
+fn picture(r: &mut Random, t: usize) -> Picture {
+    let (rh, rv) = (1 + t % 4, 1 + t / 4 % 4);
+    let mut w = 1 + r.below(if t % 2 == 0 { 11 } else { 40 });
+    let mut h = 1 + r.below(if t % 5 == 0 { 30 } else { 11 });
+    if t % 97 == 0 {
+        (w, h) = (1, 1);
+    }
+    let sample_bytes = 1 + r.below(2);
+    let most = if sample_bytes == 1 { 255 } else { 65_535 };
+    let maxval = if t % 3 == 0 { most } else { 1 + r.below(most) } as u32;
+    let (cw, ch) = (w.div_ceil(rh), h.div_ceil(rv));
+    let layout = Layout { w, h, rh, rv, cw, ch, sample_bytes, maxval };
+    let kind = r.below(3);
+    let y = plane(r, kind, w * sample_bytes, h);
+    let cb = plane(r, kind, cw * sample_bytes, ch);
+    let cr = plane(r, kind, cw * sample_bytes, ch);
+    Picture { layout, y, cb, cr }
+}
+
+fn original(p: &Picture) -> oracle::Picture {
+    let l = p.layout;
+    let numbers = Numbers {
+        w: l.w,
+        h: l.h,
+        rh: l.rh,
+        rv: l.rv,
+        bps: l.sample_bytes,
+        maxval: l.maxval,
+    };
+    let bytes = [&p.y, &p.cb, &p.cr].map(|q| Bytes { data: &q.data, stride: q.stride });
+    oracle::Picture::new(numbers, bytes).expect("a picture of the original's")
+}
+
+fn scratch_need(l: Layout) -> usize {
+    64 * l.cw + 8 * l.w
+}
+
+/// Whether the first values are the original's and the rest unwritten.
+fn agrees(out: &[u16], want: &[u32]) -> bool {
+    let (given, rest) = out.split_at(want.len());
+    given.iter().zip(want).all(|(a, b)| *a as u32 == *b) && rest.iter().all(|v| *v == 42_405)
+}
+
+/// The planes of one picture by each call; how many differ.
+fn planes(p: &Picture, q: &oracle::Picture) -> [usize; 3] {
+    let l = p.layout;
+    let mut s = vec![f32::NAN; scratch_need(l)];
+    let fresh = || vec![42_405u16; l.w * l.h + 3];
+    let mut out = fresh();
+    let a = sources::resample::linear_plane(l, &p.cb.data, p.cb.stride, &mut s, &mut out);
+    let linear = a == Answer::Accepted && agrees(&out, &oracle::linear_plane(q, Chroma::Cb));
+    out = fresh();
+    let a = sources::reader::guided_plane(
+        l, &p.y.data, p.y.stride, &p.cb.data, p.cb.stride, &mut s, &mut out,
+    );
+    let guided = a == Answer::Accepted && agrees(&out, &oracle::guided_plane(q, Chroma::Cb));
+    out = fresh();
+    let a = sources::upsample::triangular_plane(l, &p.cb.data, p.cb.stride, &mut out);
+    let triangular = match oracle::triangular_plane(q, Chroma::Cb) {
+        Some(want) => a == Answer::Accepted && agrees(&out, &want),
+        None => a == Answer::Refused(6) && agrees(&out, &[]),
+    };
+    [linear, guided, triangular].map(|same| !same as usize)
+}
+
+fn closed() -> Reader {
+    let phases = [Phase { left: false, f: 0.0 }; 4];
+    let geometry = Geometry { w: 0, h: 0, rh: 0, rv: 0, cw: 0, ch: 0, phases };
+    Reader { geometry, sample_bytes: 0, maxval: 0, place: 0, h_next: 0, f_next: 0 }
+}
+
+/// A reader of each kind over one scratch, and what was counted.
+struct Course {
+    state: Reader,
+    beside: GuidedReader,
+    place: usize,
+    scratch: Vec<f32>,
+    rows: usize,
+    refused: usize,
+    differ: usize,
+}
+
+impl Course {
+    fn expect(&mut self, same: bool) {
+        self.differ += !same as usize;
+    }
+
+    fn open(&mut self, p: &Picture) {
+        let a = sources::reader::open(
+            p.layout, &p.y.data, p.y.stride, &p.cb.data, p.cb.stride, &p.cr.data, p.cr.stride,
+            &self.scratch, self.state,
+        );
+        self.expect(a.answer == Answer::Accepted);
+        self.state = a.reader;
+        self.place = 0;
+        self.beside.open(&original(p));
+    }
+
+    fn seek(&mut self, p: &Picture, y: usize) {
+        let a = sources::guided::seek(self.state, y);
+        if y < p.layout.h {
+            let sought = self.beside.seek(y).is_ok();
+            self.expect(sought && a.answer == Answer::Accepted);
+            self.state = a.reader;
+            self.place = y;
+        } else {
+            self.refused += 1;
+            self.expect(a.answer == Answer::Refused(11) && a.reader == self.state);
+        }
+    }
+
+    fn row(&mut self, p: &Picture, y: usize) {
+        let l = p.layout;
+        let (mut cb, mut cr) = (vec![-7.0f32; l.w + 2], vec![-9.0f32; l.w + 1]);
+        let a = sources::reader::row(
+            self.state, &p.y.data, p.y.stride, &p.cb.data, p.cb.stride, &p.cr.data, p.cr.stride,
+            y, &mut self.scratch, &mut cb, &mut cr,
+        );
+        if l.h <= y || y < self.place {
+            let number = if l.h <= y { 11 } else { 12 };
+            let kept = cb.iter().all(|v| *v == -7.0) && cr.iter().all(|v| *v == -9.0);
+            self.refused += 1;
+            self.expect(a.answer == Answer::Refused(number) && a.reader == self.state && kept);
+            return;
+        }
+        let Ok((want_cb, want_cr)) = self.beside.row(y) else {
+            panic!("a row of the original's");
+        };
+        let same = |a: &[f32], b: &[f32]| a.iter().zip(b).all(|(x, y)| x.to_bits() == y.to_bits());
+        let rest = cb[l.w..] == [-7.0, -7.0] && cr[l.w..] == [-9.0];
+        let rows = same(&cb[..l.w], &want_cb) && same(&cr[..l.w], &want_cr);
+        self.rows += 1;
+        self.expect(a.answer == Answer::Accepted && rest && rows);
+        self.state = a.reader;
+        self.place = y;
+    }
+}
+
+/// 24 calls over two pictures and one scratch, which begins as not-a-numbers.
+fn list(r: &mut Random, t: usize) -> Course {
+    let pictures = [picture(r, t), picture(r, 7 * t + 3)];
+    let need = pictures.iter().map(|p| scratch_need(p.layout)).max().unwrap_or(0);
+    let mut course = Course {
+        state: closed(),
+        beside: GuidedReader::new(),
+        place: 0,
+        scratch: vec![f32::NAN; need + r.below(3)],
+        rows: 0,
+        refused: 0,
+        differ: 0,
+    };
+    let mut current = &pictures[0];
+    for step in 0..24 {
+        let h = current.layout.h;
+        match if step == 0 { 0 } else { r.below(8) } {
+            0 => {
+                current = &pictures[r.below(2)];
+                course.open(current);
+            }
+            1 => course.seek(current, r.below(h + 1)),
+            2 | 3 => course.row(current, course.place + r.below(3)),
+            7 => course.row(current, course.place),
+            _ => course.row(current, r.below(h + 2)),
+        }
+    }
+    course
+}
+
+fn main() {
+    let counts: Vec<usize> = std::env::args().skip(1).map(|n| n.parse().expect("a number")).collect();
+    let mut r = Random(88_172_645_463_325_252);
+    let mut differ = [0; 3];
+    for t in 0..counts[0] {
+        let p = picture(&mut r, t);
+        let found = planes(&p, &original(&p));
+        (0..3).for_each(|i| differ[i] += found[i]);
+    }
+    let [linear, guided, triangular] = differ;
+    println!("{} pictures; differ: linear {linear}, guided {guided}, triangular {triangular}", counts[0]);
+    let (mut rows, mut refused, mut lists) = (0, 0, 0);
+    for t in 0..counts[1] {
+        let course = list(&mut r, t);
+        rows += course.rows;
+        refused += course.refused;
+        lists += course.differ;
+    }
+    println!("{} lists of 24 calls, {rows} rows, {refused} refused; calls that differ: {lists}", counts[1]);
+    std::process::exit((linear + guided + triangular + lists != 0) as i32);
+}
