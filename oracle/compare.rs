@@ -1,5 +1,5 @@
 //! Random pictures and call lists, the crates' sources beside the original.
-//! Usage: compare PICTURES LISTS; it ends with status 1 where anything differs.
+//! Usage: compare PICTURES LISTS PIXELS; it ends with status 1 where anything differs.
 use oracle::{Bytes, Chroma, GuidedReader, Numbers};
 use sources::guided::{Geometry, Reader};
 use sources::image::Layout;
@@ -216,6 +216,32 @@ fn list(r: &mut Random, t: usize) -> Course {
     course
 }
 
+/// n pixels by each kernel; how many differ: exact at 255, exact at another
+/// maxval, fixed.
+fn pixels(r: &mut Random, n: usize) -> [usize; 3] {
+    use sources::convert::{ycbcr_frac_to_rgb8, ycbcr_to_rgb8_fixed16, Pixel};
+    let other = |p: Pixel, [r, g, b]: [u8; 3]| (p != Pixel::Rgb(r, g, b)) as usize;
+    let mut differ = [0; 3];
+    for i in 0..n {
+        // Chroma of samples up to 255, and every other time any that is accepted.
+        let most = if i % 2 == 0 { 65_281 } else { 16_776_961 };
+        let y = r.below(if i % 2 == 0 { 256 } else { 65_536 }) as u32;
+        let (cb, cr) = (r.below(most) as u32, r.below(most) as u32);
+        let maxval = match 1 + r.below(65_535) as u32 {
+            255 => 4_095,
+            m => m,
+        };
+        let plain = oracle::ycbcr_frac_to_rgb8_8bit(y, cb, cr);
+        differ[0] += other(ycbcr_frac_to_rgb8(y, cb, cr, 255), plain);
+        let any = oracle::ycbcr_frac_to_rgb8(y, cb, cr, maxval);
+        differ[1] += other(ycbcr_frac_to_rgb8(y, cb, cr, maxval), any);
+        let (cb, cr) = (cb / 256, cr / 256);
+        let fixed = oracle::ycbcr_to_rgb8_fixed16(y, cb, cr);
+        differ[2] += other(ycbcr_to_rgb8_fixed16(y, cb, cr), fixed);
+    }
+    differ
+}
+
 fn main() {
     let counts: Vec<usize> = std::env::args().skip(1).map(|n| n.parse().expect("a number")).collect();
     let mut r = Random(88_172_645_463_325_252);
@@ -235,5 +261,8 @@ fn main() {
         lists += course.differ;
     }
     println!("{} lists of 24 calls, {rows} rows, {refused} refused; calls that differ: {lists}", counts[1]);
-    std::process::exit((linear + guided + triangular + lists != 0) as i32);
+    let [exact, other, fixed] = pixels(&mut r, counts[2]);
+    println!("{} pixels; differ: exact at 255 {exact}, at another maxval {other}, fixed {fixed}", counts[2]);
+    let all = linear + guided + triangular + lists + exact + other + fixed;
+    std::process::exit((all != 0) as i32);
 }
