@@ -1,27 +1,12 @@
-// The cells beside a cell, and the samples of a plane as floats.
+// The samples of a plane as floats.
 ghost use mathlib.Core.Path.{_≡_};
 ghost use mathlib.Core.Bool.{false};
-ghost use Prim.Native.Nat.{_+_, _-_, _<_, min};
+ghost use Prim.Native.Nat.{_<_};
 ghost use Rattle.laws.specs.Floats.{f32};
 ghost use Rattle.image.specs.Tests.{Sound};
 ghost use Rattle.image.specs.Samples.{Plane, sampleAt};
 ghost use Rattle.image.specs.Picture.{shortPlane};
 use image::Layout;
-
-// Inner: the cell before i, the first repeated.
-pub fn before(i: usize) -> usize
-    ensures { λ r. ⌜ r ≡ i - 1 ⌝ }
-{
-    if i == 0 { 0 } else { i - 1 }
-}
-
-// Inner: the cell after i of n, the last repeated.
-pub fn after(i: usize, n: usize) -> usize
-    requires { ⌜ i < n ⌝ }
-    ensures { λ r. ⌜ r ≡ min (i + 1) (n - 1) ⌝ }
-{
-    if i + 1 < n { i + 1 } else { i }
-}
 
 // Inner: the sample in column x of row y of a plane of w columns and h rows.
 pub fn sample_at(

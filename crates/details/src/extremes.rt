@@ -7,8 +7,6 @@ ghost use Rattle.image.specs.Samples.{Plane, sampleAt};
 ghost use Rattle.guided.specs.Guided.{three, extremeOf};
 ghost use Rattle.sums.specs.Parts.{ChromaCells};
 ghost use Rattle.details.specs.Extremes.{opOf, extremeRow};
-use super::cells::after;
-use super::cells::before;
 use super::cells::sample_at;
 use image::Layout;
 
@@ -29,9 +27,9 @@ fn across(layout: Layout, plane: &[u8], stride: usize, greatest: bool, r: usize,
 {
     let w = layout.cw;
     let h = layout.ch;
-    let a = sample_at(layout, plane, stride, w, h, before(i), r);
+    let a = sample_at(layout, plane, stride, w, h, sums::prev(i), r);
     let b = sample_at(layout, plane, stride, w, h, i, r);
-    let c = sample_at(layout, plane, stride, w, h, after(i, w), r);
+    let c = sample_at(layout, plane, stride, w, h, sums::next(i, w), r);
     pick(greatest, pick(greatest, a, b), c)
 }
 
@@ -47,9 +45,9 @@ fn extreme_at(
     requires { ⌜ ChromaCells layout (record { bytes = now plane; stride = stride }) × (i < layout .cw) × (j < layout .ch) ⌝ }
     ensures { λ v. ⌜ v ≡ extremeOf layout (opOf greatest) (sampleAt (layout .«sample_bytes») (record { bytes = now (plane .entry); stride = stride })) j i ⌝ }
 {
-    let a = across(layout, plane, stride, greatest, before(j), i);
+    let a = across(layout, plane, stride, greatest, sums::prev(j), i);
     let b = across(layout, plane, stride, greatest, j, i);
-    let c = across(layout, plane, stride, greatest, after(j, layout.ch), i);
+    let c = across(layout, plane, stride, greatest, sums::next(j, layout.ch), i);
     pick(greatest, pick(greatest, a, b), c)
 }
 

@@ -13,8 +13,6 @@ ghost use Rattle.guided.specs.Scratch.{finishedAt, columnOf};
 ghost use Rattle.sums.specs.Luma.{Cells};
 ghost use Rattle.sums.specs.Slopes.{chromaOf};
 ghost use Rattle.details.specs.Pixels.{phased, pairOf, detailRun, detailLine, BandsInside, bandsOf, valueAt, valuePair, valueRun, valueRow};
-use super::cells::after;
-use super::cells::before;
 use super::cells::sample_at;
 use super::columns::column_at;
 use image::Layout;
@@ -26,10 +24,10 @@ fn across_at(s: &[f32], src: usize, cw: usize, p: Phase, i: usize) -> f32
     ensures { λ r. ⌜ r ≡ phased (cellAt (now (s .entry)) src) cw p i ⌝ }
 {
     if p.left {
-        let l = before(i);
+        let l = sums::prev(i);
         return resample::lerp(s[src + l], s[src + i], p.f);
     }
-    let r = after(i, cw);
+    let r = sums::next(i, cw);
     resample::lerp(s[src + i], s[src + r], p.f)
 }
 

@@ -14,6 +14,8 @@ pub use places::pitch_of;
 pub use places::slot_at;
 pub use places::window_at;
 pub use rows::load_row;
+pub use rows::next;
+pub use rows::prev;
 pub use rows::product_sum_row;
 pub use rows::sum_row;
 pub use slopes::Stats;

@@ -7,8 +7,8 @@ use borrow.Author.Needs.{needs}
 use Rattle.details.proofs.extremes.extreme_at.Statement.{statement}
 use Rattle.details.proofs.extremes.extreme_at.Tie as tie
 
-before-requires : tie.Need-before-requires
-before-requires c κs = search needs
+prev-requires : tie.Need-prev-requires
+prev-requires c κs = search needs
 
 across-requires : tie.Need-across-requires
 across-requires c κs = search needs
@@ -16,8 +16,8 @@ across-requires c κs = search needs
 across-requires-2 : tie.Need-across-requires-2
 across-requires-2 c κs = search needs
 
-after-requires : tie.Need-after-requires
-after-requires c κs = search needs
+next-requires : tie.Need-next-requires
+next-requires c κs = search needs
 
 across-requires-3 : tie.Need-across-requires-3
 across-requires-3 c κs = search needs
@@ -34,16 +34,16 @@ returns c =
     let a = c .before .before .before .before .before .before .before .before .args in
     let p : Plane = record { bytes = a .plane .now; stride = a .stride } in
     three-of (opOf (a .greatest)) (a .layout .ch) (λ r. three (opOf (a .greatest)) (a .layout .cw) (λ q. f32 (sampleAt (a .layout .«sample_bytes») p q r)) (a .i)) (a .j) _ _ _ _ _ _ _
-    (c .before .before .before .before .before .before .before2 .ensures) (c .before .before .before .after .ensures) (c .before .before .before .before .before .across .ensures) (c .before .before .before .before .across2 .ensures) (c .before .before .across3 .ensures) (c .before .pick .ensures) (c .pick2 .ensures)
+    (c .before .before .before .before .before .before .prev .ensures) (c .before .before .before .next .ensures) (c .before .before .before .before .before .across .ensures) (c .before .before .before .before .across2 .ensures) (c .before .before .across3 .ensures) (c .before .pick .ensures) (c .pick2 .ensures)
 
 pub extreme-at-spec : {M : Type 1} → statement M
 extreme-at-spec =
     tie.close
     (tie.spec
-    before-requires
+    prev-requires
     across-requires
     across-requires-2
-    after-requires
+    next-requires
     across-requires-3
     pick-requires
     pick-requires-2

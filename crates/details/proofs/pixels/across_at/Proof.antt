@@ -4,8 +4,8 @@ use borrow.Author.Needs.{needs}
 use Rattle.details.proofs.pixels.across_at.Statement.{statement}
 use Rattle.details.proofs.pixels.across_at.Tie as tie
 
-before-requires : tie.Need-before-requires
-before-requires c κs = search needs
+prev-requires : tie.Need-prev-requires
+prev-requires c κs = search needs
 
 add-lerp : tie.Need-add-lerp
 add-lerp c = search needs
@@ -30,10 +30,10 @@ lerp-requires c κs = search needs
 
 returns : tie.Need-returns
 unfolding phased
-returns c = rw (c .before .before .before .before .if1 .taken, sym (c .before .before .before .before2 .ensures)) (c .lerp .ensures)
+returns c = rw (c .before .before .before .before .if1 .taken, sym (c .before .before .before .prev .ensures)) (c .lerp .ensures)
 
-after-requires : tie.Need-after-requires
-after-requires c κs = search needs
+next-requires : tie.Need-next-requires
+next-requires c κs = search needs
 
 add-lerp-3 : tie.Need-add-lerp-3
 add-lerp-3 c = search needs
@@ -58,13 +58,13 @@ lerp-requires-2 c κs = search needs
 
 returns-2 : tie.Need-returns-2
 unfolding phased
-returns-2 c = rw (c .before .before .before .before .if1 .left, sym (c .before .before .before .after .ensures)) (c .lerp2 .ensures)
+returns-2 c = rw (c .before .before .before .before .if1 .left, sym (c .before .before .before .next .ensures)) (c .lerp2 .ensures)
 
 pub across-at-spec : {M : Type 1} → statement M
 across-at-spec =
     tie.close
     (tie.spec
-    before-requires
+    prev-requires
     add-lerp
     mul-lerp
     shared-slice-read-lerp
@@ -73,7 +73,7 @@ across-at-spec =
     shared-slice-read-lerp-2
     lerp-requires
     returns
-    after-requires
+    next-requires
     add-lerp-3
     mul-lerp-3
     shared-slice-read-lerp-3
