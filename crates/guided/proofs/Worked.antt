@@ -1,11 +1,11 @@
--- A list that meets the premise, with refused calls among accepted ones and a second picture over the first one's scratch; and one row by its numbers.
+-- A list that meets the premise, with refused calls among accepted ones and a second picture over the first one's scratch.
 use mathlib.Core.Path.{_≡_, refl, _∙_}
 use mathlib.Core.Bool.{Bool, true, false, cond, _&&_}
 use mathlib.Core.List.{List, [], _∷_}
 use Prim.Native.Nat.{ℕ, zero, suc, _<_}
 use lib.Dec.{T, ltb, ltb→lt, lit<}
 use lib.ListN.{length, getD, replicate}
-use lib.Ieee.{nan, binary32, add, sub, sum, neg, mul, div, round, size, span, climb, units, odd, lt, ofInt, ofBits, ofFields}
+use lib.Ieee.{nan, add, sub, sum, neg, mul, div, round, size, span, climb, units, odd, lt, ofInt}
 use lib.Count.{trailingZeros}
 use Rattle.laws.specs.declared.Answer.the-variants.{Accepted, Refused}
 use Rattle.laws.specs.Floats.{f32}
@@ -15,7 +15,7 @@ use Rattle.laws.proofs.Refusals.{Failed, failed-accepted}
 use Rattle.image.specs.declared.layout.Layout.{Layout}
 use Rattle.image.specs.Tests.{badSize, badRatio, badSamples, divCeil, badChroma, layoutTests, badPlane}
 use Rattle.image.specs.Samples.{sampleOf, sampleAt}
-use Rattle.image.specs.Picture.{Cb, Cr, Picture, Planes, inside, pictureOf, shortPlane, badPlanes}
+use Rattle.image.specs.Picture.{Cb, Cr, Planes, inside, pictureOf, shortPlane, badPlanes}
 use Rattle.resample.specs.Taps.{spotAt, spotOf, tapOf, phaseOf}
 use Rattle.resample.specs.Linear.{scratchNeed}
 use Rattle.guided.specs.declared.state.Reader.{Reader}
@@ -219,18 +219,3 @@ computed = refl
 -- the row that the list gives
 pub worked : given openB (rowEvent row2) Cb ≡ f32 3 ∷ []
 worked = demand-3 .guided openB (rowEvent row2) events (record { ran = all-ran; premise = premise; gives = gives }) Cb ∙ computed
-
--- one picture by which the arithmetic is told from its neighbours: 3 by 3, ratios 2 and 2, two bytes, maxval 1,023, row 1
-abbrev pictureV : Picture
-pictureV =
-    pictureOf (record { w = 3; h = 3; rh = 2; rv = 2; cw = 2; ch = 2; «sample_bytes» = 2; maxval = 1023 })
-    (record {
-      y = record { bytes = 11 ∷ 2 ∷ 222 ∷ 2 ∷ 59 ∷ 0 ∷ 185 ∷ 3 ∷ 254 ∷ 1 ∷ 106 ∷ 0 ∷ 65 ∷ 1 ∷ 231 ∷ 0 ∷ 249 ∷ 2 ∷ []; stride = 6 };
-      cb = record { bytes = 192 ∷ 3 ∷ 248 ∷ 1 ∷ 11 ∷ 3 ∷ 208 ∷ 0 ∷ []; stride = 4 };
-      cr = record { bytes = 192 ∷ 3 ∷ 248 ∷ 1 ∷ 11 ∷ 3 ∷ 208 ∷ 0 ∷ []; stride = 4 };
-    })
-
--- its three values by their bits
-pub vector : guidedRow pictureV Cb 1 ≡ ofBits binary32 1148190720 ∷ ofBits binary32 1145482888 ∷ ofBits binary32 1141634663 ∷ []
-unfolding guidedRow table guidedSample valueOf detailOf acrossTo downTo slope slopeOf mean epsilon extreme extremeOf acrossVal cellOf cellLuma lumaOf three sumTo phaseOf tapOf spotOf spotAt pictureOf inside sampleAt sampleOf add sub mul div sum neg round size span climb units odd lt ofInt trailingZeros ofBits ofFields
-vector = refl
