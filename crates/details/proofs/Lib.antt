@@ -1,6 +1,5 @@
 -- Laws that the proofs and callers cite.
 pub mod Downs
 pub mod Lerps
-pub mod Nines
 pub mod Steps
 pub mod Twos

@@ -21,7 +21,7 @@ use Rattle.sums.proofs.Threes.{three-same}
 use Rattle.details.proofs.Lerps.{plus-none}
 use Rattle.details.specs.declared.pixels.Bands.{Bands}
 use Rattle.details.specs.Columns.{downColumn}
-use Rattle.details.specs.Extremes.{extremeRow}
+use Rattle.extremes.specs.Extremes.{extremeRow}
 use Rattle.details.specs.Pixels.{detailLine, bandsOf, valueAt, valueRow}
 use Rattle.details.specs.Row.{downsOf, boundsOf, componentRow, guidedStep}
 

@@ -1,4 +1,3 @@
 pub mod Columns
-pub mod Extremes
 pub mod Pixels
 pub mod Row

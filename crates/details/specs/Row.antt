@@ -8,7 +8,7 @@ use Rattle.image.specs.Samples.{Plane}
 use Rattle.image.specs.Picture.{Chroma, Picture}
 use Rattle.guided.specs.Scratch.{firstOf, columnAt, columnOf, lumaColumn, detailRow, componentsOver}
 use Rattle.details.specs.Columns.{downColumn}
-use Rattle.details.specs.Extremes.{extremeRow}
+use Rattle.extremes.specs.Extremes.{extremeRow}
 use Rattle.details.specs.Pixels.{valueRow}
 
 -- a component's samples and slopes, lerped down for row y

@@ -1,13 +1,10 @@
 // A picture row of luma-guided reconstruction from the window's rows: the original's GuidedRows::row.
-mod cells;
 mod columns;
-mod extremes;
 mod pixels;
 mod row;
 
 pub use columns::column_at;
 pub use columns::down_column;
-pub use extremes::extreme_row;
 pub use pixels::Bands;
 pub use pixels::detail_row;
 pub use pixels::value_row;

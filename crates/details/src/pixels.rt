@@ -13,8 +13,8 @@ ghost use Rattle.guided.specs.Scratch.{finishedAt, columnOf};
 ghost use Rattle.sums.specs.Luma.{Cells};
 ghost use Rattle.sums.specs.Slopes.{chromaOf};
 ghost use Rattle.details.specs.Pixels.{phased, pairOf, detailRun, detailLine, BandsInside, bandsOf, valueAt, valuePair, valueRun, valueRow};
-use super::cells::sample_at;
 use super::columns::column_at;
+use extremes::sample_at;
 use image::Layout;
 use resample::Phase;
 

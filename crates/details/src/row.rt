@@ -10,11 +10,11 @@ ghost use Rattle.sums.specs.Slopes.{chromaOf};
 ghost use Rattle.sums.specs.Parts.{ChromaCells, Lent, components};
 ghost use Rattle.details.specs.Row.{downsOf, boundsOf, componentRow, guidedStep};
 use super::columns::down_column;
-use super::extremes::extreme_row;
 use super::pixels::bands_of;
 use super::pixels::column_of;
 use super::pixels::detail_row;
 use super::pixels::value_row;
+use extremes::extreme_row;
 use image::Layout;
 
 // A component's samples and slopes, lerped down for row y.

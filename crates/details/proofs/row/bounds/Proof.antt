@@ -1,7 +1,7 @@
 use mathlib.Core.Bool.{true}
 use Rattle.sums.specs.Slopes.{chromaOf}
 use Rattle.image.specs.Samples.{Plane}
-use Rattle.details.specs.Extremes.{extremeRow}
+use Rattle.extremes.specs.Extremes.{extremeRow}
 use Rattle.details.proofs.Lerps.{bands-inside}
 use Rattle.details.proofs.Steps.{bounds-are}
 use mathlib.Core.Path.{ap, _∙_}

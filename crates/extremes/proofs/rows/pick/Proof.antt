@@ -1,6 +1,6 @@
 use borrow.Author.Needs.{needs}
-use Rattle.details.proofs.extremes.pick.Statement.{statement}
-use Rattle.details.proofs.extremes.pick.Tie as tie
+use Rattle.extremes.proofs.rows.pick.Statement.{statement}
+use Rattle.extremes.proofs.rows.pick.Tie as tie
 
 fmax-requires : tie.Need-fmax-requires
 fmax-requires c κs = search needs

@@ -1,27 +1,33 @@
-use Rattle.image.specs.Samples.{sampleAt}
-use Rattle.guided.specs.Guided.{extremeOf}
-use Rattle.details.specs.Extremes.{opOf, extremeRow}
-use borrow.Author.Needs.{needs}
-use Prim.Native.Nat.{_-_, _≤_}
-use Rattle.laws.proofs.Lists.{Run, run-none, run-more, run-end}
+use Prim.Native.Nat.{_+_, _-_, _≤_}
 use native.Mathlib.Omega.{arith}
-use Rattle.details.proofs.extremes.extreme_row.Statement.{statement}
-use Rattle.details.proofs.extremes.extreme_row.Tie as tie
+use Rattle.extremes.proofs.rows.extreme_run.Statement.{statement}
+use Rattle.laws.proofs.Lists.{Run, run-end, run-more, run-none}
+use Rattle.guided.specs.Guided.{extremeOf}
+use Rattle.extremes.specs.Extremes.{extremeRun, opOf}
+use borrow.Author.Needs.{needs}
+use Rattle.image.specs.Samples.{sampleAt}
+use Rattle.extremes.proofs.rows.extreme_run.Tie as tie
 
 abbrev Inv-loop : tie.InvT-loop
-Inv-loop layout plane stride greatest j s₀ dst n i₀ s i = (i ≤ n) × Run s₀ s dst i (extremeOf layout (opOf greatest) (sampleAt (layout .«sample_bytes») (record { bytes = plane; stride = stride })) j)
+Inv-loop layout plane stride greatest j s₀ dst from n i₀ s i = (i ≤ n) × Run s₀ s (dst + from) i (λ k. extremeOf layout (opOf greatest) (sampleAt (layout .«sample_bytes») (record { bytes = plane; stride = stride })) j (from + k))
 
 abbrev μ-loop : tie.MeasureT-loop
-μ-loop layout plane stride greatest j s₀ dst n i₀ s i = n - i
+μ-loop layout plane stride greatest j s₀ dst from n i₀ s i = n - i
 
 loop-holds : tie.Need-loop-holds Inv-loop μ-loop
 loop-holds c = (omega arith, run-none _ _ _)
+
+add-extreme-at : tie.Need-add-extreme-at Inv-loop μ-loop
+add-extreme-at c = omega arith
 
 extreme-at-requires : tie.Need-extreme-at-requires Inv-loop μ-loop
 extreme-at-requires c κs = search needs
 
 add-s : tie.Need-add-s Inv-loop μ-loop
 add-s c = omega arith
+
+add-s-2 : tie.Need-add-s-2 Inv-loop μ-loop
+add-s-2 c = omega arith
 
 mul-s : tie.Need-mul-s Inv-loop μ-loop
 mul-s c = omega arith
@@ -42,18 +48,20 @@ same-length : tie.Need-same-length Inv-loop μ-loop
 same-length c = c .before .loop .inv .1 .len
 
 returns : tie.Need-returns Inv-loop μ-loop
-unfolding extremeRow
+unfolding extremeRun
 returns c = run-end (c .before .loop .inv .1) _ (omega arith) (omega arith)
 
-pub extreme-row-spec : {M : Type 1} → statement M
-extreme-row-spec =
+pub extreme-run-spec : {M : Type 1} → statement M
+extreme-run-spec =
     tie.close
     (tie.spec
     Inv-loop
     μ-loop
     loop-holds
+    add-extreme-at
     extreme-at-requires
     add-s
+    add-s-2
     mul-s
     slice-write-s
     add-i

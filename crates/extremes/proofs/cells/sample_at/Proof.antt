@@ -6,8 +6,8 @@ use Rattle.laws.specs.Floats.{f32}
 use native.Mathlib.Omega.{arith}
 use lib.ListN.{length}
 use borrow.Author.Needs.{needs}
-use Rattle.details.proofs.cells.sample_at.Statement.{statement}
-use Rattle.details.proofs.cells.sample_at.Tie as tie
+use Rattle.extremes.proofs.cells.sample_at.Statement.{statement}
+use Rattle.extremes.proofs.cells.sample_at.Tie as tie
 
 -- the sample lies within the plane
 

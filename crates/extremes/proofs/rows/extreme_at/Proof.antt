@@ -1,11 +1,11 @@
-use Rattle.details.proofs.Nines.{three-of}
-use Rattle.details.specs.Extremes.{opOf}
+use Rattle.extremes.proofs.Nines.{three-of}
+use Rattle.extremes.specs.Extremes.{opOf}
 use Rattle.guided.specs.Guided.{three, extremeOf}
 use Rattle.image.specs.Samples.{Plane, sampleAt}
 use Rattle.laws.specs.Floats.{f32}
 use borrow.Author.Needs.{needs}
-use Rattle.details.proofs.extremes.extreme_at.Statement.{statement}
-use Rattle.details.proofs.extremes.extreme_at.Tie as tie
+use Rattle.extremes.proofs.rows.extreme_at.Statement.{statement}
+use Rattle.extremes.proofs.rows.extreme_at.Tie as tie
 
 prev-requires : tie.Need-prev-requires
 prev-requires c κs = search needs

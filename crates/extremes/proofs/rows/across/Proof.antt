@@ -1,10 +1,10 @@
-use Rattle.details.proofs.Nines.{three-of}
-use Rattle.details.specs.Extremes.{opOf}
+use Rattle.extremes.proofs.Nines.{three-of}
+use Rattle.extremes.specs.Extremes.{opOf}
 use Rattle.image.specs.Samples.{sampleAt}
 use Rattle.laws.specs.Floats.{f32}
 use borrow.Author.Needs.{needs}
-use Rattle.details.proofs.extremes.across.Statement.{statement}
-use Rattle.details.proofs.extremes.across.Tie as tie
+use Rattle.extremes.proofs.rows.across.Statement.{statement}
+use Rattle.extremes.proofs.rows.across.Tie as tie
 
 prev-requires : tie.Need-prev-requires
 prev-requires c κs = search needs

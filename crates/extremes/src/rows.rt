@@ -1,13 +1,15 @@
 // The least and the greatest sample of the three by three cells round each cell.
 ghost use mathlib.Core.Path.{_≡_};
-ghost use Prim.Native.Nat.{_+_, _≤_, _<_};
+ghost use Prim.Native.Nat.{_+_, _-_, _≤_, _<_};
 ghost use lib.ListN.{length};
 ghost use Rattle.laws.specs.Floats.{f32};
 ghost use Rattle.image.specs.Samples.{Plane, sampleAt};
 ghost use Rattle.guided.specs.Guided.{three, extremeOf};
 ghost use Rattle.sums.specs.Parts.{ChromaCells};
-ghost use Rattle.details.specs.Extremes.{opOf, extremeRow};
+ghost use Rattle.extremes.specs.Extremes.{opOf, extremeRun, extremeRow};
 use super::cells::sample_at;
+use super::inner::byte_run;
+use super::inner::word_run;
 use image::Layout;
 
 // The greater or the smaller of two.
@@ -51,6 +53,53 @@ fn extreme_at(
     pick(greatest, pick(greatest, a, b), c)
 }
 
+// Those of n cells of chroma row j, from cell `from` on.
+fn extreme_run(
+    layout: Layout,
+    plane: &[u8],
+    stride: usize,
+    greatest: bool,
+    j: usize,
+    s: &mut [f32],
+    dst: usize,
+    from: usize,
+    n: usize,
+)
+    requires { ⌜ ChromaCells layout (record { bytes = now plane; stride = stride }) × (j < layout .ch) ⌝ }
+    requires { ⌜ (from + n ≤ layout .cw) × (dst + layout .cw ≤ length (now s)) ⌝ }
+    ensures { λ _. ⌜ now (s .exit) ≡ extremeRun layout (record { bytes = now (plane .entry); stride = stride }) greatest j dst from n (now (s .entry)) ⌝ }
+{
+    let mut i = 0;
+    while i < n {
+        s[dst + from + i] = extreme_at(layout, plane, stride, greatest, j, from + i);
+        i += 1;
+    }
+}
+
+// Those of the cells that have neighbours on both sides.
+fn extreme_inner(
+    layout: Layout,
+    plane: &[u8],
+    stride: usize,
+    greatest: bool,
+    j: usize,
+    s: &mut [f32],
+    dst: usize,
+)
+    requires { ⌜ ChromaCells layout (record { bytes = now plane; stride = stride }) × (j < layout .ch) × (2 ≤ layout .cw) × (dst + layout .cw ≤ length (now s)) ⌝ }
+    ensures { λ _. ⌜ now (s .exit) ≡ extremeRun layout (record { bytes = now (plane .entry); stride = stride }) greatest j dst 1 (layout .cw - 2) (now (s .entry)) ⌝ }
+{
+    let n = layout.cw - 2;
+    let u = sums::prev(j) * stride;
+    let m = j * stride;
+    let d = sums::next(j, layout.ch) * stride;
+    if layout.sample_bytes == 1 {
+        byte_run(plane, greatest, u, m, d, n, s, dst + 1);
+        return;
+    }
+    word_run(plane, greatest, u, m, d, n, s, dst + 1);
+}
+
 // Inner: the least, or the greatest, samples round the cells of chroma row j, to s from dst on.
 pub fn extreme_row(
     layout: Layout,
@@ -65,9 +114,11 @@ pub fn extreme_row(
     ensures { λ _. ⌜ now (s .exit) ≡ extremeRow layout (record { bytes = now (plane .entry); stride = stride }) greatest j dst (now (s .entry)) ⌝ }
 {
     let n = layout.cw;
-    let mut i = 0;
-    while i < n {
-        s[dst + i] = extreme_at(layout, plane, stride, greatest, j, i);
-        i += 1;
+    if n < 2 {
+        extreme_run(layout, plane, stride, greatest, j, s, dst, 0, n);
+        return;
     }
+    extreme_run(layout, plane, stride, greatest, j, s, dst, 0, 1);
+    extreme_inner(layout, plane, stride, greatest, j, s, dst);
+    extreme_run(layout, plane, stride, greatest, j, s, dst, n - 1, 1);
 }

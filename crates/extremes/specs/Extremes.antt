@@ -1,0 +1,37 @@
+-- The least and greatest samples round the cells of a chroma row, as the inner functions' contracts say them. Definitions only.
+use mathlib.Core.Bool.{Bool, true, false}
+use mathlib.Core.List.{List}
+use Prim.Native.Nat.{ℕ, _+_, _*_, min, max}
+use lib.Ieee.{Float}
+use Rattle.laws.specs.Lists.{put}
+use Rattle.image.specs.declared.layout.Layout.{Layout}
+use Rattle.image.specs.Samples.{Plane, sampleOf, sampleAt}
+use Rattle.fround.specs.Rounding.{fmin, fmax}
+use Rattle.guided.specs.Guided.{extremeOf}
+
+-- the greater or the smaller of two
+abbrev pub opOf : Bool → Float → Float → Float
+opOf true = fmax
+opOf false = fmin
+
+-- those of the cells from, .. from + n - 1 of chroma row j, put at dst + from
+unfoldable pub extremeRun : Layout → Plane → Bool → ℕ → ℕ → ℕ → ℕ → List Float → List Float
+extremeRun l p greatest j dst from n s = put s (dst + from) n (λ i. extremeOf l (opOf greatest) (sampleAt (l .«sample_bytes») p) j (from + i))
+
+-- and of all of them, put at dst
+unfoldable pub extremeRow : Layout → Plane → Bool → ℕ → ℕ → List Float → List Float
+extremeRow l p greatest j dst s = put s dst (l .cw) (extremeOf l (opOf greatest) (sampleAt (l .«sample_bytes») p) j)
+
+-- ---- in whole numbers
+
+abbrev pub wholeOp : Bool → ℕ → ℕ → ℕ
+wholeOp true = max
+wholeOp false = min
+
+-- of three samples of a row, the first of which begins at `at`
+unfoldable pub threeFrom : Bool → ℕ → List ℕ → ℕ → ℕ
+threeFrom greatest bytes plane at = wholeOp greatest (wholeOp greatest (sampleOf bytes plane at) (sampleOf bytes plane (at + bytes))) (sampleOf bytes plane (at + 2 * bytes))
+
+-- of nine, three from each of u, m and d on
+unfoldable pub nineFrom : Bool → ℕ → List ℕ → ℕ → ℕ → ℕ → ℕ
+nineFrom greatest bytes plane u m d = wholeOp greatest (wholeOp greatest (threeFrom greatest bytes plane u) (threeFrom greatest bytes plane m)) (threeFrom greatest bytes plane d)
