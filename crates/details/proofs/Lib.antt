@@ -1,5 +1,4 @@
 -- Laws that the proofs and callers cite.
 pub mod Downs
 pub mod Lerps
-pub mod Steps
 pub mod Twos

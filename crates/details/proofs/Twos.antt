@@ -2,23 +2,22 @@
 use mathlib.Core.Path.{_≡_, refl, sym, ap, _∙_}
 use mathlib.Core.List.{List}
 use Prim.Native.Nat.{ℕ, _+_, _-_, _*_, _/_, _%_, _≤_, _<_, min}
+use native.Mathlib.Nat.{zero-add}
 use native.Mathlib.Omega.{arith}
-use lib.ListN.{getD}
+use lib.ListN.{getD, length}
 use lib.Ieee.{Float, nan}
-use Rattle.laws.specs.Floats.{f32, _⊕_, _⊖_, _⊗_}
+use Rattle.laws.specs.Floats.{f32, _⊖_}
 use Rattle.laws.specs.Lists.{put}
-use Rattle.laws.proofs.Lists.{put-same, put-after, put-chain}
+use Rattle.laws.proofs.Lists.{put-same, put-after, put-chain, Run, run-inside, run-run}
 use Rattle.image.specs.declared.layout.Layout.{Layout}
 use Rattle.image.specs.Tests.{Sound, divCeil}
 use Rattle.image.specs.Samples.{Plane, sampleAt}
 use Rattle.resample.specs.Rows.{cellAt}
 use Rattle.resample.specs.Taps.{lerpOf, fractionOf, phaseOf}
-use Rattle.guided.specs.Guided.{acrossTo, detailOf, valueOf}
-use Rattle.details.specs.declared.pixels.Bands.{Bands}
-use Rattle.details.specs.declared.pixels.Pair.{Pair}
-use Rattle.fround.specs.Rounding.{fmin, fmax}
-use Rattle.details.specs.Pixels.{pairOf, detailRun, BandsInside, valueAt, valuePair, valueRun}
-use Rattle.details.proofs.Lerps.{none-plus, across-same, value-same}
+use Rattle.guided.specs.Guided.{acrossTo, detailOf}
+use Rattle.details.specs.declared.pairs.Pair.{Pair}
+use Rattle.details.specs.Pixels.{pairOf, detailRun, detailIn, detailPair}
+use Rattle.details.proofs.Lerps.{none-plus, across-same}
 
 -- the pixels of cell i + 1
 pub pair-is : (g : ℕ → Float) (i : ℕ) (u v : Float) → u ≡ lerpOf (g i) (g (i + 1)) (fractionOf 3 4) → v ≡ lerpOf (g (i + 1)) (g (i + 2)) (fractionOf 1 4) → record { left = u; right = v } ≡ pairOf g i
@@ -41,6 +40,26 @@ pair-right l g i p e k h =
     let m : min (i + 1 + 1) (l .cw - 1) ≡ i + 2 = omega arith in
     ap (λ (u : Pair). u .right) h ∙ rw (e, q, r, m) refl
 
+-- a pair's pixels, counted from the first of a run of pairs that begins at cell i + 1
+pub pair-turn : (F : ℕ → Float) (i b : ℕ) (u v : Float) → u ≡ F (2 + 2 * (i + b)) → v ≡ F (2 + (2 * (i + b) + 1)) → (u ≡ F (2 + 2 * i + 2 * b)) × (v ≡ F (2 + 2 * i + (2 * b + 1)))
+pair-turn F i b u v p q =
+    let e : 2 + 2 * (i + b) ≡ 2 + 2 * i + 2 * b = omega arith in
+    let h : 2 + (2 * (i + b) + 1) ≡ 2 + 2 * i + (2 * b + 1) = omega arith in
+    (p ∙ ap F e, q ∙ ap F h)
+
+-- what a block of pixels holds, once it is filled from the front
+pub block-at : {xs ys : List Float} {f : ℕ → Float} (n : ℕ) → Run xs ys 0 n f → (k : ℕ) → k < n → n ≤ length xs → getD ys k nan ≡ f k
+block-at n r k h b = rw (zero-add k) at (run-inside r k nan h (rw (zero-add n) b))
+
+-- a block behind the n blocks that were stored: pixel k of it is F of 2 + 16·n + k
+pub lanes-more : {xs ys : List Float} {at : ℕ} (n : ℕ) (F : ℕ → Float) → Run xs ys at (16 * n) (λ k. F (2 + k)) → (zs block : List Float) → zs ≡ put ys (at + 16 * n) 16 (λ k. getD block k nan) → ((k : ℕ) → k < 16 → getD block k nan ≡ F (2 + 2 * (8 * n) + k))
+    → Run xs zs at (16 * (n + 1)) (λ k. F (2 + k))
+lanes-more {xs} {ys} {at} n F r zs block e h =
+    run-run r zs (at + 16 * n) (16 * (n + 1)) 16 (e ∙ put-same ys (at + 16 * n) 16 _ _ (λ k q. h k q ∙ ap F (place k))) refl (omega arith)
+  where
+    place : (k : ℕ) → 2 + 2 * (8 * n) + k ≡ 2 + (16 * n + k)
+    place k = omega arith
+
 -- the cells but the first and the last have both pixels inside the picture
 pub pairs-inside : (l : Layout) → Sound l → l .rh ≡ 2 → 2 ≤ l .cw → 2 + 2 * (l .cw - 2) ≤ l .w
 unfolding divCeil
@@ -50,7 +69,7 @@ pairs-inside l o e h = half (l .w) (l .cw) (o .cw-is ∙ ap (λ (r : ℕ). (l .w
     half w c q k = omega arith
 
 -- m values from `from` on and then k more are one run, where a value looks only at what lies from `low` on
-row-chain : (F : List Float → ℕ → Float) (low dst from m k : ℕ) (s : List Float) → dst + from + m ≤ low
+pub row-chain : (F : List Float → ℕ → Float) (low dst from m k : ℕ) (s : List Float) → dst + from + m ≤ low
     → ((xs ys : List Float) → ((q : ℕ) → low ≤ q → getD ys q nan ≡ getD xs q nan) → (i : ℕ) → i < from + m + k → F ys i ≡ F xs i)
     → put (put s (dst + from) m (λ i. F s (from + i))) (dst + (from + m)) k (λ i. F (put s (dst + from) m (λ i. F s (from + i))) (from + m + i)) ≡ put s (dst + from) (m + k) (λ i. F s (from + i))
 row-chain F low dst from m k s h keeps =
@@ -63,17 +82,21 @@ row-chain F low dst from m k s h keeps =
     place : (a b c : ℕ) → a + (b + c) ≡ a + b + c
     place a b c = omega arith
 
-whole : (a n : ℕ) → a ≤ n → a + (n - a) ≡ n
+pub whole : (a n : ℕ) → a ≤ n → a + (n - a) ≡ n
 whole a n h = omega arith
 
 -- ---- the detail
 
 module _ (l : Layout) (o : Sound l) (p : Plane) (y src dst : ℕ) (h : dst + l .w ≤ src) where
-  detail-chain : (from m k : ℕ) (s : List Float) → from + m + k ≤ l .w → detailRun l p y src dst (from + m) k (detailRun l p y src dst from m s) ≡ detailRun l p y src dst from (m + k) s
-  unfolding detailRun detailOf
+  -- what is written before the cells leaves the detail
+  pub detail-same : (xs ys : List Float) (i : ℕ) → i < l .w → ((q : ℕ) → src ≤ q → getD ys q nan ≡ getD xs q nan) → detailIn l p y ys src i ≡ detailIn l p y xs src i
+  unfolding detailOf
+  detail-same xs ys i r e = ap (λ (v : Float). f32 (sampleAt (l .«sample_bytes») p i y) ⊖ v) (across-same l o (cellAt ys src) (cellAt xs src) i r (λ k t. e (src + k) (omega arith)))
+
+  pub detail-chain : (from m k : ℕ) (s : List Float) → from + m + k ≤ l .w → detailRun l p y src dst (from + m) k (detailRun l p y src dst from m s) ≡ detailRun l p y src dst from (m + k) s
+  unfolding detailRun
   detail-chain from m k s q =
-      row-chain (λ s x. detailOf l (cellAt s src) (f32 (sampleAt (l .«sample_bytes») p x y)) x) src dst from m k s (omega arith) (λ xs ys e i r.
-      ap (λ (v : Float). f32 (sampleAt (l .«sample_bytes») p i y) ⊖ v) (across-same l o (cellAt ys src) (cellAt xs src) i (omega arith) (λ k t. e (src + k) (omega arith))))
+      row-chain (λ s x. detailIn l p y s src x) src dst from m k s (omega arith) (λ xs ys e i r. detail-same xs ys i (omega arith) e)
 
   -- a row: the first cell's pixels, pairs, and the rest
   pub detail-parts : (m : ℕ) (s : List Float) → 2 + m ≤ l .w → detailRun l p y src dst (2 + m) (l .w - (2 + m)) (detailRun l p y src dst 2 m (detailRun l p y src dst 0 2 s)) ≡ detailRun l p y src dst 0 (l .w) s
@@ -84,38 +107,13 @@ module _ (l : Layout) (o : Sound l) (p : Plane) (y src dst : ℕ) (h : dst + l .
       ∙ detail-chain 0 (2 + m) (l .w - (2 + m)) s (omega arith)
       ∙ ap (λ (k : ℕ). run 0 k s) (whole (2 + m) (l .w) q)
 
--- ---- a component's values
+-- ---- a pair's detail
 
-module _ (l : Layout) (gc ga lo hi : ℕ → Float) (d : Float) (i : ℕ) (c a : Pair) (v : Float) (e : l .rh ≡ 2) (p : c ≡ pairOf gc i) (q : a ≡ pairOf ga i) where
-  pub value-left : v ≡ fmin (fmax (c .left ⊕ a .left ⊗ d) (lo (i + 1))) (hi (i + 1)) → v ≡ valueOf l gc ga lo hi d (2 + 2 * i)
-  unfolding valueOf
-  value-left r =
-      let n : (2 + 2 * i) / 2 ≡ i + 1 = omega arith in
-      r ∙ rw (pair-left l gc i c e p, pair-left l ga i a e q, ap (λ (k : ℕ). (2 + 2 * i) / k) e ∙ n) refl
+module _ (l : Layout) (p : Plane) (y : ℕ) (s : List Float) (src i : ℕ) where
+  pub detail-pair-is : (u v : Float) → u ≡ detailIn l p y s src (2 + 2 * i) → v ≡ detailIn l p y s src (2 + (2 * i + 1)) → record { left = u; right = v } ≡ detailPair l p y s src i
+  unfolding detailPair
+  detail-pair-is u v e q = rw (e, q) refl
 
-  pub value-right : i + 2 < l .cw → v ≡ fmin (fmax (c .right ⊕ a .right ⊗ d) (lo (i + 1))) (hi (i + 1)) → v ≡ valueOf l gc ga lo hi d (2 + (2 * i + 1))
-  unfolding valueOf
-  value-right k r =
-      let n : (2 + (2 * i + 1)) / 2 ≡ i + 1 = omega arith in
-      r ∙ rw (pair-right l gc i c e k p, pair-right l ga i a e k q, ap (λ (k : ℕ). (2 + (2 * i + 1)) / k) e ∙ n) refl
-
-pub value-pair-is : (l : Layout) (s : List Float) (t : Bands) (i : ℕ) (u v : Float) → u ≡ valueAt l s t (2 + 2 * i) → v ≡ valueAt l s t (2 + (2 * i + 1)) → record { left = u; right = v } ≡ valuePair l s t i
-unfolding valuePair
-value-pair-is l s t i u v p q = rw (p, q) refl
-
-pub value-pair-at : (l : Layout) (s : List Float) (t : Bands) (i : ℕ) (p : Pair) → p ≡ valuePair l s t i → (p .left ≡ valueAt l s t (2 + 2 * i)) × (p .right ≡ valueAt l s t (2 + (2 * i + 1)))
-unfolding valuePair
-value-pair-at l s t i p e = (ap (λ (u : Pair). u .left) e, ap (λ (u : Pair). u .right) e)
-
-module _ (l : Layout) (o : Sound l) (t : Bands) (len dst : ℕ) (b : BandsInside t (3 * l .w) (l .cw) len) (h : dst ≤ l .w) where
-  value-chain : (from m k : ℕ) (s : List Float) → from + m + k ≤ l .w → valueRun l t dst (from + m) k (valueRun l t dst from m s) ≡ valueRun l t dst from (m + k) s
-  unfolding valueRun
-  value-chain from m k s q = row-chain (λ s x. valueAt l s t x) (2 * l .w) dst from m k s (omega arith) (λ xs ys e i r. value-same l o t xs ys len i b (omega arith) e)
-
-  pub value-parts : (m : ℕ) (s : List Float) → 2 + m ≤ l .w → valueRun l t dst (2 + m) (l .w - (2 + m)) (valueRun l t dst 2 m (valueRun l t dst 0 2 s)) ≡ valueRun l t dst 0 (l .w) s
-  value-parts m s q =
-      let run : ℕ → ℕ → List Float → List Float = valueRun l t dst in
-      ap (run (2 + m) (l .w - (2 + m))) (value-chain 0 2 m s (omega arith))
-      ∙ ap (λ (f : ℕ). run f (l .w - (2 + m)) (run 0 (2 + m) s)) (sym (none-plus (2 + m)))
-      ∙ value-chain 0 (2 + m) (l .w - (2 + m)) s (omega arith)
-      ∙ ap (λ (k : ℕ). run 0 k s) (whole (2 + m) (l .w) q)
+  pub detail-pair-at : (r : Pair) → r ≡ detailPair l p y s src i → (r .left ≡ detailIn l p y s src (2 + 2 * i)) × (r .right ≡ detailIn l p y s src (2 + (2 * i + 1)))
+  unfolding detailPair
+  detail-pair-at r e = (ap (λ (u : Pair). u .left) e, ap (λ (u : Pair). u .right) e)

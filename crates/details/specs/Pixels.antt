@@ -1,7 +1,7 @@
 -- The pixels of a picture row over lent scratch, as the inner functions' contracts say them. Definitions only.
 use mathlib.Core.Bool.{cond}
 use mathlib.Core.List.{List}
-use Prim.Native.Nat.{ℕ, _+_, _-_, _*_, _≤_, min}
+use Prim.Native.Nat.{ℕ, _+_, _-_, _*_, min}
 use lib.Ieee.{Float}
 use Rattle.laws.specs.Floats.{f32}
 use Rattle.laws.specs.Lists.{put}
@@ -10,11 +10,9 @@ use Rattle.image.specs.Samples.{Plane, sampleAt}
 use Rattle.resample.specs.declared.taps.Phase.{Phase}
 use Rattle.resample.specs.Taps.{lerpOf, fractionOf}
 use Rattle.resample.specs.Rows.{cellAt}
-use Rattle.image.specs.Picture.{Chroma}
-use Rattle.guided.specs.Guided.{detailOf, valueOf}
-use Rattle.guided.specs.Scratch.{detailAt, finishedAt, columnAt, columnOf}
-use Rattle.details.specs.declared.pixels.Bands.{Bands}
-use Rattle.details.specs.declared.pixels.Pair.{Pair}
+use Rattle.guided.specs.Guided.{detailOf}
+use Rattle.guided.specs.Scratch.{detailAt, columnAt}
+use Rattle.details.specs.declared.pairs.Pair.{Pair}
 
 -- cell i of the n cells g, lerped across by a phase
 unfoldable pub phased : (ℕ → Float) → ℕ → Phase → ℕ → Float
@@ -24,40 +22,18 @@ phased g n p i = cond (p .left) (lerpOf (g (i - 1)) (g i) (p .f)) (lerpOf (g i) 
 unfoldable pub pairOf : (ℕ → Float) → ℕ → Pair
 pairOf g i = record { left = lerpOf (g i) (g (i + 1)) (fractionOf 3 4); right = lerpOf (g (i + 1)) (g (i + 2)) (fractionOf 1 4) }
 
--- the detail of columns from, .. from + n - 1 of row y by the cells at src, put at dst + from
+-- the detail of column x of row y by the cells at src
+abbrev pub detailIn : Layout → Plane → ℕ → List Float → ℕ → ℕ → Float
+detailIn l p y s src x = detailOf l (cellAt s src) (f32 (sampleAt (l .«sample_bytes») p x y)) x
+
+-- of the two pixels of cell i + 1 at ratio 2
+unfoldable pub detailPair : Layout → Plane → ℕ → List Float → ℕ → ℕ → Pair
+detailPair l p y s src i = record { left = detailIn l p y s src (2 + 2 * i); right = detailIn l p y s src (2 + (2 * i + 1)) }
+
+-- of columns from, .. from + n - 1, put at dst + from
 unfoldable pub detailRun : Layout → Plane → ℕ → ℕ → ℕ → ℕ → ℕ → List Float → List Float
-detailRun l p y src dst from n s = put s (dst + from) n (λ i. detailOf l (cellAt s src) (f32 (sampleAt (l .«sample_bytes») p (from + i) y)) (from + i))
+detailRun l p y src dst from n s = put s (dst + from) n (λ i. detailIn l p y s src (from + i))
 
 -- and of all columns by luma's row of cells, put where the detail lies
 unfoldable pub detailLine : Layout → Plane → ℕ → List Float → List Float
 detailLine l p y s = put s (detailAt l) (l .w) (λ x. detailOf l (cellAt s (columnAt l 0)) (f32 (sampleAt (l .«sample_bytes») p x y)) x)
-
--- a component's four rows of cells
-unfoldable pub bandsOf : Layout → Chroma → Bands
-bandsOf l k = record { cells = columnAt l (columnOf k + 0); slopes = columnAt l (columnOf k + 1); least = columnAt l (columnOf k + 2); greatest = columnAt l (columnOf k + 3) }
-
--- a row of n cells lies behind the first `low` values and within `len`
-pub record Band (at low n len : ℕ) : Type 0 where
-  pub behind : low ≤ at
-  pub fits : at + n ≤ len
-
-pub record BandsInside (t : Bands) (low n len : ℕ) : Type 0 where
-  pub cells : Band (t .cells) low n len
-  pub slopes : Band (t .slopes) low n len
-  pub least : Band (t .least) low n len
-  pub greatest : Band (t .greatest) low n len
-
--- a component's value in column x, from its rows of cells and the detail
-unfoldable pub valueAt : Layout → List Float → Bands → ℕ → Float
-valueAt l s t x = valueOf l (cellAt s (t .cells)) (cellAt s (t .slopes)) (cellAt s (t .least)) (cellAt s (t .greatest)) (cellAt s (detailAt l) x) x
-
--- its values in the two pixels of cell i + 1 at ratio 2
-unfoldable pub valuePair : Layout → List Float → Bands → ℕ → Pair
-valuePair l s t i = record { left = valueAt l s t (2 + 2 * i); right = valueAt l s t (2 + (2 * i + 1)) }
-
--- those of columns from, .. from + n - 1, put at dst + from, and of all columns, put where the finished row lies
-unfoldable pub valueRun : Layout → Bands → ℕ → ℕ → ℕ → List Float → List Float
-valueRun l t dst from n s = put s (dst + from) n (λ i. valueAt l s t (from + i))
-
-unfoldable pub valueRow : Layout → Chroma → List Float → List Float
-valueRow l k s = put s (finishedAt l k) (l .w) (valueAt l s (bandsOf l k))

@@ -1,11 +1,13 @@
-// A picture row of luma-guided reconstruction from the window's rows: the original's GuidedRows::row.
+// The rows of cells of a picture row, lerped down from the window, and its detail: luma less what its cells lerp to.
 mod columns;
-mod pixels;
-mod row;
+mod detail;
+mod pairs;
 
 pub use columns::column_at;
 pub use columns::down_column;
-pub use pixels::Bands;
-pub use pixels::detail_row;
-pub use pixels::value_row;
-pub use row::guided_row;
+pub use detail::detail_row;
+pub use pairs::Lanes;
+pub use pairs::Pair;
+pub use pairs::across_pixel;
+pub use pairs::pair_at;
+pub use pairs::put_block;

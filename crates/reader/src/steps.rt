@@ -128,7 +128,7 @@ pub fn row_steps(
         done.f_next,
         s,
     );
-    details::guided_row(
+    values::guided_row(
         layout,
         y,
         y_stride,

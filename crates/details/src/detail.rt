@@ -1,0 +1,199 @@
+// The detail of a picture row: luma less what its cells lerp to.
+ghost use mathlib.Core.Path.{_≡_};
+ghost use Prim.Native.Nat.{ℕ, _+_, _*_, _≤_, _<_};
+ghost use lib.Ieee.{nan};
+ghost use lib.ListN.{length, getD};
+ghost use Rattle.resample.specs.Linear.{scratchNeed};
+ghost use Rattle.sums.specs.Luma.{Cells};
+ghost use Rattle.details.specs.Pixels.{detailIn, detailPair, detailRun, detailLine};
+use super::columns::column_at;
+use super::pairs::Lanes;
+use super::pairs::Pair;
+use super::pairs::across_pixel;
+use super::pairs::pair_at;
+use super::pairs::put_block;
+use extremes::sample_at;
+use image::Layout;
+
+// The detail of n columns of row y, from column `from` on: luma less the cells at src lerped across.
+fn detail_run(
+    layout: Layout,
+    plane: &[u8],
+    stride: usize,
+    y: usize,
+    s: &mut [f32],
+    src: usize,
+    dst: usize,
+    from: usize,
+    n: usize,
+)
+    requires { ⌜ Cells layout (record { bytes = now plane; stride = stride }) × (y < layout .h) × (from + n ≤ layout .w) ⌝ }
+    requires { ⌜ (dst + layout .w ≤ src) × (src + layout .cw ≤ length (now s)) ⌝ }
+    ensures { λ _. ⌜ now (s .exit) ≡ detailRun layout (record { bytes = now (plane .entry); stride = stride }) y src dst from n (now (s .entry)) ⌝ }
+{
+    let w = layout.w;
+    let h = layout.h;
+    let mut i = 0;
+    while i < n {
+        let x = from + i;
+        let v = across_pixel(layout, s, src, x);
+        s[dst + from + i] = sample_at(layout, plane, stride, w, h, x, y) - v;
+        i += 1;
+    }
+}
+
+// The detail of the pixels of cell i + 1 at ratio 2: no phase and no edge is looked at.
+fn detail_pair(
+    layout: Layout,
+    plane: &[u8],
+    stride: usize,
+    y: usize,
+    s: &[f32],
+    src: usize,
+    i: usize,
+) -> Pair
+    requires { ⌜ Cells layout (record { bytes = now plane; stride = stride }) × (y < layout .h) × (layout .rh ≡ 2) × (i + 3 ≤ layout .cw) × (2 * i + 4 ≤ layout .w) ⌝ }
+    requires { ⌜ src + layout .cw ≤ length (now s) ⌝ }
+    ensures { λ r. ⌜ r ≡ detailPair layout (record { bytes = now (plane .entry); stride = stride }) y (now (s .entry)) src i ⌝ }
+{
+    let w = layout.w;
+    let h = layout.h;
+    let p = pair_at(s, src, i);
+    Pair {
+        left: sample_at(layout, plane, stride, w, h, 2 + 2 * i, y) - p.left,
+        right: sample_at(layout, plane, stride, w, h, 2 + (2 * i + 1), y) - p.right,
+    }
+}
+
+// Of the pixels of eight cells, from cell i + 1 on.
+fn detail_block(
+    layout: Layout,
+    plane: &[u8],
+    stride: usize,
+    y: usize,
+    s: &[f32],
+    src: usize,
+    i: usize,
+) -> [f32; Lanes::PIXELS]
+    requires { ⌜ Cells layout (record { bytes = now plane; stride = stride }) × (y < layout .h) × (layout .rh ≡ 2) × (i + 10 ≤ layout .cw) × (2 * i + 18 ≤ layout .w) ⌝ }
+    requires { ⌜ src + layout .cw ≤ length (now s) ⌝ }
+    ensures { λ r. ⌜ ((k : ℕ) → k < 16 → getD r k nan ≡ detailIn layout (record { bytes = now (plane .entry); stride = stride }) y (now (s .entry)) src (2 + 2 * i + k)) ⌝ }
+{
+    let mut block = [0.0f32; Lanes::PIXELS];
+    for b in 0..Lanes::CELLS {
+        let p = detail_pair(layout, plane, stride, y, s, src, i + b);
+        block[2 * b] = p.left;
+        block[2 * b + 1] = p.right;
+    }
+    block
+}
+
+// Of n such blocks, from cell 1 on.
+fn detail_blocks(
+    layout: Layout,
+    plane: &[u8],
+    stride: usize,
+    y: usize,
+    s: &mut [f32],
+    src: usize,
+    dst: usize,
+    n: usize,
+)
+    requires { ⌜ Cells layout (record { bytes = now plane; stride = stride }) × (y < layout .h) × (layout .rh ≡ 2) × (8 * n + 2 ≤ layout .cw) × (16 * n + 2 ≤ layout .w) ⌝ }
+    requires { ⌜ (dst + layout .w ≤ src) × (src + layout .cw ≤ length (now s)) ⌝ }
+    ensures { λ _. ⌜ now (s .exit) ≡ detailRun layout (record { bytes = now (plane .entry); stride = stride }) y src dst 2 (16 * n) (now (s .entry)) ⌝ }
+{
+    let mut i = 0;
+    while i < n {
+        let block = detail_block(layout, plane, stride, y, s, src, 8 * i);
+        put_block(s, dst + 2 + 16 * i, block);
+        i += 1;
+    }
+}
+
+// Of n cells, from cell `from` + 1 on.
+fn detail_pairs(
+    layout: Layout,
+    plane: &[u8],
+    stride: usize,
+    y: usize,
+    s: &mut [f32],
+    src: usize,
+    dst: usize,
+    from: usize,
+    n: usize,
+)
+    requires { ⌜ Cells layout (record { bytes = now plane; stride = stride }) × (y < layout .h) × (layout .rh ≡ 2) × (from + n + 2 ≤ layout .cw) × (2 * (from + n) + 2 ≤ layout .w) ⌝ }
+    requires { ⌜ (dst + layout .w ≤ src) × (src + layout .cw ≤ length (now s)) ⌝ }
+    ensures { λ _. ⌜ now (s .exit) ≡ detailRun layout (record { bytes = now (plane .entry); stride = stride }) y src dst (2 + 2 * from) (2 * n) (now (s .entry)) ⌝ }
+{
+    let mut i = 0;
+    while i < n {
+        let p = detail_pair(layout, plane, stride, y, s, src, from + i);
+        s[dst + (2 + 2 * from) + 2 * i] = p.left;
+        s[dst + (2 + 2 * from) + 2 * i + 1] = p.right;
+        i += 1;
+    }
+}
+
+// Of the n cells between the first and the last: blocks, then pairs.
+fn detail_inner(
+    layout: Layout,
+    plane: &[u8],
+    stride: usize,
+    y: usize,
+    s: &mut [f32],
+    src: usize,
+    dst: usize,
+    n: usize,
+)
+    requires { ⌜ Cells layout (record { bytes = now plane; stride = stride }) × (y < layout .h) × (layout .rh ≡ 2) × (n + 2 ≤ layout .cw) × (2 + 2 * n ≤ layout .w) ⌝ }
+    requires { ⌜ (dst + layout .w ≤ src) × (src + layout .cw ≤ length (now s)) ⌝ }
+    ensures { λ _. ⌜ now (s .exit) ≡ detailRun layout (record { bytes = now (plane .entry); stride = stride }) y src dst 2 (2 * n) (now (s .entry)) ⌝ }
+{
+    let k = n / Lanes::CELLS;
+    let m = 8 * k;
+    detail_blocks(layout, plane, stride, y, s, src, dst, k);
+    detail_pairs(layout, plane, stride, y, s, src, dst, m, n - m);
+}
+
+// The detail of a row at ratio 2: edge, pairs, edge.
+fn detail_twos(
+    layout: Layout,
+    plane: &[u8],
+    stride: usize,
+    y: usize,
+    s: &mut [f32],
+    src: usize,
+    dst: usize,
+)
+    requires { ⌜ Cells layout (record { bytes = now plane; stride = stride }) × (y < layout .h) × (layout .rh ≡ 2) ⌝ }
+    requires { ⌜ (dst + layout .w ≤ src) × (src + layout .cw ≤ length (now s)) ⌝ }
+    ensures { λ _. ⌜ now (s .exit) ≡ detailRun layout (record { bytes = now (plane .entry); stride = stride }) y src dst 0 (layout .w) (now (s .entry)) ⌝ }
+{
+    let w = layout.w;
+    if layout.cw < 2 {
+        detail_run(layout, plane, stride, y, s, src, dst, 0, w);
+        return;
+    }
+    let n = layout.cw - 2;
+    let m = 2 * n;
+    detail_run(layout, plane, stride, y, s, src, dst, 0, 2);
+    detail_inner(layout, plane, stride, y, s, src, dst, n);
+    detail_run(layout, plane, stride, y, s, src, dst, 2 + m, w - (2 + m));
+}
+
+// Inner: the detail of row y, from luma's row of cells.
+pub fn detail_row(layout: Layout, plane: &[u8], stride: usize, y: usize, s: &mut [f32])
+    requires { ⌜ Cells layout (record { bytes = now plane; stride = stride }) × (y < layout .h) × (scratchNeed layout ≤ length (now s)) ⌝ }
+    ensures { λ _. ⌜ now (s .exit) ≡ detailLine layout (record { bytes = now (plane .entry); stride = stride }) y (now (s .entry)) ⌝ }
+{
+    let src = column_at(layout, 0);
+    let w = layout.w;
+    let dst = 2 * w;
+    if layout.rh != 2 {
+        detail_run(layout, plane, stride, y, s, src, dst, 0, w);
+        return;
+    }
+    detail_twos(layout, plane, stride, y, s, src, dst);
+}

@@ -1,0 +1,70 @@
+// Cells lerped across: by any phase, and by pairs of pixels at ratio 2.
+ghost use mathlib.Core.Path.{_≡_};
+ghost use Prim.Native.Nat.{_+_, _≤_, _<_};
+ghost use lib.Ieee.{nan};
+ghost use lib.ListN.{length, getD};
+ghost use Rattle.laws.specs.Lists.{put};
+ghost use Rattle.image.specs.Tests.{Sound};
+ghost use Rattle.resample.specs.Rows.{cellAt};
+ghost use Rattle.guided.specs.Guided.{acrossTo};
+ghost use Rattle.details.specs.Pixels.{phased, pairOf};
+use image::Layout;
+use resample::Phase;
+
+// Cell i of the cw cells at src, lerped across by a phase.
+fn across_at(s: &[f32], src: usize, cw: usize, p: Phase, i: usize) -> f32
+    requires { ⌜ (i < cw) × (src + cw ≤ length (now s)) ⌝ }
+    ensures { λ r. ⌜ r ≡ phased (cellAt (now (s .entry)) src) cw p i ⌝ }
+{
+    if p.left {
+        let l = sums::prev(i);
+        return resample::lerp(s[src + l], s[src + i], p.f);
+    }
+    let r = sums::next(i, cw);
+    resample::lerp(s[src + i], s[src + r], p.f)
+}
+
+// Inner: the cells at src, lerped across at column x.
+pub fn across_pixel(layout: Layout, s: &[f32], src: usize, x: usize) -> f32
+    requires { ⌜ Sound layout × (x < layout .w) × (src + layout .cw ≤ length (now s)) ⌝ }
+    ensures { λ r. ⌜ r ≡ acrossTo layout (cellAt (now (s .entry)) src) x ⌝ }
+{
+    let p = resample::phase_of(layout.rh, x % layout.rh);
+    across_at(s, src, layout.cw, p, x / layout.rh)
+}
+
+pub struct Lanes;
+
+impl Lanes {
+    pub const CELLS: usize = 8;
+
+    pub const PIXELS: usize = 16;
+}
+
+// Inner: a block of values, to s from `at` on.
+pub fn put_block(s: &mut [f32], at: usize, block: [f32; Lanes::PIXELS])
+    requires { ⌜ at + 16 ≤ length (now s) ⌝ }
+    ensures { λ _. ⌜ now (s .exit) ≡ put (now (s .entry)) at 16 (λ k. getD block k nan) ⌝ }
+{
+    for k in 0..Lanes::PIXELS {
+        s[at + k] = block[k];
+    }
+}
+
+// The two pixels of a cell at ratio 2.
+pub struct Pair {
+    pub left: f32,
+    pub right: f32,
+}
+
+// Inner: cell i + 1 of the cells at src, lerped across at ratio 2: no edge is met.
+pub fn pair_at(s: &[f32], src: usize, i: usize) -> Pair
+    requires { ⌜ src + i + 3 ≤ length (now s) ⌝ }
+    ensures { λ p. ⌜ p ≡ pairOf (cellAt (now (s .entry)) src) i ⌝ }
+{
+    let b = s[src + (i + 1)];
+    Pair {
+        left: resample::lerp(s[src + i], b, 3.0 / 4.0),
+        right: resample::lerp(b, s[src + (i + 2)], 1.0 / 4.0),
+    }
+}

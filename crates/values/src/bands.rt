@@ -1,0 +1,47 @@
+// Where a component's rows of cells and its finished row lie in scratch.
+ghost use mathlib.Core.Path.{_≡_};
+ghost use Prim.Native.Nat.{_≤_};
+ghost use Rattle.image.specs.Tests.{Sound};
+ghost use Rattle.guided.specs.Scratch.{finishedAt, columnOf};
+ghost use Rattle.sums.specs.Slopes.{chromaOf};
+ghost use Rattle.values.specs.Values.{bandsOf};
+use image::Layout;
+
+// Where a component's four rows of cells begin.
+pub struct Bands {
+    pub cells: usize,
+    pub slopes: usize,
+    pub least: usize,
+    pub greatest: usize,
+}
+
+// Inner: the number of a component's first row of cells.
+pub fn column_of(cr: bool) -> usize
+    ensures { λ r. ⌜ (r ≡ columnOf (chromaOf cr)) × (r ≤ 5) ⌝ }
+{
+    if cr { 5 } else { 1 }
+}
+
+// Inner: where a component's finished row begins.
+pub fn finished_at(layout: Layout, cr: bool) -> usize
+    ensures { λ r. ⌜ r ≡ finishedAt layout (chromaOf cr) ⌝ }
+{
+    if cr {
+        return layout.w;
+    }
+    0
+}
+
+// Inner: where they begin.
+pub fn bands_of(layout: Layout, cr: bool) -> Bands
+    requires { ⌜ Sound layout ⌝ }
+    ensures { λ t. ⌜ t ≡ bandsOf layout (chromaOf cr) ⌝ }
+{
+    let m = column_of(cr);
+    Bands {
+        cells: details::column_at(layout, m),
+        slopes: details::column_at(layout, m + 1),
+        least: details::column_at(layout, m + 2),
+        greatest: details::column_at(layout, m + 3),
+    }
+}
