@@ -1,4 +1,5 @@
 -- The laws of specs/, a file for each topic.
+pub mod Counts
 pub mod Lists
 pub mod Rows
 pub mod Refusals

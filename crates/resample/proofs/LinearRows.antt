@@ -25,6 +25,7 @@ use Rattle.resample.specs.Taps.{tapOf, TapGiven}
 use Rattle.resample.specs.Linear.{downBy, acrossBy, linearDown, linearSample, linearRow, linearScratch, columnAt, scratchNeed, linearTests, Ready}
 use Rattle.resample.specs.Rows.{cellAt, downRun, acrossRun, storeRun}
 use Rattle.resample.proofs.Spots.{tap-given}
+use Rattle.laws.proofs.Counts.{none-plus, plus-none}
 
 -- down by the row's tap
 pub down-is : (l : Layout) (p : Plane) (y : ℕ) (t : Tap) (s : List Float) → t ≡ tapOf (l .rv) (l .ch) y
@@ -50,12 +51,6 @@ row-is l p dst y s o h =
     ap (λ (j : ℕ). acrossBy (tapOf (l .rh) (l .cw) j) (cellAt xs (columnAt l))) (none-plus i)
     ∙ across-read s (columnAt l) (l .cw) g t h (n .i0-inside) (n .i1-inside))
   where
-    plus-none : (n : ℕ) → n + 0 ≡ n
-    plus-none n = omega arith
-
-    none-plus : (n : ℕ) → 0 + n ≡ n
-    none-plus n = omega arith
-
     within : (i : ℕ) → i < l .w → l .w ≤ l .cw * l .rh → i < l .cw * l .rh
     within i k c = omega arith
 

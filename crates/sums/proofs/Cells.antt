@@ -18,7 +18,7 @@ use Rattle.image.proofs.Planes.{short-holds, sample-inside}
 use Rattle.image.proofs.Pictures.{inside-is}
 use Rattle.guided.specs.Guided.{sumTo, lumaOf}
 use Rattle.sums.specs.Luma.{Cells, rowSum, cellSum, quadAt, quadRun, pairAt, pairRun, lumaRun, lumaRow}
-use Rattle.sums.proofs.Counts.{plus-none, none-plus, part-rest}
+use Rattle.laws.proofs.Counts.{plus-none, none-plus, part-rest}
 
 -- ---- a loop that sums: its invariant is `Summed`, and its steps are `sum-none`, `sum-more` and `sum-end`
 

@@ -1,5 +1,4 @@
 -- Laws that the proofs and callers cite.
-pub mod Counts
 pub mod Threes
 pub mod Cells
 pub mod Buffers

@@ -25,7 +25,7 @@ use Rattle.sums.specs.declared.across.Slots.{Slots}
 use Rattle.sums.specs.Parts.{SlotsGiven, components, statRows, lumaPart, chromaPart}
 use Rattle.sums.proofs.Threes.{three-same}
 use Rattle.sums.proofs.Cells.{luma-inside}
-use Rattle.sums.proofs.Buffers.{slot-fits, slots-apart}
+use Rattle.guided.proofs.Places.{slot-fits, slot-order}
 
 -- ---- a row that scratch holds
 
@@ -101,13 +101,13 @@ module _ (l : Layout) (n j : ℕ) (s : List Float) where
   -- the first of them is read back, and rows before them are left
   stat-row : (f h : ℕ → Float) → slotAt l n j + l .cw ≤ length s → Row (statRows l n f h j s) (slotAt l n j) (l .cw) f
   unfolding statRows
-  stat-row f h d = row-kept (row-kept (row-put s (slotAt l n j) (l .cw) f d) (slotAt l (n + 1) j) (l .cw) (three _⊕_ (l .cw) f) (slots-apart l n (n + 1) j (omega arith))) (slotAt l (n + 2) j) (l .cw) (three _⊕_ (l .cw) h) (slots-apart l n (n + 2) j (omega arith))
+  stat-row f h d = row-kept (row-kept (row-put s (slotAt l n j) (l .cw) f d) (slotAt l (n + 1) j) (l .cw) (three _⊕_ (l .cw) f) (slot-order l n (n + 1) j (omega arith))) (slotAt l (n + 2) j) (l .cw) (three _⊕_ (l .cw) h) (slot-order l n (n + 2) j (omega arith))
 
   stat-kept : (f h g : ℕ → Float) (m : ℕ) → m < n → Row s (slotAt l m j) (l .cw) g → Row (statRows l n f h j s) (slotAt l m j) (l .cw) g
   unfolding statRows
   stat-kept f h g m d o =
-      row-kept (row-kept (row-kept o (slotAt l n j) (l .cw) f (slots-apart l m n j d)) (slotAt l (n + 1) j) (l .cw) (three _⊕_ (l .cw) f) (slots-apart l m (n + 1) j (omega arith)))
-      (slotAt l (n + 2) j) (l .cw) (three _⊕_ (l .cw) h) (slots-apart l m (n + 2) j (omega arith))
+      row-kept (row-kept (row-kept o (slotAt l n j) (l .cw) f (slot-order l m n j d)) (slotAt l (n + 1) j) (l .cw) (three _⊕_ (l .cw) f) (slot-order l m (n + 1) j (omega arith)))
+      (slotAt l (n + 2) j) (l .cw) (three _⊕_ (l .cw) h) (slot-order l m (n + 2) j (omega arith))
 
 -- a picture's rows across, as the definition puts them
 module _ (l : Layout) (ps : Planes) (j : ℕ) where

@@ -20,8 +20,9 @@ use Rattle.guided.specs.Guided.{three, mean, slopeOf, epsilon}
 use Rattle.guided.specs.Scratch.{slotAt, firstOf, numSlope, readAcross}
 use Rattle.sums.specs.Buffers.{windowOf}
 use Rattle.sums.proofs.Blocks.{run-block}
-use Rattle.sums.proofs.Buffers.{slot-fits, window-inside, window-clear}
-use Rattle.sums.proofs.Counts.{plus-none, none-plus, part-rest}
+use Rattle.guided.proofs.Places.{slot-fits}
+use Rattle.sums.proofs.Buffers.{window-inside, window-clear}
+use Rattle.laws.proofs.Counts.{plus-none, none-plus, part-rest}
 
 pub by-same : {y y' yy yy' c c' yc yc' : Float} (eps : Float) → y ≡ y' → yy ≡ yy' → c ≡ c' → yc ≡ yc' → slopeBy y yy c yc eps ≡ slopeBy y' yy' c' yc' eps
 by-same eps p q r s = rw (p, q, r, s) refl

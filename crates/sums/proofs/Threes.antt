@@ -10,7 +10,7 @@ use Rattle.laws.specs.Lists.{put}
 use Rattle.laws.proofs.Lists.{put-same, put-before, put-chain, Run, run-more, run-before}
 use Rattle.guided.specs.Guided.{three}
 use Rattle.sums.specs.Rows.{cellsAt, productsAt, threeRun, threeRow}
-use Rattle.sums.proofs.Counts.{plus-none, none-plus}
+use Rattle.laws.proofs.Counts.{plus-none, none-plus}
 
 -- a value by its own three cells
 pub three-is : (n : ℕ) (g : ℕ → Float) (i l r : ℕ) (v : Float) → l ≡ i - 1 → r ≡ min (i + 1) (n - 1) → v ≡ g l ⊕ g i ⊕ g r → v ≡ three _⊕_ n g i

@@ -20,7 +20,7 @@ use Rattle.guided.specs.Scratch.{detailAt, finishedAt, columnAt, columnOf}
 use Rattle.guided.proofs.Places.{column-behind, column-fits, detail-place}
 use Rattle.values.specs.declared.bands.Bands.{Bands}
 use Rattle.details.proofs.Lerps.{across-same}
-use Rattle.sums.proofs.Counts.{none-plus, plus-none}
+use Rattle.laws.proofs.Counts.{none-plus, plus-none}
 use Rattle.values.specs.Values.{Band, BandsInside, bandsOf, valueAt, valueRow, valueRun}
 
 -- a value from its parts

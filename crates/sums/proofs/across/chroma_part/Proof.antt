@@ -1,6 +1,6 @@
 use Rattle.sums.proofs.ReadBack.{chroma-steps}
 use Rattle.sums.proofs.Statistics.{some}
-use Rattle.sums.proofs.Buffers.{slots-apart}
+use Rattle.guided.proofs.Places.{slot-order}
 use Rattle.sums.specs.Slopes.{chromaOf}
 use Rattle.sums.specs.Rows.{cellsAt, productsAt, threeRow}
 use Rattle.image.proofs.Planes.{short-holds, row-inside}
@@ -21,7 +21,7 @@ behind : (c : tie.After-slots-at) → c .before .before .slot-at .result + c .be
 behind c =
     let a = c .before .before .before .before .before .args in
     let f = some (chromaOf (a .cr)) in
-    let h = slots-apart (a .layout) 0 (c .before .first-of .result) (a .j) (omega arith) in
+    let h = slot-order (a .layout) 0 (c .before .first-of .result) (a .j) (omega arith) in
     omega arith
 
 slot-at-requires : tie.Need-slot-at-requires

@@ -1,4 +1,4 @@
-use Rattle.sums.proofs.Buffers.{slots-apart}
+use Rattle.guided.proofs.Places.{slot-order}
 use Prim.Native.Nat.{_+_}
 use native.Mathlib.Omega.{arith}
 use borrow.Author.Needs.{needs}
@@ -23,8 +23,8 @@ slot-at-requires-3 c κs = search needs
 returns : tie.Need-returns
 returns c =
     let a = c .before .before .before .args in
-    let p = slots-apart (a .layout) (a .n) (a .n + 1) (a .j) (omega arith) in
-    let q = slots-apart (a .layout) (a .n + 1) (a .n + 2) (a .j) (omega arith) in
+    let p = slot-order (a .layout) (a .n) (a .n + 1) (a .j) (omega arith) in
+    let q = slot-order (a .layout) (a .n + 1) (a .n + 2) (a .j) (omega arith) in
     record { at = c .before .before .slot-at .ensures .is; sums = c .before .slot-at2 .ensures .is; products = c .slot-at3 .ensures .is; sums-behind = omega arith; products-behind = omega arith; fits = c .slot-at3 .ensures .fits }
 
 pub slots-at-spec : {M : Type 1} → statement M

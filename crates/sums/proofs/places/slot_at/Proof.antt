@@ -1,4 +1,4 @@
-use Rattle.sums.proofs.Buffers.{slot-fits}
+use Rattle.guided.proofs.Places.{slot-fits}
 use Rattle.guided.specs.Scratch.{bufferAt, slotAt}
 use Rattle.resample.specs.Linear.{scratchNeed}
 use mathlib.Core.Path.{ap}

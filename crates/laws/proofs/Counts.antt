@@ -1,4 +1,4 @@
--- Counts from 0 on, which do not compute.
+-- Counts and places whose sums do not compute.
 use mathlib.Core.Path.{_≡_}
 use Prim.Native.Nat.{ℕ, _+_, _-_, _≤_}
 use native.Mathlib.Omega.{arith}
@@ -12,3 +12,6 @@ none-plus n = omega arith
 -- a part and the rest
 pub part-rest : (a n : ℕ) → a ≤ n → a + (n - a) ≡ n
 part-rest a n h = omega arith
+
+pub plus-plus : (a b c : ℕ) → a + (b + c) ≡ a + b + c
+plus-plus a b c = omega arith
