@@ -109,7 +109,8 @@ pub fn image_after(input: &[u8], before: Image) -> Image
     requires { ⌜ (accepted (before .answer) ≡ true → before .end ≤ length (now input)) ⌝ }
     ensures { λ r. ⌜ r ≡ imageBehind (now (input .entry)) before ⌝ }
 {
-    if image::refused(before.answer) {
+    let answer = before.answer;
+    if image::refused(answer) {
         return before;
     }
     image_at(input, before.end)

@@ -51,7 +51,8 @@ pub fn read(input: &[u8]) -> Reading
     let cb = image_after(input, y);
     let cr = image_after(input, cb);
     let layout = layout_of(y, cb, cr);
-    let answer = whole_answer(cr.answer, cr.end < input.len(), layout);
+    let images = cr.answer;
+    let answer = whole_answer(images, cr.end < input.len(), layout);
     match answer {
         Answer::Accepted => Reading::Read(layout, y.rows, cb.rows, cr.rows),
         Answer::Refused(n) => Reading::Refused(n),
