@@ -1,40 +1,31 @@
-use mathlib.Core.Path.{_≡_, refl, sym, ap, _∙_}
-use Prim.Native.Nat.{ℕ, _+_, _-_, _*_, _≤_, _<_}
-use native.Mathlib.Omega.{arith}
-use lib.ListN.{length, getD, set, length-set}
+use mathlib.Core.Path.{refl}
+use borrow.Author.Needs.{needs}
+use Rattle.netpbm.specs.Images.{hasNumber, fieldOf, fieldEnd}
+use Rattle.netpbm.specs.Forms.{numberHeld, fieldHeld}
 use Rattle.netpbm.proofs.images.field_at.Statement.{statement}
 use Rattle.netpbm.proofs.images.field_at.Tie as tie
-use Rattle.netpbm.proofs.images.field_at.Reads as reads
-use Rattle.netpbm.proofs.images.field_at.Lts as lts
-use Rattle.image.proofs.both.Reads as both-reads
-use Rattle.netpbm.proofs.scan.blank_at.Reads as blank-at-reads
-use Rattle.netpbm.proofs.scan.digit_at.Reads as digit-at-reads
-use Rattle.netpbm.proofs.scan.number_at.Reads as number-at-reads
-use Rattle.netpbm.proofs.scan.skip_blanks.Reads as skip-blanks-reads
 
--- src/images.rt:44:9
 skip-blanks-requires : tie.Need-skip-blanks-requires
 skip-blanks-requires c κs = search needs
 
--- src/images.rt:45:28
 blank-at-requires : tie.Need-blank-at-requires
 blank-at-requires c κs = search needs
 
--- src/images.rt:45:49
 digit-at-requires : tie.Need-digit-at-requires
 digit-at-requires c κs = search needs
 
--- src/images.rt:45:9
 both-requires : tie.Need-both-requires
 both-requires c κs = search needs
 
--- src/images.rt:46:9
 number-at-requires : tie.Need-number-at-requires
 number-at-requires c κs = search needs
 
--- src/images.rt:41:1
 returns : tie.Need-returns
-returns c = ?
+unfolding fieldHeld hasNumber fieldOf fieldEnd numberHeld
+returns c =
+    let b = c .before in
+    let d = b .before in
+    rw (c .number-at .ensures, b .both .ensures, d .digit-at .ensures, d .before .blank-at .ensures, d .before .before .skip-blanks .ensures) refl
 
 pub field-at-spec : {M : Type 1} → statement M
 field-at-spec =

@@ -1,29 +1,28 @@
-use mathlib.Core.Path.{_≡_, refl, sym, ap, _∙_}
-use Prim.Native.Nat.{ℕ, _+_, _-_, _*_, _≤_, _<_}
-use native.Mathlib.Omega.{arith}
-use lib.ListN.{length, getD, set, length-set}
+use mathlib.Core.Path.{_≡_, refl, sym, _∙_}
+use mathlib.Core.Bool.{true}
+use borrow.Author.Needs.{needs}
+use borrow.Author.Tests.{not-true, not-false}
+use Rattle.laws.specs.Refusals.{accepted}
+use Rattle.netpbm.specs.Forms.{imageBehind}
 use Rattle.netpbm.proofs.images.image_after.Statement.{statement}
 use Rattle.netpbm.proofs.images.image_after.Tie as tie
-use Rattle.netpbm.proofs.images.image_after.Reads as reads
-use Rattle.netpbm.proofs.images.image_after.Lts as lts
-use Rattle.image.proofs.refused.Reads as refused-reads
-use Rattle.netpbm.proofs.images.image_at.Reads as image-at-reads
 
--- src/images.rt:113:8
+passed : (c : tie.Else1) → accepted (c .before .before .before .args .before .answer) ≡ true
+passed c = not-false _ (sym (c .before .refused .ensures) ∙ c .if1 .left)
+
 refused-requires : tie.Need-refused-requires
 refused-requires c κs = search needs
 
--- src/images.rt:114:9
 returns : tie.Need-returns
-returns c = ?
+unfolding imageBehind
+returns c = rw (not-true (accepted (c .before .before .before .args .before .answer)) (sym (c .before .refused .ensures) ∙ c .if1 .taken)) refl
 
--- src/images.rt:116:5
 image-at-requires : tie.Need-image-at-requires
-image-at-requires c κs = search needs
+image-at-requires c κs = let p = c .before .before .before .pre in (p .0, p .1 (passed c))
 
--- src/images.rt:107:1
 returns-2 : tie.Need-returns-2
-returns-2 c = ?
+unfolding imageBehind
+returns-2 c = rw (passed (c .before)) (c .image-at .ensures)
 
 pub image-after-spec : {M : Type 1} → statement M
 image-after-spec = tie.close (tie.spec refused-requires returns image-at-requires returns-2)

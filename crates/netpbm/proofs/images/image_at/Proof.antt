@@ -1,49 +1,46 @@
-use mathlib.Core.Path.{_≡_, refl, sym, ap, _∙_}
-use Prim.Native.Nat.{ℕ, _+_, _-_, _*_, _≤_, _<_}
+use mathlib.Core.Path.{refl}
+use Prim.Native.Nat.{_*_, _≤_}
+use native.Mathlib.Nat.{mul-le-mul}
 use native.Mathlib.Omega.{arith}
-use lib.ListN.{length, getD, set, length-set}
+use borrow.Author.Needs.{needs}
+use Rattle.netpbm.specs.Forms.{Ends}
+use Rattle.netpbm.proofs.Fields.{ends-of, end-most, width-most, value-most, image-of}
 use Rattle.netpbm.proofs.images.image_at.Statement.{statement}
 use Rattle.netpbm.proofs.images.image_at.Tie as tie
-use Rattle.netpbm.proofs.images.image_at.Reads as reads
-use Rattle.netpbm.proofs.images.image_at.Lts as lts
-use Rattle.netpbm.proofs.images.field_at.Reads as field-at-reads
-use Rattle.netpbm.proofs.images.image_answer.Reads as image-answer-reads
 
--- src/images.rt:92:33
+-- the header's numbers are read
+read : (c : tie.After-field-at3) → (let a = c .before .before .before .before .args in Ends (a .input .now) (a .at) (c .before .before .field-at .result) (c .before .field-at2 .result) (c .field-at3 .result))
+read c = ends-of (c .before .before .field-at .ensures) (c .before .field-at2 .ensures) (c .field-at3 .ensures)
+
+area : (c : tie.After-field-at3) → c .before .before .field-at .result .value * c .before .field-at2 .result .value ≤ 65536 * 65536
+area c = mul-le-mul (width-most (read c)) (value-most (read c))
+
 add-field-at : tie.Need-add-field-at
 add-field-at c = omega arith
 
--- src/images.rt:92:9
 field-at-requires : tie.Need-field-at-requires
 field-at-requires c κs = search needs
 
--- src/images.rt:93:9
 field-at-requires-2 : tie.Need-field-at-requires-2
 field-at-requires-2 c κs = search needs
 
--- src/images.rt:94:9
 field-at-requires-3 : tie.Need-field-at-requires-3
 field-at-requires-3 c κs = search needs
 
--- src/images.rt:95:9
 image-answer-requires : tie.Need-image-answer-requires
-image-answer-requires c κs = search needs
+image-answer-requires c κs = (c .before .before .before .before .pre .0, read c)
 
--- src/images.rt:96:16
 add-rows : tie.Need-add-rows
-add-rows c = omega arith
+add-rows c = let r = c .before .before in omega (arith, end-most (read r) (r .before .before .before .before .pre .1))
 
--- src/images.rt:102:21
 mul-t8 : tie.Need-mul-t8
-mul-t8 c = omega arith
+mul-t8 c = omega (arith, area (c .before .before .before .before))
 
--- src/images.rt:102:14
 add-t9 : tie.Need-add-t9
-add-t9 c = omega arith
+add-t9 c = let r = c .before .before .before .before in omega (arith, area r, end-most (read r) (r .before .before .before .before .pre .1))
 
--- src/images.rt:88:1
 returns : tie.Need-returns
-returns c = ?
+returns c = let a = c .before .before .before in image-of (read (a .before)) _ (a .image-answer .ensures) refl refl refl refl
 
 pub image-at-spec : {M : Type 1} → statement M
 image-at-spec =
