@@ -3,3 +3,4 @@ pub mod Runs
 pub mod Numbers
 pub mod Products
 pub mod Fields
+pub mod Ratios

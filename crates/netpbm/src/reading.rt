@@ -1,7 +1,6 @@
 // The whole input: three images, nothing behind them, and sides that make a picture.
 ghost use mathlib.Core.Path.{_≡_};
-ghost use Rattle.laws.specs.Refusals.{first};
-ghost use Rattle.netpbm.specs.Reading.{readingOf};
+ghost use Rattle.netpbm.specs.Reading.{pickReading, readingOf};
 ghost use Rattle.netpbm.specs.Forms.{answerHeld};
 use crate::images::image_after;
 use crate::images::image_at;
@@ -40,6 +39,16 @@ fn whole_answer(images: Answer, left: bool, layout: Layout) -> Answer
     Answer::Accepted
 }
 
+// What was read, or the number that the answer gives.
+fn settled(answer: Answer, layout: Layout, y: usize, cb: usize, cr: usize) -> Reading
+    ensures { λ r. ⌜ r ≡ pickReading answer (Reading.Read layout y cb cr) ⌝ }
+{
+    match answer {
+        Answer::Accepted => Reading::Read(layout, y, cb, cr),
+        Answer::Refused(n) => Reading::Refused(n),
+    }
+}
+
 // Inner: the input read. It is answered for every input.
 pub fn read(input: &[u8]) -> Reading
     ensures { λ r. ⌜ r ≡ readingOf (now (input .entry)) ⌝ }
@@ -53,8 +62,5 @@ pub fn read(input: &[u8]) -> Reading
     let layout = layout_of(y, cb, cr);
     let images = cr.answer;
     let answer = whole_answer(images, cr.end < input.len(), layout);
-    match answer {
-        Answer::Accepted => Reading::Read(layout, y.rows, cb.rows, cr.rows),
-        Answer::Refused(n) => Reading::Refused(n),
-    }
+    settled(answer, layout, y.rows, cb.rows, cr.rows)
 }

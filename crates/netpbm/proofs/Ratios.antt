@@ -1,0 +1,90 @@
+-- The smallest ratio that fits: what the loop has tried, what a ratio that was found says, and why held sides find the same one.
+use mathlib.Core.Path.{_≡_, refl, sym, ap, _∙_}
+use mathlib.Core.Bool.{Bool, true, false, _&&_, cond}
+use Prim.Native.Nat.{ℕ, zero, suc, _+_, _-_, _≤_, _<_}
+use native.Mathlib.Numerals.{add-one}
+use native.Mathlib.Omega.{arith}
+use lib.Dec.{eqb}
+use borrow.Author.Tests.{eqb-true}
+use Rattle.image.specs.Tests.{divCeil}
+use Rattle.image.proofs.Quotients.{ceil-most}
+use Rattle.netpbm.specs.Reading.{fitsBoth, smallest, ratioFor}
+use Rattle.netpbm.specs.Forms.{held}
+use Rattle.netpbm.proofs.Products.{held-equal}
+
+-- one number tried
+try-one : (p : ℕ → Bool) (r : ℕ) → r ≤ 4 → smallest p r (5 - r) ≡ cond (p r) r (smallest p (r + 1) (5 - (r + 1)))
+unfolding smallest
+try-one p r l =
+    let e : 5 - r ≡ suc (4 - r) = omega arith in
+    let f : 5 - (r + 1) ≡ 4 - r = omega arith in
+    rw (e, f, add-one r) refl
+
+-- none below r fits
+pub record Tried (n a b r : ℕ) : Type 0 where
+  pub some : 1 ≤ r
+  pub most : r ≤ 5
+  pub left : smallest (fitsBoth n a b) r (5 - r) ≡ ratioFor n a b
+
+pub tried-none : (n a b : ℕ) → Tried n a b 1
+unfolding ratioFor
+tried-none n a b = record { some = omega arith; most = omega arith; left = refl }
+
+module _ {n a b r : ℕ} (t : Tried n a b r) where
+  pub tried-more : r ≤ 4 → fitsBoth n a b r ≡ false → Tried n a b (r + 1)
+  tried-more l e = record {
+    some = omega arith;
+    most = omega arith;
+    left = sym (try-one (fitsBoth n a b) r l ∙ ap (λ (x : Bool). cond x r (smallest (fitsBoth n a b) (r + 1) (5 - (r + 1)))) e) ∙ t .left;
+  }
+
+  pub tried-here : r ≤ 4 → fitsBoth n a b r ≡ true → r ≡ ratioFor n a b
+  tried-here l e = sym (try-one (fitsBoth n a b) r l ∙ ap (λ (x : Bool). cond x r (smallest (fitsBoth n a b) (r + 1) (5 - (r + 1)))) e) ∙ t .left
+
+  pub tried-all : 4 < r → 0 ≡ ratioFor n a b
+  unfolding smallest
+  tried-all l = let m = t .most in let e : 5 - r ≡ 0 = omega arith in sym (ap (smallest (fitsBoth n a b) r) e) ∙ t .left
+
+-- ---- a ratio that was found fits
+
+both-true : (a b : Bool) → (a && b) ≡ true → (a ≡ true) × (b ≡ true)
+both-true true b e = (refl, e)
+both-true false b e = let z : _≡_ {A = ℕ} 0 1 = cc in absurd (omega arith)
+
+-- so there are no more cells than pixels
+found : (n a b r k : ℕ) → 0 < r → (smallest (fitsBoth n a b) r k ≡ 0 → ⊥) → (a ≤ n) × (b ≤ n)
+unfolding smallest
+found n a b r zero p h = absurd (h refl)
+found n a b r (suc k) p h = go (fitsBoth n a b r) (both-true (eqb a (divCeil n r)) (eqb b (divCeil n r))) (found n a b (suc r) k (omega arith)) h
+  where
+    go : (t : Bool) → (t ≡ true → (eqb a (divCeil n r) ≡ true) × (eqb b (divCeil n r) ≡ true)) → ((smallest (fitsBoth n a b) (suc r) k ≡ 0 → ⊥) → (a ≤ n) × (b ≤ n)) → (cond t r (smallest (fitsBoth n a b) (suc r) k) ≡ 0 → ⊥) → (a ≤ n) × (b ≤ n)
+    go true f g h =
+        let e = eqb-true a (divCeil n r) (f refl .0) in
+        let d = eqb-true b (divCeil n r) (f refl .1) in
+        let c = ceil-most n r p in
+        (omega arith, omega arith)
+    go false f g h = g h
+
+pub ratio-found : (n a b : ℕ) → (ratioFor n a b ≡ 0 → ⊥) → (a ≤ n) × (b ≤ n)
+unfolding ratioFor
+ratio-found n a b h = found n a b 1 4 (omega arith) h
+
+-- ---- sides as they are held
+
+fits-held : (n a b r : ℕ) → n ≤ 8192 → 0 < r → fitsBoth n (held a) (held b) r ≡ fitsBoth n a b r
+fits-held n a b r l p =
+    let c = ceil-most n r p in
+    let e : eqb (held a) (divCeil n r) ≡ eqb a (divCeil n r) = held-equal a (divCeil n r) (omega arith) in
+    let d : eqb (held b) (divCeil n r) ≡ eqb b (divCeil n r) = held-equal b (divCeil n r) (omega arith) in
+    rw (e, d) refl
+
+smallest-held : (n a b r k : ℕ) → n ≤ 8192 → 0 < r → smallest (fitsBoth n (held a) (held b)) r k ≡ smallest (fitsBoth n a b) r k
+unfolding smallest
+smallest-held n a b r zero l p = refl
+smallest-held n a b r (suc k) l p = ap (λ (t : Bool). cond t r (smallest (fitsBoth n (held a) (held b)) (suc r) k)) (fits-held n a b r l p) ∙ ap (λ (m : ℕ). cond (fitsBoth n a b r) r m) (smallest-held n a b (suc r) k l (omega arith))
+
+pub ratio-held : (n a b : ℕ) → n ≤ 8192 → ratioFor (held n) (held a) (held b) ≡ ratioFor n a b
+unfolding ratioFor
+ratio-held n a b l =
+    let e : held n ≡ n = omega arith in
+    ap (λ (m : ℕ). smallest (fitsBoth m (held a) (held b)) 1 4) e ∙ smallest-held n a b 1 4 l (omega arith)
