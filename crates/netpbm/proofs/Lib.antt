@@ -4,3 +4,4 @@ pub mod Numbers
 pub mod Products
 pub mod Fields
 pub mod Ratios
+pub mod Whole
