@@ -5,3 +5,5 @@ pub mod Products
 pub mod Fields
 pub mod Ratios
 pub mod Whole
+pub mod Digits
+pub mod Written

@@ -1,7 +1,7 @@
 -- Three images one behind another: their answers are the answers of the whole, and what is held of accepted ones is what the definitions say.
 use mathlib.Core.Path.{_≡_, refl, sym, ap, _∙_}
 use mathlib.Core.Bool.{Bool, true, false, _||_}
-use mathlib.Core.List.{List, [], _∷_, _++_, append-assoc}
+use mathlib.Core.List.{List, [], _∷_, _++_}
 use Prim.Native.Nat.{ℕ, _≤_, _<_}
 use native.Mathlib.Omega.{arith}
 use lib.Dec.{ltb, eqb}
@@ -219,7 +219,7 @@ module _ {s : List ℕ} {y cb cr : Image} (l : length s ≤ 49152) (t : Three s 
 
   images-first : cr .answer ≡ first (imagesTests s)
   unfolding imagesTests
-  images-first = t .third .answers ∙ ap first (append-assoc (imageTests s 0) (imageTests s (cbAt s)) (imageTests s (crAt s)))
+  images-first = t .third .answers
 
   -- what is answered from what is held is the reading
   read-is : (a : Answer) → a ≡ answerHeld (cr .answer) (ltb (cr .end) (length s)) (layoutHeld y cb cr) → pickReading a (Read (layoutHeld y cb cr) (y .rows) (cb .rows) (cr .rows)) ≡ readingOf s

@@ -15,8 +15,8 @@ digitsOf n = digits 4 n
 
 -- "`P6`, newline, width, space, height, newline, `255`, newline"
 unfoldable pub ppmHeader : ℕ → ℕ → List ℕ
-ppmHeader w h = (80 ∷ 54 ∷ 10 ∷ []) ++ (digitsOf w ++ ((32 ∷ []) ++ (digitsOf h ++ (10 ∷ 50 ∷ 53 ∷ 53 ∷ 10 ∷ []))))
+ppmHeader w h = (80 ∷ 54 ∷ 10 ∷ []) ++ digitsOf w ++ (32 ∷ []) ++ digitsOf h ++ (10 ∷ 50 ∷ 53 ∷ 53 ∷ 10 ∷ [])
 
 -- "only `refused `, the number and a newline"
 unfoldable pub refusalLine : ℕ → List ℕ
-refusalLine n = (114 ∷ 101 ∷ 102 ∷ 117 ∷ 115 ∷ 101 ∷ 100 ∷ 32 ∷ []) ++ (digitsOf n ++ (10 ∷ []))
+refusalLine n = (114 ∷ 101 ∷ 102 ∷ 117 ∷ 115 ∷ 101 ∷ 100 ∷ 32 ∷ []) ++ digitsOf n ++ (10 ∷ [])

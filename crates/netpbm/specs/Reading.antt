@@ -55,7 +55,7 @@ noRatio l = eqb (l .rh) 0 || eqb (l .rv) 0
 
 -- "Then the images are read in order and the first 14 or 15 met is given"
 unfoldable pub imagesTests : List ℕ → List Test
-imagesTests s = imageTests s 0 ++ (imageTests s (cbAt s) ++ imageTests s (crAt s))
+imagesTests s = imageTests s 0 ++ imageTests s (cbAt s) ++ imageTests s (crAt s)
 
 -- "bytes left over"; "2 (by the Y image's sides alone) and 5 come after all three are read, 2 first"
 unfoldable pub sizeTests : List ℕ → List Test

@@ -50,7 +50,7 @@ impl Line {
 
     fn push_digit(self, d: usize) -> Line
         requires { ⌜ (self .len < 16) × (d < 10) ⌝ }
-        ensures { λ r. ⌜ r ≡ pushed self (48 + d) ⌝ }
+        ensures { λ r. ⌜ (r ≡ pushed self (48 + d)) × (r .len ≡ self .len + 1) ⌝ }
     {
         self.push(b'0' + d as u8)
     }
