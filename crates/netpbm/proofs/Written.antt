@@ -13,9 +13,10 @@ pub pushed-len : (l : Line) (b : ℕ) → pushed l b .len ≡ l .len + 1
 unfolding pushed
 pushed-len l b = refl
 
-pub line-len : (t : List ℕ) → lineOf t .len ≡ length t
+-- the length of a line that holds a text
+pub line-len : (t : List ℕ) (l : Line) → l ≡ lineOf t → l .len ≡ length t
 unfolding lineOf
-line-len t = refl
+line-len t l e = ap (λ (x : Line). x .len) e
 
 -- ---- the loop: what is left of the text, put behind the line, makes the whole
 
