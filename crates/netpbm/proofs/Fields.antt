@@ -14,7 +14,7 @@ use Rattle.netpbm.specs.declared.images.Field.{Field}
 use Rattle.netpbm.specs.declared.images.Image.{Image}
 use Rattle.netpbm.specs.Bytes.{hasBlank, pastBlanks}
 use Rattle.netpbm.specs.Images.{hasMagic, hasNumber, fieldOf, fieldEnd, widthOf, widthEnd, heightOf, heightEnd, maxvalOf, maxvalEnd, rowsAt, imageEnd, imageTests}
-use Rattle.netpbm.specs.Forms.{held, fieldHeld, Ends, imageHeld}
+use Rattle.netpbm.specs.Forms.{held, fieldHeld, HeaderHeld, imageHeld}
 use Rattle.netpbm.proofs.Runs.{blank-inside, blanks-most, digits-most}
 use Rattle.netpbm.proofs.Products.{kept, held-product, held-over, held-equal}
 
@@ -24,13 +24,13 @@ unfolding fieldEnd
 field-most s at = omega (arith, digits-most s (pastBlanks s at), blanks-most s at)
 
 -- the three numbers, read one behind another
-pub ends-of : {s : List ℕ} {at : ℕ} {w h m : Field} → w ≡ fieldHeld s (at + 2) → h ≡ fieldHeld s (w .end) → m ≡ fieldHeld s (h .end) → Ends s at w h m
+pub header-of : {s : List ℕ} {at : ℕ} {w h m : Field} → w ≡ fieldHeld s (at + 2) → h ≡ fieldHeld s (w .end) → m ≡ fieldHeld s (h .end) → HeaderHeld s at w h m
 unfolding fieldHeld widthEnd heightEnd
-ends-of {s} {at} {w} {h} {m} a b c =
+header-of {s} {at} {w} {h} {m} a b c =
     let d : w .end ≡ fieldEnd s (at + 2) = ap (λ (f : Field). f .end) a in
     let e : h .end ≡ fieldEnd s (w .end) = ap (λ (f : Field). f .end) b in
     let g : h .end ≡ fieldEnd s (fieldEnd s (at + 2)) = e ∙ ap (fieldEnd s) d in
-    record { first = a; second = b ∙ ap (fieldHeld s) d; third = c ∙ ap (fieldHeld s) g }
+    record { width-is = a; height-is = b ∙ ap (fieldHeld s) d; maxval-is = c ∙ ap (fieldHeld s) g }
 
 -- the tests on the numbers as they are held
 unfoldable pub heldTests : List ℕ → ℕ → Field → Field → Field → List Test
@@ -45,14 +45,14 @@ heldTests s at w h m =
     ∷ (ltb (length s - (m .end + 1)) (w .value * h .value), 15)
     ∷ []
 
-module _ {s : List ℕ} {at : ℕ} {w h m : Field} (e : Ends s at w h m) where
+module _ {s : List ℕ} {at : ℕ} {w h m : Field} (e : HeaderHeld s at w h m) where
   pub value-w : w .value ≡ held (widthOf s at)
   unfolding fieldHeld widthOf
-  value-w = ap (λ (f : Field). f .value) (e .first)
+  value-w = ap (λ (f : Field). f .value) (e .width-is)
 
   pub value-h : h .value ≡ held (heightOf s at)
   unfolding fieldHeld heightOf
-  value-h = ap (λ (f : Field). f .value) (e .second)
+  value-h = ap (λ (f : Field). f .value) (e .height-is)
 
   pub value-most : h .value ≤ 65536
   value-most = let v = value-h in omega arith
@@ -62,23 +62,23 @@ module _ {s : List ℕ} {at : ℕ} {w h m : Field} (e : Ends s at w h m) where
 
   value-m : m .value ≡ held (maxvalOf s at)
   unfolding fieldHeld maxvalOf
-  value-m = ap (λ (f : Field). f .value) (e .third)
+  value-m = ap (λ (f : Field). f .value) (e .maxval-is)
 
   end-m : m .end ≡ maxvalEnd s at
   unfolding fieldHeld maxvalEnd
-  end-m = ap (λ (f : Field). f .end) (e .third)
+  end-m = ap (λ (f : Field). f .end) (e .maxval-is)
 
   good-w : w .good ≡ hasNumber s (at + 2)
   unfolding fieldHeld
-  good-w = ap (λ (f : Field). f .good) (e .first)
+  good-w = ap (λ (f : Field). f .good) (e .width-is)
 
   good-h : h .good ≡ hasNumber s (widthEnd s at)
   unfolding fieldHeld
-  good-h = ap (λ (f : Field). f .good) (e .second)
+  good-h = ap (λ (f : Field). f .good) (e .height-is)
 
   good-m : m .good ≡ hasNumber s (heightEnd s at)
   unfolding fieldHeld
-  good-m = ap (λ (f : Field). f .good) (e .third)
+  good-m = ap (λ (f : Field). f .good) (e .maxval-is)
 
   -- the image's own tests
   pub held-tests : length s ≤ 49152 → heldTests s at w h m ≡ imageTests s at

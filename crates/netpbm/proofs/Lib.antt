@@ -7,3 +7,5 @@ pub mod Ratios
 pub mod Whole
 pub mod Digits
 pub mod Written
+pub mod Acceptance
+pub mod Worked

@@ -51,23 +51,35 @@ both-true : (a b : Bool) → (a && b) ≡ true → (a ≡ true) × (b ≡ true)
 both-true true b e = (refl, e)
 both-true false b e = let z : _≡_ {A = ℕ} 0 1 = cc in absurd (omega arith)
 
--- so there are no more cells than pixels
-found : (n a b r k : ℕ) → 0 < r → (smallest (fitsBoth n a b) r k ≡ 0 → ⊥) → (a ≤ n) × (b ≤ n)
-unfolding smallest
-found n a b r zero p h = absurd (h refl)
-found n a b r (suc k) p h = go (fitsBoth n a b r) (both-true (eqb a (divCeil n r)) (eqb b (divCeil n r))) (found n a b (suc r) k (omega arith)) h
-  where
-    go : (t : Bool) → (t ≡ true → (eqb a (divCeil n r) ≡ true) × (eqb b (divCeil n r) ≡ true)) → ((smallest (fitsBoth n a b) (suc r) k ≡ 0 → ⊥) → (a ≤ n) × (b ≤ n)) → (cond t r (smallest (fitsBoth n a b) (suc r) k) ≡ 0 → ⊥) → (a ≤ n) × (b ≤ n)
-    go true f g h =
-        let e = eqb-true a (divCeil n r) (f refl .0) in
-        let d = eqb-true b (divCeil n r) (f refl .1) in
-        let c = ceil-most n r p in
-        (omega arith, omega arith)
-    go false f g h = g h
+-- a number that was found passes the test, and is one of those tried
+module _ (p : ℕ → Bool) where
+  found : (r k : ℕ) → (smallest p r k ≡ 0 → ⊥) → (p (smallest p r k) ≡ true) × ((r ≤ smallest p r k) × (smallest p r k < r + k))
+  unfolding smallest
+  found r zero h = absurd (h refl)
+  found r (suc k) h = go (p r) refl (found (suc r) k) h
+    where
+      go : (t : Bool) → p r ≡ t → ((smallest p (suc r) k ≡ 0 → ⊥) → (p (smallest p (suc r) k) ≡ true) × ((suc r ≤ smallest p (suc r) k) × (smallest p (suc r) k < suc r + k)))
+          → (cond t r (smallest p (suc r) k) ≡ 0 → ⊥) → (p (cond t r (smallest p (suc r) k)) ≡ true) × ((r ≤ cond t r (smallest p (suc r) k)) × (cond t r (smallest p (suc r) k) < r + suc k))
+      go true e f h = (e, (omega arith, omega arith))
+      go false e f h = let q = f h in (q .0, (omega arith, omega arith))
 
-pub ratio-found : (n a b : ℕ) → (ratioFor n a b ≡ 0 → ⊥) → (a ≤ n) × (b ≤ n)
+-- so the chroma sides are its rounded-up quotients
+pub record Fits (n a b r : ℕ) : Type 0 where
+  pub some : 1 ≤ r
+  pub most : r ≤ 4
+  pub one : a ≡ divCeil n r
+  pub other : b ≡ divCeil n r
+  pub less : a ≤ n
+
+pub ratio-fits : (n a b : ℕ) → (ratioFor n a b ≡ 0 → ⊥) → Fits n a b (ratioFor n a b)
 unfolding ratioFor
-ratio-found n a b h = found n a b 1 4 (omega arith) h
+ratio-fits n a b h =
+    let r = smallest (fitsBoth n a b) 1 4 in
+    let q = found (fitsBoth n a b) 1 4 h in
+    let d = both-true (eqb a (divCeil n r)) (eqb b (divCeil n r)) (q .0) in
+    let e : a ≡ divCeil n r = eqb-true a (divCeil n r) (d .0) in
+    let l = ceil-most n r (q .1 .0) in
+    record { some = q .1 .0; most = omega arith; one = e; other = eqb-true b (divCeil n r) (d .1); less = omega arith }
 
 -- ---- sides as they are held
 

@@ -18,11 +18,11 @@ use Rattle.netpbm.specs.declared.images.Image.{Image}
 use Rattle.netpbm.specs.declared.reading.Reading.{Reading}
 use Rattle.netpbm.specs.declared.reading.Reading.the-variants.{Read, Refused}
 use Rattle.netpbm.specs.Images.{widthOf, heightOf, rowsAt, imageEnd, imageTests}
-use Rattle.netpbm.specs.Reading.{cbAt, crAt, ratioFor, layoutOf, noRatio, imagesTests, sizeTests, readingTests, pickReading, readingOf}
+use Rattle.netpbm.specs.Reading.{cbAt, crAt, ratioFor, layoutOf, noRatio, imagesTests, wholeTests, readingTests, pickReading, readingOf}
 use Rattle.netpbm.specs.Forms.{held, imageHeld, imageBehind, pickImage, layoutHeld, pickAnswer, answerHeld}
 use Rattle.netpbm.proofs.Runs.{differ}
 use Rattle.netpbm.proofs.Products.{held-over, held-under}
-use Rattle.netpbm.proofs.Ratios.{ratio-held, ratio-found}
+use Rattle.netpbm.proofs.Ratios.{ratio-held, ratio-fits}
 use Rattle.netpbm.proofs.Fields.{Sits, sits}
 
 -- ---- an answer, and what is asked behind it
@@ -174,23 +174,23 @@ module _ {s : List ℕ} {y cb cr : Image} (p : Places s y cb cr) where
   none-same e = rw (ratio-w e, ratio-h e) refl
 
   -- so the same number is given
-  sizes-first : first ((ltb (cr .end) (length s), 14) ∷ (badSize (layoutHeld y cb cr), 2) ∷ (noRatio (layoutHeld y cb cr), 5) ∷ []) ≡ first (sizeTests s)
-  unfolding sizeTests
+  sizes-first : first ((ltb (cr .end) (length s), 14) ∷ (badSize (layoutHeld y cb cr), 2) ∷ (noRatio (layoutHeld y cb cr), 5) ∷ []) ≡ first (wholeTests s)
+  unfolding wholeTests
   sizes-first =
       ap (λ (k : ℕ). first ((ltb k (length s), 14) ∷ (badSize (layoutHeld y cb cr), 2) ∷ (noRatio (layoutHeld y cb cr), 5) ∷ [])) (p .end-is)
       ∙ tests-same (ltb (imageEnd s (crAt s)) (length s)) (badSize (layoutHeld y cb cr)) (badSize (layoutOf s)) (noRatio (layoutHeld y cb cr)) (noRatio (layoutOf s)) size-same none-same
 
   -- and a layout that passes is held as it is
-  layout-same : first (sizeTests s) ≡ Accepted → layoutHeld y cb cr ≡ layoutOf s
-  unfolding sizeTests layoutHeld layoutOf noRatio
+  layout-same : first (wholeTests s) ≡ Accepted → layoutHeld y cb cr ≡ layoutOf s
+  unfolding wholeTests layoutHeld layoutOf noRatio
   layout-same e =
-      let f = accepted-failed (sizeTests s) e in
+      let f = accepted-failed (wholeTests s) e in
       let b = f .1 .0 in
       let rh = ratioFor (widthOf s 0) (widthOf s (cbAt s)) (widthOf s (crAt s)) in
       let rv = ratioFor (heightOf s 0) (heightOf s (cbAt s)) (heightOf s (crAt s)) in
       let n = neither (eqb rh 0) (eqb rv 0) (f .1 .1 .0) in
-      let u = ratio-found (widthOf s 0) (widthOf s (cbAt s)) (widthOf s (crAt s)) (eqb-false rh 0 (n .0)) .0 in
-      let v = ratio-found (heightOf s 0) (heightOf s (cbAt s)) (heightOf s (crAt s)) (eqb-false rv 0 (n .1)) .0 in
+      let u = ratio-fits (widthOf s 0) (widthOf s (cbAt s)) (widthOf s (crAt s)) (eqb-false rh 0 (n .0)) .less in
+      let v = ratio-fits (heightOf s 0) (heightOf s (cbAt s)) (heightOf s (crAt s)) (eqb-false rv 0 (n .1)) .less in
       let k = sides b in
       let yw : y .w ≡ widthOf s 0 = y-w ∙ small (widthOf s 0) (k .0) in
       let yh : y .h ≡ heightOf s 0 = y-h ∙ small (heightOf s 0) (k .1) in
@@ -213,7 +213,7 @@ rows-is s at = refl
 
 module _ {s : List ℕ} {y cb cr : Image} (l : length s ≤ 49152) (t : Three s y cb cr) where
   -- the tests behind the first one
-  later : first (readingTests s) ≡ first (imagesTests s ++ sizeTests s)
+  later : first (readingTests s) ≡ first (imagesTests s ++ wholeTests s)
   unfolding readingTests
   later = passed-over _ _ _ (le-ltb 49152 (length s) l)
 
@@ -228,12 +228,12 @@ module _ {s : List ℕ} {y cb cr : Image} (l : length s ≤ 49152) (t : Three s 
     where
       go : (u : Bool) → accepted (cr .answer) ≡ u → pickReading a (Read (layoutHeld y cb cr) (y .rows) (cb .rows) (cr .rows)) ≡ pickReading (first (readingTests s)) (Read (layoutOf s) (rowsAt s 0) (rowsAt s (cbAt s)) (rowsAt s (crAt s)))
       go false k =
-          let q : first (readingTests s) ≡ cr .answer = later ∙ refused-early (imagesTests s) (sizeTests s) (sym (ap accepted images-first) ∙ k) ∙ sym images-first in
+          let q : first (readingTests s) ≡ cr .answer = later ∙ refused-early (imagesTests s) (wholeTests s) (sym (ap accepted images-first) ∙ k) ∙ sym images-first in
           let d : a ≡ first (readingTests s) = e ∙ sym (pick-refused (cr .answer) _ k) ∙ sym q in
           rw d (pick-same (first (readingTests s)) _ _ (λ h. differ (accepted (cr .answer)) (ap accepted (sym q ∙ h)) k))
       go true k =
           let p = places l t k in
-          let q : first (readingTests s) ≡ first (sizeTests s) = later ∙ passed-early (imagesTests s) (sizeTests s) (sym (ap accepted images-first) ∙ k) in
+          let q : first (readingTests s) ≡ first (wholeTests s) = later ∙ passed-early (imagesTests s) (wholeTests s) (sym (ap accepted images-first) ∙ k) in
           let d : a ≡ first (readingTests s) = e ∙ sym (pick-accepted (cr .answer) _ k) ∙ sizes-first p ∙ sym q in
           let u : y .rows ≡ rowsAt s 0 = ap (λ (i : Image). i .rows) (p .y-is) ∙ rows-is s 0 in
           let v : cb .rows ≡ rowsAt s (cbAt s) = ap (λ (i : Image). i .rows) (p .cb-is) ∙ rows-is s (cbAt s) in

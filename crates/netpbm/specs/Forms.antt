@@ -28,10 +28,10 @@ unfoldable pub fieldHeld : List ℕ → ℕ → Field
 fieldHeld s at = record { good = hasNumber s at; value = held (fieldOf s at); end = fieldEnd s at }
 
 -- the three numbers of the header of the image at `at`
-pub record Ends (s : List ℕ) (at : ℕ) (width height maxval : Field) : Type 0 where
-  pub first : width ≡ fieldHeld s (at + 2)
-  pub second : height ≡ fieldHeld s (widthEnd s at)
-  pub third : maxval ≡ fieldHeld s (heightEnd s at)
+pub record HeaderHeld (s : List ℕ) (at : ℕ) (width height maxval : Field) : Type 0 where
+  pub width-is : width ≡ fieldHeld s (at + 2)
+  pub height-is : height ≡ fieldHeld s (widthEnd s at)
+  pub maxval-is : maxval ≡ fieldHeld s (heightEnd s at)
 
 unfoldable pub imageHeld : List ℕ → ℕ → Image
 imageHeld s at = record {

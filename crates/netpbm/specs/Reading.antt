@@ -58,12 +58,12 @@ unfoldable pub imagesTests : List ℕ → List Test
 imagesTests s = imageTests s 0 ++ imageTests s (cbAt s) ++ imageTests s (crAt s)
 
 -- "bytes left over"; "2 (by the Y image's sides alone) and 5 come after all three are read, 2 first"
-unfoldable pub sizeTests : List ℕ → List Test
-sizeTests s = (ltb (imageEnd s (crAt s)) (length s), 14) ∷ (badSize (layoutOf s), 2) ∷ (noRatio (layoutOf s), 5) ∷ []
+unfoldable pub wholeTests : List ℕ → List Test
+wholeTests s = (ltb (imageEnd s (crAt s)) (length s), 14) ∷ (badSize (layoutOf s), 2) ∷ (noRatio (layoutOf s), 5) ∷ []
 
 -- "Input too long is 15 before all else"
 unfoldable pub readingTests : List ℕ → List Test
-readingTests s = (ltb 49152 (length s), 15) ∷ (imagesTests s ++ sizeTests s)
+readingTests s = (ltb 49152 (length s), 15) ∷ (imagesTests s ++ wholeTests s)
 
 abbrev pub pickReading : Answer → Reading → Reading
 pickReading Accepted r = r

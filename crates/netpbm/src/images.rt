@@ -5,7 +5,7 @@ ghost use Prim.Native.Nat.{_≤_};
 ghost use lib.ListN.{length};
 ghost use Rattle.laws.specs.Refusals.{first, accepted};
 ghost use Rattle.netpbm.specs.Images.{imageTests};
-ghost use Rattle.netpbm.specs.Forms.{fieldHeld, imageHeld, imageBehind, Ends};
+ghost use Rattle.netpbm.specs.Forms.{fieldHeld, imageHeld, imageBehind, HeaderHeld};
 use crate::scan::blank_at;
 use crate::scan::digit_at;
 use crate::scan::magic_at;
@@ -54,7 +54,7 @@ fn field_at(input: &[u8], at: usize) -> Field
 // The first thing wrong with the image at `at`, whose header holds these numbers.
 fn image_answer(input: &[u8], at: usize, width: Field, height: Field, maxval: Field) -> Answer
     requires { ⌜ length (now input) ≤ 49152 ⌝ }
-    requires { ⌜ Ends (now input) at width height maxval ⌝ }
+    requires { ⌜ HeaderHeld (now input) at width height maxval ⌝ }
     ensures { λ r. ⌜ r ≡ first (imageTests (now (input .entry)) at) ⌝ }
 {
     if !magic_at(input, at) {

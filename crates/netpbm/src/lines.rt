@@ -8,19 +8,21 @@ ghost use Rattle.netpbm.specs.Forms.{lineOf, pushed, written};
 
 // Bytes to write: the first len of these, 0 behind them.
 pub struct Line {
-    pub bytes: [u8; 16],
+    pub bytes: [u8; Line::ROOM],
     pub len: usize,
 }
 
 impl Line {
     // How many bytes a line can hold: as many as the longest header has.
     pub const ROOM: usize = 16;
+}
 
+impl Line {
     fn new() -> Line
         ensures { λ r. ⌜ r ≡ lineOf [] ⌝ }
     {
         Line {
-            bytes: [0u8; 16],
+            bytes: [0u8; Line::ROOM],
             len: 0,
         }
     }

@@ -3,14 +3,14 @@ use Prim.Native.Nat.{_*_, _≤_}
 use native.Mathlib.Nat.{mul-le-mul}
 use native.Mathlib.Omega.{arith}
 use borrow.Author.Needs.{needs}
-use Rattle.netpbm.specs.Forms.{Ends}
-use Rattle.netpbm.proofs.Fields.{ends-of, end-most, width-most, value-most, image-of}
+use Rattle.netpbm.specs.Forms.{HeaderHeld}
+use Rattle.netpbm.proofs.Fields.{header-of, end-most, width-most, value-most, image-of}
 use Rattle.netpbm.proofs.images.image_at.Statement.{statement}
 use Rattle.netpbm.proofs.images.image_at.Tie as tie
 
 -- the header's numbers are read
-read : (c : tie.After-field-at3) → (let a = c .before .before .before .before .args in Ends (a .input .now) (a .at) (c .before .before .field-at .result) (c .before .field-at2 .result) (c .field-at3 .result))
-read c = ends-of (c .before .before .field-at .ensures) (c .before .field-at2 .ensures) (c .field-at3 .ensures)
+read : (c : tie.After-field-at3) → (let a = c .before .before .before .before .args in HeaderHeld (a .input .now) (a .at) (c .before .before .field-at .result) (c .before .field-at2 .result) (c .field-at3 .result))
+read c = header-of (c .before .before .field-at .ensures) (c .before .field-at2 .ensures) (c .field-at3 .ensures)
 
 area : (c : tie.After-field-at3) → c .before .before .field-at .result .value * c .before .field-at2 .result .value ≤ 65536 * 65536
 area c = mul-le-mul (width-most (read c)) (value-most (read c))
