@@ -1,8 +1,8 @@
 -- What an input that is read has: a layout that passes refusals 2 to 5, and three planes whose rows lie inside the input.
-use mathlib.Core.Path.{_≡_, refl, sym, ap, _∙_}
-use mathlib.Core.Bool.{true, false, not}
-use mathlib.Core.List.{List, [], _++_}
-use Prim.Native.Nat.{ℕ, _+_, _*_, _≤_, _<_}
+use mathlib.Core.Path.{_≡_, refl, sym, _∙_}
+use mathlib.Core.Bool.{true, false}
+use mathlib.Core.List.{List, _++_}
+use Prim.Native.Nat.{ℕ, _+_, _*_, _≤_}
 use native.Mathlib.Omega.{arith}
 use lib.Dec.{ltb, eqb}
 use lib.ListN.{length}
@@ -14,10 +14,9 @@ use Rattle.laws.proofs.Refusals.{Failed, accepted-failed, failed-accepted, fail
 use Rattle.image.specs.declared.layout.Layout.{Layout}
 use Rattle.image.specs.Tests.{divCeil, badSize, badRatio, badSamples, badChroma, layoutTests}
 use Rattle.image.proofs.Layouts.{neither}
-use Rattle.netpbm.specs.declared.reading.Reading.{Reading}
 use Rattle.netpbm.specs.declared.reading.Reading.the-variants.{Read}
 use Rattle.netpbm.specs.Images.{widthOf, heightOf, rowsAt, imageEnd, imageTests}
-use Rattle.netpbm.specs.Reading.{cbAt, crAt, ratioFor, layoutOf, noRatio, imagesTests, wholeTests, readingTests, pickReading, readingOf}
+use Rattle.netpbm.specs.Reading.{cbAt, crAt, layoutOf, noRatio, imagesTests, wholeTests, readingTests, pickReading, readingOf}
 use Rattle.netpbm.proofs.Fields.{Sits, sits}
 use Rattle.netpbm.proofs.Ratios.{Fits, ratio-fits}
 

@@ -1,8 +1,8 @@
 -- The three numbers of a header as they are held: the tests on them are the image's tests, and an accepted image ends inside the input.
-use mathlib.Core.Path.{_≡_, refl, sym, ap, _∙_}
-use mathlib.Core.Bool.{Bool, true, false, not}
+use mathlib.Core.Path.{_≡_, refl, ap, _∙_}
+use mathlib.Core.Bool.{not}
 use mathlib.Core.List.{List, [], _∷_}
-use Prim.Native.Nat.{ℕ, _+_, _-_, _*_, min, max, _≤_, _<_}
+use Prim.Native.Nat.{ℕ, _+_, _-_, _*_, max, _≤_, _<_}
 use native.Mathlib.Omega.{arith}
 use lib.Dec.{ltb, eqb}
 use lib.ListN.{length}
@@ -13,7 +13,7 @@ use Rattle.laws.proofs.Refusals.{accepted-failed}
 use Rattle.netpbm.specs.declared.images.Field.{Field}
 use Rattle.netpbm.specs.declared.images.Image.{Image}
 use Rattle.netpbm.specs.Bytes.{hasBlank, pastBlanks}
-use Rattle.netpbm.specs.Images.{hasMagic, hasNumber, fieldOf, fieldEnd, widthOf, widthEnd, heightOf, heightEnd, maxvalOf, maxvalEnd, rowsAt, imageEnd, imageTests}
+use Rattle.netpbm.specs.Images.{hasMagic, hasNumber, fieldEnd, widthOf, widthEnd, heightOf, heightEnd, maxvalOf, maxvalEnd, rowsAt, imageEnd, imageTests}
 use Rattle.netpbm.specs.Forms.{held, fieldHeld, HeaderHeld, imageHeld}
 use Rattle.netpbm.proofs.Runs.{blank-inside, blanks-most, digits-most}
 use Rattle.netpbm.proofs.Products.{kept, held-product, held-over, held-equal}

@@ -1,6 +1,6 @@
 -- Three images one behind another: their answers are the answers of the whole, and what is held of accepted ones is what the definitions say.
 use mathlib.Core.Path.{_≡_, refl, sym, ap, _∙_}
-use mathlib.Core.Bool.{Bool, true, false, _||_}
+use mathlib.Core.Bool.{Bool, true, false}
 use mathlib.Core.List.{List, [], _∷_, _++_}
 use Prim.Native.Nat.{ℕ, _≤_, _<_}
 use native.Mathlib.Omega.{arith}
@@ -10,7 +10,7 @@ use borrow.Author.Tests.{le-ltb, lt-ltb, ltb-false, eqb-false}
 use Rattle.laws.specs.declared.Answer.{Answer}
 use Rattle.laws.specs.declared.Answer.the-variants.{Accepted, Refused as Turned}
 use Rattle.laws.specs.Refusals.{Test, first, accepted}
-use Rattle.laws.proofs.Refusals.{Failed, accepted-is, accepted-failed, refused-early, passed-early, refused-here, passed-over}
+use Rattle.laws.proofs.Refusals.{accepted-is, accepted-failed, refused-early, passed-early, refused-here, passed-over}
 use Rattle.image.specs.declared.layout.Layout.{Layout}
 use Rattle.image.specs.Tests.{outsideOf, badSize}
 use Rattle.image.proofs.Layouts.{neither}
@@ -19,7 +19,7 @@ use Rattle.netpbm.specs.declared.reading.Reading.{Reading}
 use Rattle.netpbm.specs.declared.reading.Reading.the-variants.{Read, Refused}
 use Rattle.netpbm.specs.Images.{widthOf, heightOf, rowsAt, imageEnd, imageTests}
 use Rattle.netpbm.specs.Reading.{cbAt, crAt, ratioFor, layoutOf, noRatio, imagesTests, wholeTests, readingTests, pickReading, readingOf}
-use Rattle.netpbm.specs.Forms.{held, imageHeld, imageBehind, pickImage, layoutHeld, pickAnswer, answerHeld}
+use Rattle.netpbm.specs.Forms.{held, imageHeld, imageBehind, pickImage, layoutHeld, orAnswer, answerHeld}
 use Rattle.netpbm.proofs.Runs.{differ}
 use Rattle.netpbm.proofs.Products.{held-over, held-under}
 use Rattle.netpbm.proofs.Ratios.{ratio-held, ratio-fits}
@@ -27,11 +27,11 @@ use Rattle.netpbm.proofs.Fields.{Sits, sits}
 
 -- ---- an answer, and what is asked behind it
 
-pub pick-refused : (a b : Answer) → accepted a ≡ false → a ≡ pickAnswer a b
+pub pick-refused : (a b : Answer) → accepted a ≡ false → a ≡ orAnswer a b
 pick-refused Accepted b e = differ true refl e
 pick-refused (Turned n) b e = refl
 
-pub pick-accepted : (a b : Answer) → accepted a ≡ true → b ≡ pickAnswer a b
+pub pick-accepted : (a b : Answer) → accepted a ≡ true → b ≡ orAnswer a b
 pick-accepted Accepted b e = refl
 pick-accepted (Turned n) b e = differ false e refl
 

@@ -21,9 +21,11 @@ use Rattle.netpbm.specs.Reading.{ratioFor, noRatio}
 abbrev pub held : ℕ → ℕ
 held n = min n 65536
 
+-- the number whose digits stand at `at`
 unfoldable pub numberHeld : List ℕ → ℕ → Number
 numberHeld s at = record { value = held (numberAt s at); end = pastDigits s at }
 
+-- the number behind the whitespace at `at`
 unfoldable pub fieldHeld : List ℕ → ℕ → Field
 fieldHeld s at = record { good = hasNumber s at; value = held (fieldOf s at); end = fieldEnd s at }
 
@@ -33,6 +35,7 @@ pub record HeaderHeld (s : List ℕ) (at : ℕ) (width height maxval : Field) : 
   pub height-is : height ≡ fieldHeld s (widthEnd s at)
   pub maxval-is : maxval ≡ fieldHeld s (heightEnd s at)
 
+-- the image whose magic stands at `at`
 unfoldable pub imageHeld : List ℕ → ℕ → Image
 imageHeld s at = record {
   answer = first (imageTests s at);
@@ -50,6 +53,7 @@ pickImage false a b = b
 unfoldable pub imageBehind : List ℕ → Image → Image
 imageBehind s b = pickImage (accepted (b .answer)) (imageHeld s (b .end)) b
 
+-- the layout of three images
 unfoldable pub layoutHeld : Image → Image → Image → Layout
 layoutHeld y cb cr = record {
   w = y .w;
@@ -62,13 +66,14 @@ layoutHeld y cb cr = record {
   maxval = 255;
 }
 
-abbrev pub pickAnswer : Answer → Answer → Answer
-pickAnswer Accepted a = a
-pickAnswer (Refused n) a = Refused n
+-- a refusal stands; past it the other answers
+abbrev pub orAnswer : Answer → Answer → Answer
+orAnswer Accepted a = a
+orAnswer (Refused n) a = Refused n
 
--- the answer to three images
+-- the answer to three images: theirs, then what is left over, the sides and the ratios
 unfoldable pub answerHeld : Answer → Bool → Layout → Answer
-answerHeld a left l = pickAnswer a (first ((left, 14) ∷ (badSize l, 2) ∷ (noRatio l, 5) ∷ []))
+answerHeld a left l = orAnswer a (first ((left, 14) ∷ (badSize l, 2) ∷ (noRatio l, 5) ∷ []))
 
 -- ---- lines
 

@@ -31,6 +31,7 @@ unfoldable pub smallest : (ℕ → Bool) → ℕ → ℕ → ℕ
 smallest p r zero = 0
 smallest p r (suc k) = cond (p r) r (smallest p (suc r) k)
 
+-- the ratio for n pixels and chroma sides a and b
 unfoldable pub ratioFor : ℕ → ℕ → ℕ → ℕ
 ratioFor n a b = smallest (fitsBoth n a b) 1 4
 
@@ -47,7 +48,7 @@ layoutOf s = record {
   maxval = 255;
 }
 
--- "where none fits both chroma images"
+-- "where none fits both chroma images"; a chroma side of 0 fits none, since the Y image has no side of 0 by then
 unfoldable pub noRatio : Layout → Bool
 noRatio l = eqb (l .rh) 0 || eqb (l .rv) 0
 
@@ -65,6 +66,7 @@ wholeTests s = (ltb (imageEnd s (crAt s)) (length s), 14) ∷ (badSize (layoutOf
 unfoldable pub readingTests : List ℕ → List Test
 readingTests s = (ltb 49152 (length s), 15) ∷ (imagesTests s ++ wholeTests s)
 
+-- what was read, or the number of the answer
 abbrev pub pickReading : Answer → Reading → Reading
 pickReading Accepted r = r
 pickReading (Turned n) r = Refused n

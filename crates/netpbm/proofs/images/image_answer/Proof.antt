@@ -10,7 +10,6 @@ use borrow.Author.Tests.{lt-ltb, le-ltb, eq-eqb, ne-eqb, not-false}
 use Rattle.laws.specs.declared.Answer.{Answer}
 use Rattle.laws.specs.Refusals.{Test, first}
 use Rattle.laws.proofs.Refusals.{refused-here, passed-over, failed-accepted}
-use Rattle.netpbm.specs.Bytes.{hasBlank}
 use Rattle.netpbm.specs.Images.{imageTests}
 use Rattle.netpbm.proofs.Runs.{blank-inside}
 use Rattle.netpbm.proofs.Fields.{heldTests, held-tests, value-most}
