@@ -1,0 +1,5 @@
+pub mod Bytes
+pub mod Images
+pub mod Reading
+pub mod Lines
+pub mod Forms

@@ -1,0 +1,76 @@
+#!/usr/bin/env python3
+"""Document 01's paragraph on the picture program's input, read plainly, to compare `netpbm::read` with.
+
+Reads standard input and prints `refused N`, or one line for each thing that was read:
+the sides, the ratios, the chroma sides, and where the rows of Y, Cb and Cr begin.
+"""
+import re
+import sys
+
+WHITE = rb'[ \t\r\n]'
+
+
+class Refused(Exception):
+    pass
+
+
+def side(data, place):
+    """Whitespace and a decimal number; the number, and the place behind it."""
+    found = re.compile(WHITE + rb'+([0-9]+)').match(data, place)
+    if not found:
+        raise Refused(14)
+    number = 0
+    for digit in found.group(1):  # int() turns very long numbers away
+        number = number * 10 + digit - ord('0')
+        if number > 10 ** 12:
+            number = 10 ** 12  # past every limit, and still so with more digits
+    return number, found.end()
+
+
+def image(data, place):
+    """One image: width, height, the place of its rows, and the place behind them."""
+    if data[place:place + 2] != b'P5':
+        raise Refused(14)
+    width, place = side(data, place + 2)
+    if width > 128:
+        raise Refused(15)
+    height, place = side(data, place)
+    maxval, place = side(data, place)
+    if maxval != 255 or not re.match(WHITE, data[place:place + 1]):
+        raise Refused(14)
+    rows = place + 1
+    if len(data) - rows < width * height:
+        raise Refused(15)
+    return width, height, rows, rows + width * height
+
+
+def ratio(pixels, one, other):
+    for r in (1, 2, 3, 4):
+        if one == other == -(-pixels // r):
+            return r
+    raise Refused(5)
+
+
+def read(data):
+    if len(data) > 49152:
+        raise Refused(15)
+    y = image(data, 0)
+    cb = image(data, y[3])
+    cr = image(data, cb[3])
+    if cr[3] != len(data):
+        raise Refused(14)
+    if not (1 <= y[0] <= 8192 and 1 <= y[1] <= 8192):
+        raise Refused(2)
+    across, down = ratio(y[0], cb[0], cr[0]), ratio(y[1], cb[1], cr[1])
+    return [y[0], y[1], across, down, cb[0], cb[1], y[2], cb[2], cr[2]]
+
+
+def answer(data):
+    try:
+        return ' '.join(map(str, read(data)))
+    except Refused as reason:
+        return f'refused {reason.args[0]}'
+
+
+if __name__ == '__main__':
+    print(answer(sys.stdin.buffer.read()))
