@@ -2,7 +2,7 @@
 use mathlib.Core.Path.{_≡_}
 use mathlib.Core.Bool.{Bool, false, _||_, cond}
 use mathlib.Core.List.{List, [], _∷_, _++_}
-use Prim.Native.Nat.{ℕ, zero, suc, _-_, _*_}
+use Prim.Native.Nat.{ℕ, zero, suc, _+_, _-_, _*_}
 use lib.Dec.{ltb}
 use lib.ListN.{length}
 use lib.Ieee.{Float}
@@ -12,7 +12,7 @@ use Rattle.laws.specs.declared.Answer.{Answer}
 use Rattle.image.specs.declared.layout.Layout.{Layout}
 use Rattle.image.specs.Tests.{layoutTests}
 use Rattle.image.specs.Samples.{Plane}
-use Rattle.image.specs.Picture.{Cb, Picture, Planes, pictureOf, shortPlane}
+use Rattle.image.specs.Picture.{Chroma, Cb, Picture, Planes, pictureOf, shortPlane}
 use Rattle.fround.specs.Rounding.{roundClamped}
 use Rattle.resample.specs.Linear.{scratchNeed}
 use Rattle.guided.specs.Guided.{guidedSample}
@@ -37,27 +37,31 @@ guidedPlane p out = rows out (p .layout .w) (p .layout .h) (λ y x. roundClamped
 
 -- ---- what the papers leave free: what scratch holds after an accepted call
 
--- the next chroma row to sum across, before row y: a fresh reader's, then the one that the row before leaves
-unfoldable pub beforeH : Layout → ℕ → ℕ
-beforeH l zero = freshH l 0
-beforeH l (suc y) = doneH l y
+-- the rows a, a + 1, .. of a picture, one after another, of the components ks
+
+-- the next chroma row to sum across, before row a + n: that of a reader sought to a, then the one that the row before leaves
+unfoldable pub beforeH : Layout → ℕ → ℕ → ℕ
+beforeH l a zero = freshH l a
+beforeH l a (suc n) = doneH l (a + n)
 
 -- the next chroma row to finish, likewise
-unfoldable pub beforeF : Layout → ℕ → ℕ
-beforeF l zero = freshF l 0
-beforeF l (suc y) = doneF l y
+unfoldable pub beforeF : Layout → ℕ → ℕ → ℕ
+beforeF l a zero = freshF l a
+beforeF l a (suc n) = doneF l (a + n)
 
--- scratch after row y, from scratch before it
-unfoldable pub planeStep : Picture → ℕ → List Float → List Float
-planeStep p y s = rowSteps p (Cb ∷ []) (beforeH (p .layout) y) (beforeF (p .layout) y) (doneF (p .layout) y - beforeF (p .layout) y) y s
+-- scratch after row a + n, from scratch before it
+unfoldable pub guidedStep : Picture → List Chroma → ℕ → ℕ → List Float → List Float
+guidedStep p ks a n s =
+    let l = p .layout in
+    rowSteps p ks (beforeH l a n) (beforeF l a n) (doneF l (a + n) - beforeF l a n) (a + n) s
 
--- scratch after the first n rows of a plane
-unfoldable pub planeScratch : Picture → ℕ → List Float → List Float
-planeScratch p zero s = s
-planeScratch p (suc n) s = planeStep p n (planeScratch p n s)
+-- scratch after rows a, .. a + n - 1
+unfoldable pub guidedRows : Picture → List Chroma → ℕ → ℕ → List Float → List Float
+guidedRows p ks a zero s = s
+guidedRows p ks a (suc n) s = guidedStep p ks a n (guidedRows p ks a n s)
 
 -- what `guided_plane` promises: of its answer, and of scratch and output after it
 pub record GuidedGiven (l : Layout) (y c : Plane) (scratch : List Float) (out : List ℕ) (answer : Answer) (scratch' : List Float) (out' : List ℕ) : Type 0 where
   pub answers : answer ≡ first (guidedTests l y c (length scratch) (length out))
   pub gives : out' ≡ cond (accepted answer) (guidedPlane (pictureOf l (planesWith y c)) out) out
-  pub scratches : scratch' ≡ cond (accepted answer) (planeScratch (pictureOf l (planesWith y c)) (l .h) scratch) scratch
+  pub scratches : scratch' ≡ cond (accepted answer) (guidedRows (pictureOf l (planesWith y c)) (Cb ∷ []) 0 (l .h) scratch) scratch

@@ -9,4 +9,5 @@ pub use opening::open;
 pub use plane::guided_plane;
 pub use rows::row;
 pub use steps::catch_up;
+pub use steps::guided_step;
 pub use steps::row_steps;

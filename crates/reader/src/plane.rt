@@ -1,17 +1,17 @@
 // A whole chroma plane, guided by luma: its checks, a row of it, the loop, and the public call.
 ghost use mathlib.Core.Path.{_≡_};
 ghost use mathlib.Core.Bool.{false};
+ghost use mathlib.Core.List.{[], _∷_};
 ghost use Prim.Native.Nat.{_*_, _≤_, _<_};
 ghost use lib.ListN.{length};
 ghost use Rattle.laws.specs.Refusals.{first};
 ghost use Rattle.image.specs.Tests.{Sound};
-ghost use Rattle.image.specs.Picture.{pictureOf};
+ghost use Rattle.image.specs.Picture.{Cb, pictureOf};
 ghost use Rattle.resample.specs.Linear.{scratchNeed};
 ghost use Rattle.resample.specs.Rows.{storeRun};
 ghost use Rattle.sums.specs.Parts.{Lent};
-ghost use Rattle.reader.specs.Plane.{planesWith, shortPair, guidedTests, guidedPlane, beforeH, beforeF, planeStep, planeScratch, GuidedGiven};
-use super::steps::row_steps;
-use guided::Counters;
+ghost use Rattle.reader.specs.Plane.{planesWith, shortPair, guidedTests, guidedPlane, guidedStep, guidedRows, GuidedGiven};
+use super::steps::guided_step;
 use image::Layout;
 use laws::Answer;
 
@@ -53,18 +53,6 @@ fn plane_answer(
     Answer::Accepted
 }
 
-// The counters before a row of the plane: a fresh reader's, or those that the row before leaves.
-fn counters_before(layout: Layout, row: usize) -> Counters
-    requires { ⌜ Sound layout ⌝ }
-    requires { ⌜ row < layout .h ⌝ }
-    ensures { λ c. ⌜ (c .«h_next» ≡ beforeH layout row) × (c .«f_next» ≡ beforeF layout row) ⌝ }
-{
-    if row == 0 {
-        return guided::fresh_counters(layout, 0);
-    }
-    guided::done_counters(layout, row - 1)
-}
-
 // One row: its steps over scratch, then rounded into out.
 fn plane_row(
     layout: Layout,
@@ -78,11 +66,10 @@ fn plane_row(
 )
     requires { ⌜ Lent layout (planesWith (record { bytes = now y; stride = «y_stride» }) (record { bytes = now c; stride = «c_stride» })) false ⌝ }
     requires { ⌜ (row < layout .h) × (scratchNeed layout ≤ length (now s)) × (layout .w * layout .h ≤ length (now out)) ⌝ }
-    ensures { λ _. ⌜ now (s .exit) ≡ planeStep (pictureOf layout (planesWith (record { bytes = now (y .entry); stride = «y_stride» }) (record { bytes = now (c .entry); stride = «c_stride» }))) row (now (s .entry)) ⌝ }
-    ensures { λ _. ⌜ now (out .exit) ≡ storeRun (planeStep (pictureOf layout (planesWith (record { bytes = now (y .entry); stride = «y_stride» }) (record { bytes = now (c .entry); stride = «c_stride» }))) row (now (s .entry))) 0 (layout .w) (layout .maxval) (row * layout .w) (now (out .entry)) ⌝ }
+    ensures { λ _. ⌜ now (s .exit) ≡ guidedStep (pictureOf layout (planesWith (record { bytes = now (y .entry); stride = «y_stride» }) (record { bytes = now (c .entry); stride = «c_stride» }))) (Cb ∷ []) 0 row (now (s .entry)) ⌝ }
+    ensures { λ _. ⌜ now (out .exit) ≡ storeRun (guidedStep (pictureOf layout (planesWith (record { bytes = now (y .entry); stride = «y_stride» }) (record { bytes = now (c .entry); stride = «c_stride» }))) (Cb ∷ []) 0 row (now (s .entry))) 0 (layout .w) (layout .maxval) (row * layout .w) (now (out .entry)) ⌝ }
 {
-    let k = counters_before(layout, row);
-    row_steps(
+    guided_step(
         layout,
         y,
         y_stride,
@@ -91,8 +78,7 @@ fn plane_row(
         c,
         c_stride,
         false,
-        k.h_next,
-        k.f_next,
+        0,
         row,
         s,
     );
@@ -112,7 +98,7 @@ fn plane_rows(
     requires { ⌜ Lent layout (planesWith (record { bytes = now y; stride = «y_stride» }) (record { bytes = now c; stride = «c_stride» })) false ⌝ }
     requires { ⌜ (scratchNeed layout ≤ length (now s)) × (layout .w * layout .h ≤ length (now out)) ⌝ }
     ensures { λ _. ⌜ now (out .exit) ≡ guidedPlane (pictureOf layout (planesWith (record { bytes = now (y .entry); stride = «y_stride» }) (record { bytes = now (c .entry); stride = «c_stride» }))) (now (out .entry)) ⌝ }
-    ensures { λ _. ⌜ now (s .exit) ≡ planeScratch (pictureOf layout (planesWith (record { bytes = now (y .entry); stride = «y_stride» }) (record { bytes = now (c .entry); stride = «c_stride» }))) (layout .h) (now (s .entry)) ⌝ }
+    ensures { λ _. ⌜ now (s .exit) ≡ guidedRows (pictureOf layout (planesWith (record { bytes = now (y .entry); stride = «y_stride» }) (record { bytes = now (c .entry); stride = «c_stride» }))) (Cb ∷ []) 0 (layout .h) (now (s .entry)) ⌝ }
 {
     let h = layout.h;
     let mut row = 0;
@@ -123,7 +109,7 @@ fn plane_rows(
 }
 
 // One whole chroma plane, guided by luma: w by h values, rounded and limited to 0..=maxval, into out. Refusals 2, 3, 4, 5, 7, 9 and 10.
-// Scratch afterwards is `planeScratch` of specs/Plane.
+// Scratch afterwards is `guidedRows` of specs/Plane.
 pub fn guided_plane(
     layout: Layout,
     y: &[u8],

@@ -1,7 +1,10 @@
 // The public crate: document 01's calls and their types, and nothing else.
+pub use colour_rows::YcbcrKernel;
 pub use convert::Pixel;
 pub use convert::ycbcr_frac_to_rgb8;
 pub use convert::ycbcr_to_rgb8_fixed16;
+pub use fill::ChromaUpsampling;
+pub use fill::fill;
 pub use guided::Geometry;
 pub use guided::Reader;
 pub use guided::Reply;

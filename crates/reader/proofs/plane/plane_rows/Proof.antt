@@ -1,4 +1,5 @@
 use mathlib.Core.Path.{_∙_}
+use mathlib.Core.List.{[], _∷_}
 use Prim.Native.Nat.{_-_, _*_, _≤_}
 use native.Mathlib.Omega.{arith}
 use Rattle.laws.proofs.Lists.{Rows, rows-none, rows-more, rows-end}
@@ -6,7 +7,8 @@ use Rattle.image.specs.Picture.{Cb, Picture, pictureOf}
 use Rattle.fround.specs.Rounding.{roundClamped}
 use Rattle.guided.specs.Guided.{guidedSample}
 use Rattle.reader.specs.Plane.{planesWith, guidedPlane}
-use Rattle.reader.proofs.PlaneRows.{Planed, planed-none, planed-more, planed-end, stored-is}
+use Rattle.reader.proofs.GuidedRows.{Advanced, advanced-none, advanced-more, advanced-end}
+use Rattle.reader.proofs.PlaneRows.{stored-is}
 use Rattle.reader.proofs.plane.plane_rows.Statement.{statement}
 use Rattle.reader.proofs.plane.plane_rows.Tie as tie
 
@@ -14,7 +16,7 @@ abbrev Inv-loop : tie.InvT-loop
 Inv-loop layout y y-stride c c-stride s₀ out₀ h row₀ s out row =
     (row ≤ layout .h)
     × Rows out₀ out (layout .w) row (λ n x. roundClamped (layout .maxval) (guidedSample (pictureOf layout (planesWith (record { bytes = y; stride = y-stride }) (record { bytes = c; stride = c-stride }))) Cb n x))
-    × Planed (pictureOf layout (planesWith (record { bytes = y; stride = y-stride }) (record { bytes = c; stride = c-stride }))) row s₀ s
+    × Advanced (pictureOf layout (planesWith (record { bytes = y; stride = y-stride }) (record { bytes = c; stride = c-stride }))) (Cb ∷ []) 0 row s₀ s
 
 abbrev μ-loop : tie.MeasureT-loop
 μ-loop layout y y-stride c c-stride s₀ out₀ h row₀ s out row = layout .h - row
@@ -27,7 +29,7 @@ abbrev picture : (c : tie.Start Inv-loop μ-loop) → Picture
 picture c = pictureOf (c .args .layout) (planesWith (record { bytes = c .args .y .now; stride = c .args .y-stride }) (record { bytes = c .args .c .now; stride = c .args .c-stride }))
 
 loop-holds : tie.Need-loop-holds Inv-loop μ-loop
-loop-holds c = (omega arith, rows-none _ _ _, planed-none _ _)
+loop-holds c = (omega arith, rows-none _ _ _, advanced-none _ _ _ _)
 
 plane-row-requires : tie.Need-plane-row-requires Inv-loop μ-loop
 plane-row-requires c κs =
@@ -50,7 +52,7 @@ loop-again c =
     let i = l .loop in (
       omega arith,
       rows-more (i .inv .1) _ (r .plane-row .ensures .1 ∙ stored-is (picture s) (s .pre .0 .sound) (i .row) (i .row * s .args .layout .w) (s .args .s .now) (i .s) (i .out) (i .inv .2) (s .pre .1 .0) (omega arith)),
-      planed-more (i .inv .2) _ (r .plane-row .ensures .0),
+      advanced-more (i .inv .2) _ (r .plane-row .ensures .0),
     )
 
 same-length : tie.Need-same-length Inv-loop μ-loop
@@ -61,7 +63,7 @@ same-length-2 c = c .before .loop .inv .1 .len
 
 returns : tie.Need-returns Inv-loop μ-loop
 unfolding guidedPlane pictureOf
-returns c = (rows-end (c .before .loop .inv .1) _ (omega arith) (omega arith), planed-end (c .before .loop .inv .2) _ (omega arith) (omega arith))
+returns c = (rows-end (c .before .loop .inv .1) _ (omega arith) (omega arith), advanced-end (c .before .loop .inv .2) _ (omega arith) (omega arith))
 
 pub plane-rows-spec : {M : Type 1} → statement M
 plane-rows-spec =

@@ -1,0 +1,63 @@
+// The samples of a row: luma from its plane, chroma from scratch, rounded; one by one and by sixteens.
+ghost use mathlib.Core.Path.{_≡_};
+ghost use Prim.Native.Nat.{_+_, _≤_, _<_};
+ghost use lib.ListN.{length};
+ghost use Rattle.laws.specs.Floats.{f32, _⊗_};
+ghost use Rattle.image.specs.Samples.{sampleAt};
+ghost use Rattle.fround.specs.Rounding.{roundClamped, Rounded};
+ghost use Rattle.resample.specs.Rows.{cellAt};
+ghost use Rattle.colour_rows.specs.Lent.{LumaRow, Sixteen};
+use convert::Block;
+use image::Layout;
+
+fn wide(x: u16) -> u32
+    ensures { λ r. ⌜ (r ≡ x) × (r ≤ 65535) ⌝ }
+{
+    x as u32
+}
+
+// Inner: luma of column x of a row.
+pub fn luma_at(layout: Layout, plane: &[u8], stride: usize, row: usize, x: usize) -> u32
+    requires { ⌜ LumaRow layout (record { bytes = now plane; stride = stride }) row × (x < layout .w) ⌝ }
+    ensures { λ r. ⌜ (r ≡ sampleAt (layout .«sample_bytes») (record { bytes = now (plane .entry); stride = stride }) x row) × (r ≤ 65535) ⌝ }
+{
+    let bytes = layout.sample_bytes;
+    wide(image::sample(plane, bytes, row * stride + x * bytes))
+}
+
+// Inner: chroma in 256ths, as maxval 255 has it.
+pub fn chroma_at(v: f32) -> u32
+    ensures { λ r. ⌜ Rounded 65536 (v ⊗ f32 256) r ⌝ }
+{
+    fround::round_clamped_by_grid(v * 256.0, 65_536)
+}
+
+// Inner: luma of the sixteen columns from x on.
+pub fn luma16(
+    layout: Layout,
+    plane: &[u8],
+    stride: usize,
+    row: usize,
+    x: usize,
+) -> [u32; Block::LEN]
+    requires { ⌜ LumaRow layout (record { bytes = now plane; stride = stride }) row × (x + 16 ≤ layout .w) ⌝ }
+    ensures { λ r. ⌜ Sixteen r (λ k. sampleAt (layout .«sample_bytes») (record { bytes = now (plane .entry); stride = stride }) (x + k) row) 65535 ⌝ }
+{
+    let mut v = [0u32; Block::LEN];
+    for k in 0..Block::LEN {
+        v[k] = luma_at(layout, plane, stride, row, x + k);
+    }
+    v
+}
+
+// Inner: chroma of the sixteen columns from x on, of the finished row at src, in 256ths.
+pub fn chroma16(s: &[f32], src: usize, x: usize) -> [u32; Block::LEN]
+    requires { ⌜ src + (x + 16) ≤ length (now s) ⌝ }
+    ensures { λ r. ⌜ Sixteen r (λ k. roundClamped 65536 (cellAt (now (s .entry)) src (x + k) ⊗ f32 256)) 65536 ⌝ }
+{
+    let mut v = [0u32; Block::LEN];
+    for k in 0..Block::LEN {
+        v[k] = chroma_at(s[src + (x + k)]);
+    }
+    v
+}

@@ -1,0 +1,51 @@
+// One row of colour, from luma's plane and the finished rows of chroma that lie in scratch: the inner loops of the original's fill_ycbcr_interp.
+ghost use mathlib.Core.Path.{_≡_};
+ghost use Prim.Native.Nat.{_+_, _*_, _≤_};
+ghost use lib.ListN.{length};
+ghost use Rattle.colour_rows.specs.Colours.{colourRow};
+ghost use Rattle.colour_rows.specs.Lent.{RowLent};
+
+mod exact;
+mod gather;
+mod pixels;
+
+use exact::exact_row;
+use image::Layout;
+use pixels::fixed_row;
+use pixels::scaled_row;
+
+// Which of document 01's kernels makes the colour.
+pub enum YcbcrKernel {
+    Exact,
+    FixedPoint16,
+}
+
+// Inner: row `row` of luma's plane with the chroma that scratch holds, Cb's at 0 and Cr's at w, as w pixels of `size` bytes from `at` on. Kernel and maxval are chosen here, outside the loops.
+pub fn colour_row(
+    layout: Layout,
+    kernel: YcbcrKernel,
+    size: usize,
+    plane: &[u8],
+    stride: usize,
+    row: usize,
+    s: &[f32],
+    out: &mut [u8],
+    at: usize,
+)
+    requires { ⌜ RowLent layout (record { bytes = now plane; stride = stride }) row (length (now s)) ⌝ }
+    requires { ⌜ (3 ≤ size) × (size ≤ 4) × (at + layout .w * size ≤ length (now out)) ⌝ }
+    ensures { λ _. ⌜ now (out .exit) ≡ colourRow kernel layout (record { bytes = now (plane .entry); stride = stride }) row (now (s .entry)) at size (now (out .entry)) ⌝ }
+{
+    match kernel {
+        YcbcrKernel::Exact => {
+            if layout.maxval == 255 {
+                exact_row(layout, size, plane, stride, row, s, out, at);
+                return;
+            }
+            scaled_row(layout, size, plane, stride, row, s, out, at);
+        }
+        YcbcrKernel::FixedPoint16 => {
+            fixed_row(layout, size, plane, stride, row, s, out, at);
+        }
+    }
+}
