@@ -1,5 +1,5 @@
 //! Random pictures and call lists, the crates' sources beside the original.
-//! Usage: compare PICTURES LISTS PIXELS; it ends with status 1 where anything differs.
+//! Usage: compare PICTURES LISTS PIXELS FILLS; it ends with status 1 where anything differs.
 use oracle::{Bytes, Chroma, GuidedReader, Numbers};
 use sources::guided::{Geometry, Reader};
 use sources::image::Layout;
@@ -242,6 +242,51 @@ fn pixels(r: &mut Random, n: usize) -> [usize; 3] {
     differ
 }
 
+/// One picture filled by one of the eight ways that its maxval has; whether it differs.
+fn fill(r: &mut Random, t: usize) -> usize {
+    use sources::colour_rows::YcbcrKernel;
+    use sources::fill::ChromaUpsampling;
+    let mut p = picture(r, t);
+    // Maxval 255, half the time, has both kernels.
+    if r.below(2) == 0 {
+        p.layout.maxval = 255;
+    }
+    let l = p.layout;
+    let size = 3 + r.below(2);
+    let linear = r.below(2) == 0;
+    let fixed = l.maxval == 255 && r.below(2) == 0;
+    let mut s = vec![f32::NAN; scratch_need(l)];
+    let mut out: Vec<u8> = (0..l.w * l.h * size + 5).map(|_| r.next() as u8).collect();
+    let mut want = out.clone();
+    let (up, beside) = match linear {
+        true => (ChromaUpsampling::Linear, oracle::Upsampling::Linear),
+        false => (ChromaUpsampling::LumaGuided, oracle::Upsampling::Guided),
+    };
+    let (kernel, other) = match fixed {
+        true => (YcbcrKernel::FixedPoint16, oracle::Kernel::Fixed),
+        false => (YcbcrKernel::Exact, oracle::Kernel::Exact),
+    };
+    let a = sources::fill::fill(
+        l, &p.y.data, p.y.stride, &p.cb.data, p.cb.stride, &p.cr.data, p.cr.stride,
+        up, kernel, size, &mut s, &mut out,
+    );
+    let whole = l.w * l.h * size;
+    oracle::fill(&original(&p), size, beside, other, &mut want[..whole]).expect("a fill of the original's");
+    (a != Answer::Accepted || out != want) as usize
+}
+
+/// The fixed kernel at every pair of whole chroma, at Y 0 and 255.
+fn pairs() -> usize {
+    use sources::convert::{ycbcr_to_rgb8_fixed16, Pixel};
+    let mut differ = 0;
+    for n in 0..131_072u32 {
+        let (y, cb, cr) = (255 * (n >> 16), n >> 8 & 255, n & 255);
+        let [r, g, b] = oracle::ycbcr_to_rgb8_fixed16(y, cb, cr);
+        differ += (ycbcr_to_rgb8_fixed16(y, cb, cr) != Pixel::Rgb(r, g, b)) as usize;
+    }
+    differ
+}
+
 fn main() {
     let counts: Vec<usize> = std::env::args().skip(1).map(|n| n.parse().expect("a number")).collect();
     let mut r = Random(88_172_645_463_325_252);
@@ -263,6 +308,10 @@ fn main() {
     println!("{} lists of 24 calls, {rows} rows, {refused} refused; calls that differ: {lists}", counts[1]);
     let [exact, other, fixed] = pixels(&mut r, counts[2]);
     println!("{} pixels; differ: exact at 255 {exact}, at another maxval {other}, fixed {fixed}", counts[2]);
-    let all = linear + guided + triangular + lists + exact + other + fixed;
+    let every = pairs();
+    println!("131,072 pixels of the fixed kernel, every pair of chroma at Y 0 and 255; differ: {every}");
+    let fills: usize = (0..counts[3]).map(|t| fill(&mut r, t)).sum();
+    println!("{} fills; differ: {fills}", counts[3]);
+    let all = linear + guided + triangular + lists + exact + other + fixed + every + fills;
     std::process::exit((all != 0) as i32);
 }
