@@ -34,10 +34,9 @@ fn block_at(
     convert::rgb_block(y, cb, cr)
 }
 
-// The first m blocks of a row. Called with the size as a constant, so that the stores of a block are plain ones.
-fn block_run(
+// The first m blocks of a row, three bytes a pixel. The size is a constant in the loop, so that the stores of a block are plain ones.
+fn blocks3(
     layout: Layout,
-    size: usize,
     plane: &[u8],
     stride: usize,
     row: usize,
@@ -47,19 +46,43 @@ fn block_run(
     m: usize,
 )
     requires { ⌜ RowLent layout (record { bytes = now plane; stride = stride }) row (length (now s)) ⌝ }
-    requires { ⌜ (layout .maxval ≡ 255) × (16 * m ≤ layout .w) × (3 ≤ size) × (at + layout .w * size ≤ length (now out)) ⌝ }
-    ensures { λ _. ⌜ now (out .exit) ≡ pixels (now (out .entry)) at size (rowColour Exact layout (record { bytes = now (plane .entry); stride = stride }) row (now (s .entry))) (16 * m) ⌝ }
+    requires { ⌜ (layout .maxval ≡ 255) × (16 * m ≤ layout .w) × (at + layout .w * 3 ≤ length (now out)) ⌝ }
+    ensures { λ _. ⌜ now (out .exit) ≡ pixels (now (out .entry)) at 3 (rowColour Exact layout (record { bytes = now (plane .entry); stride = stride }) row (now (s .entry))) (16 * m) ⌝ }
 {
     let mut b = 0;
     while b < m {
         let x = Block::LEN * b;
         let rows = block_at(layout, plane, stride, row, s, x);
-        convert::put_block(out, at + x * size, size, rows);
+        convert::put_block(out, at + x * 3, 3, rows);
         b += 1;
     }
 }
 
-// The same, the pixel size chosen outside the loop.
+// The same with four bytes a pixel.
+fn blocks4(
+    layout: Layout,
+    plane: &[u8],
+    stride: usize,
+    row: usize,
+    s: &[f32],
+    out: &mut [u8],
+    at: usize,
+    m: usize,
+)
+    requires { ⌜ RowLent layout (record { bytes = now plane; stride = stride }) row (length (now s)) ⌝ }
+    requires { ⌜ (layout .maxval ≡ 255) × (16 * m ≤ layout .w) × (at + layout .w * 4 ≤ length (now out)) ⌝ }
+    ensures { λ _. ⌜ now (out .exit) ≡ pixels (now (out .entry)) at 4 (rowColour Exact layout (record { bytes = now (plane .entry); stride = stride }) row (now (s .entry))) (16 * m) ⌝ }
+{
+    let mut b = 0;
+    while b < m {
+        let x = Block::LEN * b;
+        let rows = block_at(layout, plane, stride, row, s, x);
+        convert::put_block(out, at + x * 4, 4, rows);
+        b += 1;
+    }
+}
+
+// The first m blocks, the pixel size chosen outside the loop.
 fn blocks(
     layout: Layout,
     size: usize,
@@ -76,10 +99,10 @@ fn blocks(
     ensures { λ _. ⌜ now (out .exit) ≡ pixels (now (out .entry)) at size (rowColour Exact layout (record { bytes = now (plane .entry); stride = stride }) row (now (s .entry))) (16 * m) ⌝ }
 {
     if size == 3 {
-        block_run(layout, 3, plane, stride, row, s, out, at, m);
+        blocks3(layout, plane, stride, row, s, out, at, m);
         return;
     }
-    block_run(layout, 4, plane, stride, row, s, out, at, m);
+    blocks4(layout, plane, stride, row, s, out, at, m);
 }
 
 // The pixel in column x, by the plain form.

@@ -4,11 +4,11 @@ ghost use Rattle.fill.specs.Fill.{FillGiven};
 mod answer;
 mod rows;
 
-use answer::fill_answer;
+pub use answer::fill_answer;
 use colour_rows::YcbcrKernel;
 use image::Layout;
 use laws::Answer;
-use rows::fill_rows;
+pub use rows::fill_rows;
 
 // How chroma is reconstructed.
 pub enum ChromaUpsampling {

@@ -6,22 +6,22 @@ use lib.ListN.{length}
 use Rattle.colour_rows.specs.Colours.{rowColour}
 use Rattle.colour_rows.specs.declared.YcbcrKernel.the-variants.{Exact}
 use Rattle.colour_rows.proofs.Stored.{Stored, stored-none, stored-block, stored-end}
-use Rattle.colour_rows.proofs.exact.block_run.Statement.{statement}
-use Rattle.colour_rows.proofs.exact.block_run.Tie as tie
+use Rattle.colour_rows.proofs.exact.blocks4.Statement.{statement}
+use Rattle.colour_rows.proofs.exact.blocks4.Tie as tie
 
 abbrev Inv-loop : tie.InvT-loop
-Inv-loop layout size plane stride row s out₀ at m b₀ out b = (b ≤ m) × Stored out₀ out at size (16 * b) (rowColour Exact layout (record { bytes = plane; stride = stride }) row s)
+Inv-loop layout plane stride row s out₀ at m b₀ out b = (b ≤ m) × Stored out₀ out at 4 (16 * b) (rowColour Exact layout (record { bytes = plane; stride = stride }) row s)
 
 abbrev μ-loop : tie.MeasureT-loop
-μ-loop layout size plane stride row s out₀ at m b₀ out b = m - b
+μ-loop layout plane stride row s out₀ at m b₀ out b = m - b
 
 -- block b fits the output
-room : (c : tie.In-loop Inv-loop μ-loop) → (let a = c .before .before .before .before .before .args in a .at + 16 * c .before .loop .b * a .size + 16 * a .size ≤ length (c .before .loop .out))
+room : (c : tie.In-loop Inv-loop μ-loop) → (let a = c .before .before .before .before .before .args in a .at + 16 * c .before .loop .b * 4 + 16 * 4 ≤ length (c .before .loop .out))
 room c =
     let a = c .before .before .before .before .before .args in
     let i = c .before .loop in
     let h = i .inv .1 .len in
-    let m : (16 * i .b + 16) * a .size ≤ a .layout .w * a .size = mul-le-mul-right (a .size) (omega arith) in
+    let m : (16 * i .b + 16) * 4 ≤ a .layout .w * 4 = mul-le-mul-right 4 (omega arith) in
     omega arith
 
 loop-holds : tie.Need-loop-holds Inv-loop μ-loop
@@ -57,8 +57,8 @@ same-length c = c .before .loop .inv .1 .len
 returns : tie.Need-returns Inv-loop μ-loop
 returns c = stored-end (c .before .loop .inv .1) _ (omega arith) (omega arith)
 
-pub block-run-spec : {M : Type 1} → statement M
-block-run-spec =
+pub blocks4-spec : {M : Type 1} → statement M
+blocks4-spec =
     tie.close
     (tie.spec
     Inv-loop
