@@ -20,8 +20,8 @@ use Rattle.resample.proofs.Spots.{tap-given}
 use Rattle.resample.proofs.LinearRows.{length-row, row-read}
 use Rattle.guided.specs.Scratch.{finishedAt}
 use Rattle.guided.proofs.Held.{Has}
-use Rattle.reader.specs.Plane.{guidedStep, guidedRows}
-use Rattle.reader.proofs.GuidedRows.{length-step, rows-finished}
+use Rattle.guided_rows.specs.Rows.{guidedStep, guidedRows}
+use Rattle.guided_rows.proofs.GuidedRows.{length-step, rows-finished}
 use Rattle.fill.specs.declared.ChromaUpsampling.{ChromaUpsampling}
 use Rattle.fill.specs.declared.ChromaUpsampling.the-variants.{Linear, LumaGuided}
 use Rattle.fill.specs.Fill.{chromaBy, linearPair, linearRows, fillScratch}

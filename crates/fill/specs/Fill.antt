@@ -13,7 +13,7 @@ use Rattle.image.specs.Tests.{outsideOf, layoutTests}
 use Rattle.image.specs.Picture.{Chroma, Cb, Cr, Picture, Planes, pictureOf, badPlanes}
 use Rattle.resample.specs.Linear.{scratchNeed, linearSample, linearRow}
 use Rattle.guided.specs.Guided.{guidedSample}
-use Rattle.reader.specs.Plane.{guidedRows}
+use Rattle.guided_rows.specs.Rows.{guidedRows}
 use Rattle.convert.specs.Kernels.{Colour}
 use Rattle.convert.specs.Stores.{pixels}
 use Rattle.colour_rows.specs.declared.YcbcrKernel.{YcbcrKernel}

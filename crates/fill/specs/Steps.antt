@@ -7,7 +7,7 @@ use Rattle.image.specs.declared.layout.Layout.{Layout}
 use Rattle.image.specs.Picture.{Cb, Cr, Planes, pictureOf}
 use Rattle.resample.specs.Linear.{scratchNeed}
 use Rattle.sums.specs.Parts.{Lent}
-use Rattle.reader.specs.Plane.{guidedStep}
+use Rattle.guided_rows.specs.Rows.{guidedStep}
 use Rattle.fill.specs.declared.ChromaUpsampling.{ChromaUpsampling}
 use Rattle.fill.specs.declared.ChromaUpsampling.the-variants.{Linear, LumaGuided}
 use Rattle.fill.specs.Fill.{linearPair}

@@ -37,7 +37,7 @@ pub fn fill_answer(
     if image::refused(early) {
         return early;
     }
-    if reader::bad_planes(layout, y, y_stride, cb, cb_stride, cr, cr_stride) {
+    if guided_rows::bad_planes(layout, y, y_stride, cb, cb_stride, cr, cr_stride) {
         return Answer::Refused(7);
     }
     if image::outside(3, 4, size) {

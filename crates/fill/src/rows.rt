@@ -55,7 +55,7 @@ fn chroma_row(
             linear_pair(layout, cb, cb_stride, cr, cr_stride, first + n, s);
         }
         ChromaUpsampling::LumaGuided => {
-            reader::guided_step(
+            guided_rows::guided_step(
                 layout,
                 y,
                 y_stride,

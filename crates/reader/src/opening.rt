@@ -1,31 +1,11 @@
 // Open: the checks of a picture and its planes, and the state at row 0.
 ghost use mathlib.Core.Path.{_≡_};
 ghost use Rattle.image.specs.Tests.{Sound};
-ghost use Rattle.image.specs.Picture.{badPlanes};
 ghost use Rattle.guided.specs.Calls.{opened, OpenGiven};
 use guided::Reader;
 use guided::Reply;
 use image::Layout;
 use laws::Answer;
-
-// Inner: refusal 7's test for the three planes of a picture.
-pub fn bad_planes(
-    layout: Layout,
-    y: &[u8],
-    y_stride: usize,
-    cb: &[u8],
-    cb_stride: usize,
-    cr: &[u8],
-    cr_stride: usize,
-) -> bool
-    ensures { λ r. ⌜ r ≡ badPlanes layout (record { y = record { bytes = now (y .entry); stride = «y_stride» }; cb = record { bytes = now (cb .entry); stride = «cb_stride» }; cr = record { bytes = now (cr .entry); stride = «cr_stride» } }) ⌝ }
-{
-    let size = layout.sample_bytes;
-    let bad_y = image::bad_plane(size, layout.w, layout.h, y_stride, y.len());
-    let bad_cb = image::bad_plane(size, layout.cw, layout.ch, cb_stride, cb.len());
-    let bad_cr = image::bad_plane(size, layout.cw, layout.ch, cr_stride, cr.len());
-    image::either(bad_y, image::either(bad_cb, bad_cr))
-}
 
 // The state that open leaves.
 fn opened_reader(layout: Layout) -> Reader
@@ -63,7 +43,7 @@ pub fn open(
     if image::refused(answer) {
         return Reply { answer, reader };
     }
-    if bad_planes(layout, y, y_stride, cb, cb_stride, cr, cr_stride) {
+    if guided_rows::bad_planes(layout, y, y_stride, cb, cb_stride, cr, cr_stride) {
         return Reply {
             answer: Answer::Refused(7),
             reader,

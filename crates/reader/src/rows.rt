@@ -7,10 +7,10 @@ ghost use Rattle.laws.specs.Refusals.{first};
 ghost use Rattle.image.specs.Tests.{Sound};
 ghost use Rattle.resample.specs.Rows.{cellAt};
 ghost use Rattle.guided.specs.Calls.{layoutOf, rowed, rowTests, RowGiven};
-use super::opening::bad_planes;
-use super::steps::row_steps;
 use guided::Reader;
 use guided::Reply;
+use guided_rows::bad_planes;
+use guided_rows::row_steps;
 use laws::Answer;
 
 // The lowest refusal of `row` that applies. It writes nothing.

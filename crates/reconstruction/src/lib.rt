@@ -11,7 +11,7 @@ pub use guided::Reply;
 pub use guided::seek;
 pub use image::Layout;
 pub use laws::Answer;
-pub use reader::guided_plane;
+pub use planes::guided_plane;
 pub use reader::open;
 pub use reader::row;
 pub use resample::Phase;

@@ -1,0 +1,85 @@
+use Rattle.resample.specs.Linear.{scratchNeed}
+use Rattle.image.specs.Picture.{pictureOf}
+use Rattle.guided.proofs.Window.{length-hsteps}
+use Rattle.sums.specs.Parts.{components}
+use Rattle.guided_rows.proofs.Catching.{FRun, frun-none, frun-more, frun-length, frun-end}
+use borrow.Author.Needs.{needs}
+use mathlib.Core.Path.{ap, _∙_}
+use Prim.Native.Nat.{_-_, _≤_}
+use native.Mathlib.Omega.{arith}
+use lib.ListN.{length}
+use Rattle.guided_rows.proofs.steps.catch_up.Statement.{statement}
+use Rattle.guided.proofs.Acceptance.{both}
+use Rattle.guided_rows.proofs.steps.catch_up.Tie as tie
+
+abbrev Inv-loop : tie.InvT-loop
+Inv-loop layout y y-stride cb cb-stride cr cr-stride both h f to s₀ ch h-next₀ j₀ s h-next j = FRun (pictureOf layout (record { y = record { bytes = y; stride = y-stride }; cb = record { bytes = cb; stride = cb-stride }; cr = record { bytes = cr; stride = cr-stride } })) (components both) h f to s₀ h-next j s
+
+abbrev μ-loop : tie.MeasureT-loop
+μ-loop layout y y-stride cb cb-stride cr cr-stride both h f to s₀ ch h-next₀ j₀ s h-next j = to - j
+
+abbrev start : (c : tie.At-loop Inv-loop μ-loop) → tie.Start Inv-loop μ-loop
+start c = c .before .before .before .before .before
+
+-- scratch is as long as it was
+room : (c : tie.At-loop Inv-loop μ-loop) → scratchNeed (start c .args .layout) ≤ length (c .loop .s)
+room c = rw (frun-length _ _ _ _ _ _ _ _ _ (c .loop .inv)) (start c .pre .1 .1)
+
+loop-holds : tie.Need-loop-holds Inv-loop μ-loop
+loop-holds c = frun-none _ _ _ _ _ _
+
+add-least : tie.Need-add-least Inv-loop μ-loop
+add-least c = let s = start (c .before) .pre .0 .sound in omega arith
+
+least-requires : tie.Need-least-requires Inv-loop μ-loop
+least-requires c κs = search needs
+
+across-rows-requires : tie.Need-across-rows-requires Inv-loop μ-loop
+across-rows-requires c κs =
+    let l = c .before .before .before in
+    let e = c .before .least .ensures in
+    (start l .pre .0, (omega arith, room l))
+
+finish-requires : tie.Need-finish-requires Inv-loop μ-loop
+finish-requires c κs =
+    let l = c .before .before .before .before .before .before .before in
+    (start l .pre .0 .sound, omega arith, rw (ap length (c .before .before .before .across-rows .ensures) ∙ length-hsteps _ _ _ _ _) (room l))
+
+greatest-requires : tie.Need-greatest-requires Inv-loop μ-loop
+greatest-requires c κs = search needs
+
+add-j : tie.Need-add-j Inv-loop μ-loop
+add-j c = omega arith
+
+loop-less : tie.Need-loop-less Inv-loop μ-loop
+loop-less c = omega arith
+
+loop-again : tie.Need-loop-again Inv-loop μ-loop
+unfolding pictureOf
+loop-again c =
+    let i = c .before .before .before .before .before .before .before .before .before .before in
+    frun-more _ _ _ _ _ _ _ _ _ _ _ _ _ (i .before .loop .inv) (omega arith) (c .before .before .before .before .before .before .before .before .before .least .ensures) (c .before .before .before .before .before .before .before .across-rows .ensures) (c .before .before .before .finish .ensures _) (c .greatest .ensures)
+
+same-length : tie.Need-same-length Inv-loop μ-loop
+same-length c = frun-length _ _ _ _ _ _ _ _ _ (c .before .loop .inv)
+
+returns : tie.Need-returns Inv-loop μ-loop
+returns c = frun-end _ _ _ _ _ _ _ _ _ (c .before .loop .inv) (omega arith)
+
+pub catch-up-spec : {M : Type 1} → statement M
+catch-up-spec =
+    tie.close
+    (tie.spec
+    Inv-loop
+    μ-loop
+    loop-holds
+    add-least
+    least-requires
+    across-rows-requires
+    finish-requires
+    greatest-requires
+    add-j
+    loop-less
+    loop-again
+    same-length
+    returns)

@@ -1,0 +1,193 @@
+// Catching up: the chroma rows that a picture row needs, summed across and finished in turn.
+ghost use mathlib.Core.Path.{_≡_};
+ghost use Prim.Native.Nat.{_+_, _-_, _≤_, _<_, max};
+ghost use lib.ListN.{length};
+ghost use Rattle.image.specs.Tests.{Sound};
+ghost use Rattle.image.specs.Picture.{pictureOf};
+ghost use Rattle.resample.specs.Linear.{scratchNeed};
+ghost use Rattle.guided.specs.Calls.{doneF};
+ghost use Rattle.guided.specs.Scratch.{hsteps, fsteps, rowSteps};
+ghost use Rattle.sums.specs.Parts.{Lent, components};
+ghost use Rattle.guided_rows.specs.Rows.{beforeH, beforeF, guidedStep};
+use guided::Counters;
+use image::Layout;
+
+// The chroma rows from, .. to - 1 across.
+fn across_rows(
+    layout: Layout,
+    y: &[u8],
+    y_stride: usize,
+    cb: &[u8],
+    cb_stride: usize,
+    cr: &[u8],
+    cr_stride: usize,
+    both: bool,
+    from: usize,
+    to: usize,
+    s: &mut [f32],
+)
+    requires { ⌜ Lent layout (record { y = record { bytes = now y; stride = «y_stride» }; cb = record { bytes = now cb; stride = «cb_stride» }; cr = record { bytes = now cr; stride = «cr_stride» } }) both ⌝ }
+    requires { ⌜ (to ≤ layout .ch) × (scratchNeed layout ≤ length (now s)) ⌝ }
+    ensures { λ _. ⌜ now (s .exit) ≡ hsteps (pictureOf layout (record { y = record { bytes = now (y .entry); stride = «y_stride» }; cb = record { bytes = now (cb .entry); stride = «cb_stride» }; cr = record { bytes = now (cr .entry); stride = «cr_stride» } })) (components both) from (to - from) (now (s .entry)) ⌝ }
+{
+    let mut j = from;
+    while j < to {
+        sums::horizontal(
+            layout,
+            y,
+            y_stride,
+            cb,
+            cb_stride,
+            cr,
+            cr_stride,
+            both,
+            j,
+            s,
+        );
+        j += 1;
+    }
+}
+
+fn greatest(a: usize, b: usize) -> usize
+    ensures { λ r. ⌜ r ≡ max a b ⌝ }
+{
+    if a < b { b } else { a }
+}
+
+// Inner: the chroma rows f, .. to - 1 finished, h being the next to sum across: before each one, the rows round it.
+pub fn catch_up(
+    layout: Layout,
+    y: &[u8],
+    y_stride: usize,
+    cb: &[u8],
+    cb_stride: usize,
+    cr: &[u8],
+    cr_stride: usize,
+    both: bool,
+    h: usize,
+    f: usize,
+    to: usize,
+    s: &mut [f32],
+)
+    requires { ⌜ Lent layout (record { y = record { bytes = now y; stride = «y_stride» }; cb = record { bytes = now cb; stride = «cb_stride» }; cr = record { bytes = now cr; stride = «cr_stride» } }) both ⌝ }
+    requires { ⌜ (to ≤ layout .ch) × (scratchNeed layout ≤ length (now s)) ⌝ }
+    ensures { λ _. ⌜ now (s .exit) ≡ fsteps (pictureOf layout (record { y = record { bytes = now (y .entry); stride = «y_stride» }; cb = record { bytes = now (cb .entry); stride = «cb_stride» }; cr = record { bytes = now (cr .entry); stride = «cr_stride» } })) (components both) h f (to - f) (now (s .entry)) ⌝ }
+{
+    let ch = layout.ch;
+    let mut h_next = h;
+    let mut j = f;
+    while j < to {
+        let end = image::least(j + 2, ch);
+        across_rows(
+            layout,
+            y,
+            y_stride,
+            cb,
+            cb_stride,
+            cr,
+            cr_stride,
+            both,
+            h_next,
+            end,
+            s,
+        );
+        sums::finish(layout, both, j, s);
+        h_next = greatest(h_next, end);
+        j += 1;
+    }
+}
+
+// Inner: all the steps of a picture row over scratch, h and f being the next chroma rows to sum across and to finish. Cb's row alone, or both.
+pub fn row_steps(
+    layout: Layout,
+    y: &[u8],
+    y_stride: usize,
+    cb: &[u8],
+    cb_stride: usize,
+    cr: &[u8],
+    cr_stride: usize,
+    both: bool,
+    h: usize,
+    f: usize,
+    row: usize,
+    s: &mut [f32],
+)
+    requires { ⌜ Lent layout (record { y = record { bytes = now y; stride = «y_stride» }; cb = record { bytes = now cb; stride = «cb_stride» }; cr = record { bytes = now cr; stride = «cr_stride» } }) both ⌝ }
+    requires { ⌜ (row < layout .h) × (scratchNeed layout ≤ length (now s)) ⌝ }
+    ensures { λ _. ⌜ now (s .exit) ≡ rowSteps (pictureOf layout (record { y = record { bytes = now (y .entry); stride = «y_stride» }; cb = record { bytes = now (cb .entry); stride = «cb_stride» }; cr = record { bytes = now (cr .entry); stride = «cr_stride» } })) (components both) h f (doneF layout row - f) row (now (s .entry)) ⌝ }
+{
+    let done = guided::done_counters(layout, row);
+    catch_up(
+        layout,
+        y,
+        y_stride,
+        cb,
+        cb_stride,
+        cr,
+        cr_stride,
+        both,
+        h,
+        f,
+        done.f_next,
+        s,
+    );
+    values::guided_row(
+        layout,
+        y,
+        y_stride,
+        cb,
+        cb_stride,
+        cr,
+        cr_stride,
+        both,
+        row,
+        s,
+    );
+}
+
+// The counters before row first + n of a run of rows that begins at first: those of a reader sought there, then those that the row before leaves.
+fn counters_before(layout: Layout, first: usize, n: usize) -> Counters
+    requires { ⌜ Sound layout ⌝ }
+    requires { ⌜ first + n < layout .h ⌝ }
+    ensures { λ c. ⌜ (c .«h_next» ≡ beforeH layout first n) × (c .«f_next» ≡ beforeF layout first n) ⌝ }
+{
+    if n == 0 {
+        return guided::fresh_counters(layout, first);
+    }
+    guided::done_counters(layout, first + (n - 1))
+}
+
+// Inner: row first + n of a run of rows that begins at first, over the scratch that the rows before it left. Cb's row alone, or both.
+pub fn guided_step(
+    layout: Layout,
+    y: &[u8],
+    y_stride: usize,
+    cb: &[u8],
+    cb_stride: usize,
+    cr: &[u8],
+    cr_stride: usize,
+    both: bool,
+    first: usize,
+    n: usize,
+    s: &mut [f32],
+)
+    requires { ⌜ Lent layout (record { y = record { bytes = now y; stride = «y_stride» }; cb = record { bytes = now cb; stride = «cb_stride» }; cr = record { bytes = now cr; stride = «cr_stride» } }) both ⌝ }
+    requires { ⌜ (first + n < layout .h) × (scratchNeed layout ≤ length (now s)) ⌝ }
+    ensures { λ _. ⌜ now (s .exit) ≡ guidedStep (pictureOf layout (record { y = record { bytes = now (y .entry); stride = «y_stride» }; cb = record { bytes = now (cb .entry); stride = «cb_stride» }; cr = record { bytes = now (cr .entry); stride = «cr_stride» } })) (components both) first n (now (s .entry)) ⌝ }
+{
+    let k = counters_before(layout, first, n);
+    row_steps(
+        layout,
+        y,
+        y_stride,
+        cb,
+        cb_stride,
+        cr,
+        cr_stride,
+        both,
+        k.h_next,
+        k.f_next,
+        first + n,
+        s,
+    );
+}

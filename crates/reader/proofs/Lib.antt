@@ -1,4 +1,0 @@
--- Laws of the reader's loops. GuidedRows is what callers cite of rows one after another.
-pub mod Catching
-pub mod GuidedRows
-pub mod PlaneRows
