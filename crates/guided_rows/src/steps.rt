@@ -9,8 +9,8 @@ ghost use Rattle.guided.specs.Calls.{doneF};
 ghost use Rattle.guided.specs.Scratch.{hsteps, fsteps, rowSteps};
 ghost use Rattle.sums.specs.Parts.{Lent, components};
 ghost use Rattle.guided_rows.specs.Rows.{beforeH, beforeF, guidedStep};
-use guided::Counters;
 use image::Layout;
+use state::Counters;
 
 // The chroma rows from, .. to - 1 across.
 fn across_rows(
@@ -116,7 +116,7 @@ pub fn row_steps(
     requires { ⌜ (row < layout .h) × (scratchNeed layout ≤ length (now s)) ⌝ }
     ensures { λ _. ⌜ now (s .exit) ≡ rowSteps (pictureOf layout (record { y = record { bytes = now (y .entry); stride = «y_stride» }; cb = record { bytes = now (cb .entry); stride = «cb_stride» }; cr = record { bytes = now (cr .entry); stride = «cr_stride» } })) (components both) h f (doneF layout row - f) row (now (s .entry)) ⌝ }
 {
-    let done = guided::done_counters(layout, row);
+    let done = state::done_counters(layout, row);
     catch_up(
         layout,
         y,
@@ -152,9 +152,9 @@ fn counters_before(layout: Layout, first: usize, n: usize) -> Counters
     ensures { λ c. ⌜ (c .«h_next» ≡ beforeH layout first n) × (c .«f_next» ≡ beforeF layout first n) ⌝ }
 {
     if n == 0 {
-        return guided::fresh_counters(layout, first);
+        return state::fresh_counters(layout, first);
     }
-    guided::done_counters(layout, first + (n - 1))
+    state::done_counters(layout, first + (n - 1))
 }
 
 // Inner: row first + n of a run of rows that begins at first, over the scratch that the rows before it left. Cb's row alone, or both.

@@ -12,8 +12,8 @@ fn opened_reader(layout: Layout) -> Reader
     requires { ⌜ Sound layout ⌝ }
     ensures { λ r. ⌜ r ≡ opened layout ⌝ }
 {
-    let c = guided::fresh_counters(layout, 0);
-    let geometry = guided::geometry_of(layout);
+    let c = state::fresh_counters(layout, 0);
+    let geometry = state::geometry_of(layout);
     Reader {
         geometry,
         sample_bytes: layout.sample_bytes,

@@ -29,10 +29,10 @@ fn row_answer(
 ) -> Answer
     ensures { λ r. ⌜ r ≡ first (rowTests (record { y = row; planes = record { y = record { bytes = now (y .entry); stride = «y_stride» }; cb = record { bytes = now (cb .entry); stride = «cb_stride» }; cr = record { bytes = now (cr .entry); stride = «cr_stride» } }; reader = reader; scratch = now (s .entry); outCb = now («out_cb» .entry); outCr = now («out_cr» .entry) })) ⌝ }
 {
-    if guided::bad_state(reader) {
+    if state::bad_state(reader) {
         return Answer::Refused(1);
     }
-    let layout = guided::layout_of(reader);
+    let layout = state::layout_of(reader);
     if bad_planes(layout, y, y_stride, cb, cb_stride, cr, cr_stride) {
         return Answer::Refused(7);
     }
@@ -57,7 +57,7 @@ fn rowed_state(reader: Reader, y: usize) -> Reader
     requires { ⌜ y < reader .geometry .h ⌝ }
     ensures { λ r. ⌜ r ≡ rowed reader y ⌝ }
 {
-    let c = guided::done_counters(guided::layout_of(reader), y);
+    let c = state::done_counters(state::layout_of(reader), y);
     let geometry = reader.geometry;
     Reader {
         geometry,
@@ -114,7 +114,7 @@ pub fn row(
     if image::refused(answer) {
         return Reply { answer, reader };
     }
-    let layout = guided::layout_of(reader);
+    let layout = state::layout_of(reader);
     let w = layout.w;
     row_steps(
         layout,

@@ -4,7 +4,7 @@ use native.Mathlib.Omega.{arith}
 use borrow.Author.Needs.{needs}
 use Rattle.image.specs.declared.layout.Layout.{Layout}
 use Rattle.guided.specs.Calls.{freshH, freshF, doneH, doneF}
-use Rattle.guided.specs.declared.state.Counters.{Counters}
+use Rattle.state.specs.declared.state.Counters.{Counters}
 use Rattle.guided_rows.specs.Rows.{beforeH, beforeF}
 use Rattle.guided_rows.proofs.steps.counters_before.Statement.{statement}
 use Rattle.guided_rows.proofs.steps.counters_before.Tie as tie

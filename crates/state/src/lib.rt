@@ -1,0 +1,14 @@
+// The reader's state as functions: its checks, its counters, and seek.
+mod phases;
+mod state;
+
+pub use phases::geometry_of;
+pub use state::Counters;
+pub use state::bad_state;
+pub use state::done_counters;
+pub use state::fresh_counters;
+pub use state::last_of;
+pub use state::layout_of;
+pub use state::seek;
+pub use state::sought_state;
+pub use state::top_of;
