@@ -1,25 +1,23 @@
 -- A line at the front of out, and what is behind it.
 use mathlib.Core.Path.{_≡_, sym, ap, _∙_, refl}
-use mathlib.Core.List.{List, [], _++_}
+use mathlib.Core.List.{List, [], _++_, append-nil}
 use Prim.Native.Nat.{ℕ, _+_, _≤_, _<_, _*_, _-_}
 use native.Mathlib.Omega.{arith}
-use lib.ListN.{length, getD, take, drop, length-append, length-drop, List·getD-append}
-use mathlib.Core.List.{append-nil}
-use lib.ListN.{drop-of-length-le}
-use Rattle.colour_rows.specs.declared.YcbcrKernel.the-variants.{Exact}
-use Rattle.fill.specs.declared.ChromaUpsampling.the-variants.{LumaGuided}
+use lib.ListN.{length, getD, take, drop, length-append, length-drop, List·getD-append, drop-of-length-le}
 use lib.Seq.{ext-getD, getD-drop}
-use Rattle.image.specs.declared.layout.Layout.{Layout}
 use Rattle.laws.specs.Lists.{put, table}
 use Rattle.laws.proofs.Lists.{length-put, put-after, take-put, length-table, table-at}
+use Rattle.image.specs.declared.layout.Layout.{Layout}
+use Rattle.image.specs.Picture.{Picture, pictureOf}
+use Rattle.colour_rows.specs.declared.YcbcrKernel.the-variants.{Exact}
+use Rattle.fill.specs.declared.ChromaUpsampling.the-variants.{LumaGuided}
+use Rattle.fill.specs.Fill.{fillColour, pixelRows}
 use Rattle.netpbm.specs.declared.lines.Line.{Line}
-use Rattle.netpbm.specs.Lines.{ppmHeader}
 use Rattle.netpbm.specs.Forms.{lineOf}
+use Rattle.netpbm.specs.Lines.{ppmHeader}
+use Rattle.netpbm.specs.Reading.{layoutOf}
 use Rattle.netpbm.proofs.Digits.{three-most, four-most}
 use Rattle.picture.specs.Picture.{ppmLength, inputPicture, ppmOver}
-use Rattle.image.specs.Picture.{Picture, pictureOf}
-use Rattle.fill.specs.Fill.{fillColour, pixelRows}
-use Rattle.netpbm.specs.Reading.{layoutOf}
 use Rattle.picture.proofs.Readings.{to-end}
 
 pub header-most : (w h : ℕ) → w ≤ 128 → length (ppmHeader w h) ≤ 16

@@ -14,8 +14,8 @@ use Rattle.laws.specs.declared.Answer.the-variants.{Accepted, Refused as Turned
 use Rattle.laws.specs.Refusals.{first, accepted}
 use Rattle.laws.proofs.Refusals.{accepted-failed, failed-accepted, passed-early, refused-early, refused-here, passed-over}
 use Rattle.image.specs.declared.layout.Layout.{Layout}
-use Rattle.image.specs.Tests.{badPlane, layoutTests, Sound}
 use Rattle.image.specs.Picture.{Planes, shortPlane, badPlanes, Picture, pictureOf}
+use Rattle.image.specs.Tests.{badPlane, layoutTests, Sound}
 use Rattle.image.proofs.Layouts.{sound}
 use Rattle.resample.specs.Linear.{scratchNeed}
 use Rattle.colour_rows.specs.declared.YcbcrKernel.the-variants.{Exact}

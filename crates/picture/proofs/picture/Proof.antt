@@ -1,7 +1,7 @@
 use mathlib.Core.Path.{refl, sym, _∙_}
 use borrow.Author.Needs.{needs}
-use Rattle.picture.proofs.picture.Statement.{statement}
 use Rattle.picture.proofs.Readings.{read-refused}
+use Rattle.picture.proofs.picture.Statement.{statement}
 use Rattle.picture.proofs.picture.Tie as tie
 
 read-requires : tie.Need-read-requires
@@ -17,7 +17,8 @@ written-requires : tie.Need-written-requires
 written-requires c κs = sym (c .before .before .before .before .before .read .ensures) ∙ c .before .before .before .layout .given .1
 
 returns : tie.Need-returns
-returns c = let a = c .before .before .before .before .before .before .before .args in
+returns c =
+    let a = c .before .before .before .before .before .before .before .args in
     record { answers = read-refused (a .input .now) (a .s .now) (a .out .now) _ (sym (c .before .before .before .read .ensures) ∙ c .before .n .given .1); gives = refl; scratches = refl }
 
 same-length : tie.Need-same-length

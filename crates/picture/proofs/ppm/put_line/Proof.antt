@@ -2,9 +2,9 @@ use mathlib.Core.Path.{_≡_, refl}
 use Prim.Native.Nat.{_-_, _≤_}
 use native.Mathlib.Omega.{arith}
 use lib.ListN.{length, getD}
-use Rattle.picture.proofs.ppm.put_line.Statement.{statement}
-use Rattle.laws.proofs.Lists.{Run, run-end, run-none, run-one}
 use borrow.Author.Needs.{needs}
+use Rattle.laws.proofs.Lists.{Run, run-end, run-none, run-one}
+use Rattle.picture.proofs.ppm.put_line.Statement.{statement}
 use Rattle.picture.proofs.ppm.put_line.Tie as tie
 
 abbrev Inv-loop : tie.InvT-loop

@@ -1,8 +1,8 @@
 use native.Mathlib.Omega.{arith}
 use borrow.Author.Needs.{needs}
 use Rattle.netpbm.proofs.Acceptance.{taken}
-use Rattle.picture.proofs.ppm.put_pixels.Statement.{statement}
 use Rattle.picture.proofs.Readings.{filled}
+use Rattle.picture.proofs.ppm.put_pixels.Statement.{statement}
 use Rattle.picture.proofs.ppm.put_pixels.Tie as tie
 
 sub-fill : tie.Need-sub-fill
@@ -42,7 +42,8 @@ same-length-2 : tie.Need-same-length-2
 same-length-2 c = search needs
 
 returns : tie.Need-returns
-returns c = let s = c .before .before .before .before .before .before .before .before .before .before .before .before .before in
+returns c =
+    let s = c .before .before .before .before .before .before .before .before .before .before .before .before .before in
     let p = s .pre in
     let a = s .args in
     filled (a .input .now) (a .layout) (a .y) (a .cb) (a .cr) (p .0) (s .args .s .now) (s .args .out .now) (p .1 .0) (p .1 .1) _ _ _ (c .before .before .before .before .fill .ensures)

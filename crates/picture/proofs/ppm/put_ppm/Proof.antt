@@ -1,18 +1,18 @@
-use lib.ListN.{length-drop}
-use native.Mathlib.Omega.{arith}
-use borrow.Author.Needs.{needs}
-use Rattle.netpbm.proofs.Acceptance.{taken}
-use Rattle.picture.proofs.ppm.put_ppm.Statement.{statement}
-use Rattle.picture.proofs.Fronts.{header-most, line-length, ppm-covers, picture-layout, ppm-is}
-use Rattle.netpbm.specs.Lines.{ppmHeader}
 use mathlib.Core.Path.{_∙_, ap}
-use lib.ListN.{length}
+use native.Mathlib.Omega.{arith}
+use lib.ListN.{length-drop, length}
+use borrow.Author.Needs.{needs}
 use Rattle.laws.proofs.Lists.{length-put}
+use Rattle.netpbm.specs.Lines.{ppmHeader}
+use Rattle.netpbm.proofs.Acceptance.{taken}
+use Rattle.picture.proofs.Fronts.{header-most, line-length, ppm-covers, picture-layout, ppm-is}
 use Rattle.picture.proofs.Readings.{to-end, told}
+use Rattle.picture.proofs.ppm.put_ppm.Statement.{statement}
 use Rattle.picture.proofs.ppm.put_ppm.Tie as tie
 
 put-line-requires : tie.Need-put-line-requires
-put-line-requires c κs = let s = c .before .before .before .before in
+put-line-requires c κs =
+    let s = c .before .before .before .before in
     let a = s .args in
     let t = taken _ _ _ _ _ (s .pre .0) in
     let n = line-length (ppmHeader (a .layout .w) (a .layout .h)) (a .header) (s .pre .1 .0) in
@@ -22,7 +22,8 @@ put-line-requires c κs = let s = c .before .before .before .before in
     (omega arith, omega arith)
 
 sub-put-pixels : tie.Need-sub-put-pixels
-sub-put-pixels c = let s = c .before .before .before .before .before .before .before .before in
+sub-put-pixels c =
+    let s = c .before .before .before .before .before .before .before .before in
     let a = s .args in
     let t = taken _ _ _ _ _ (s .pre .0) in
     let n = line-length (ppmHeader (a .layout .w) (a .layout .h)) (a .header) (s .pre .1 .0) in
@@ -33,7 +34,8 @@ sub-put-pixels c = let s = c .before .before .before .before .before .before .be
     omega arith
 
 part-put-pixels-start : tie.Need-part-put-pixels-start
-part-put-pixels-start c = let s = c .before .before .before .before .before .before .before .before in
+part-put-pixels-start c =
+    let s = c .before .before .before .before .before .before .before .before in
     let a = s .args in
     let t = taken _ _ _ _ _ (s .pre .0) in
     let n = line-length (ppmHeader (a .layout .w) (a .layout .h)) (a .header) (s .pre .1 .0) in
@@ -47,7 +49,8 @@ part-put-pixels-end : tie.Need-part-put-pixels-end
 part-put-pixels-end c = search needs
 
 put-pixels-requires : tie.Need-put-pixels-requires
-put-pixels-requires c κs = let s = c .before .before .before .before .before .before .before .before .before in
+put-pixels-requires c κs =
+    let s = c .before .before .before .before .before .before .before .before .before in
     let a = s .args in
     let t = taken _ _ _ _ _ (s .pre .0) in
     let n = line-length (ppmHeader (a .layout .w) (a .layout .h)) (a .header) (s .pre .1 .0) in
@@ -64,7 +67,8 @@ same-length-2 : tie.Need-same-length-2
 same-length-2 c = search needs
 
 returns : tie.Need-returns
-returns c = let s = c .before .before .before .before .before .before .before .before .before .before .before .before .before .before in
+returns c =
+    let s = c .before .before .before .before .before .before .before .before .before .before .before .before .before .before in
     let a = s .args in
     let t = taken _ _ _ _ _ (s .pre .0) in
     let n = line-length (ppmHeader (a .layout .w) (a .layout .h)) (a .header) (s .pre .1 .0) in
