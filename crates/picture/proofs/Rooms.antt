@@ -1,0 +1,72 @@
+-- The rooms of the program: what it lends is enough for every input, and a picture that is written fits.
+use mathlib.Core.Path.{_≡_, refl, sym, ap, _∙_}
+use mathlib.Core.List.{List, [], _∷_, _++_}
+use Prim.Native.Nat.{ℕ, _≤_}
+use native.Mathlib.Omega.{arith}
+use lib.Dec.{ltb}
+use lib.ListN.{length, length-append}
+use lib.Ieee.{Float}
+use borrow.Author.Tests.{le-ltb, ltb-false}
+use Rattle.laws.specs.declared.Answer.{Answer}
+use Rattle.laws.specs.declared.Answer.the-variants.{Accepted, Refused as Turned}
+use Rattle.laws.specs.Refusals.{first, accepted}
+use Rattle.laws.proofs.Refusals.{accepted-failed, failed-accepted, failed-both, passed-early, refused-early}
+use Rattle.resample.specs.Linear.{scratchNeed}
+use Rattle.netpbm.specs.declared.lines.Line.{Line}
+use Rattle.netpbm.specs.Forms.{lineOf}
+use Rattle.netpbm.specs.Images.{rowsAt}
+use Rattle.netpbm.specs.Lines.{refusalLine}
+use Rattle.netpbm.specs.Reading.{cbAt, crAt, layoutOf, readingTests, readingOf}
+use Rattle.netpbm.proofs.Acceptance.{Taken, taken}
+use Rattle.picture.specs.declared.Outcome.the-variants.{Written}
+use Rattle.picture.specs.Picture.{ppmLength, pictureTests, pickOutcome, PictureGiven}
+use Rattle.picture.proofs.Fronts.{header-most}
+use Rattle.picture.proofs.Readings.{layout-sound, pixels-most}
+
+-- what an input that is read asks for
+module _ (input : List ℕ) (a : first (readingTests input) ≡ Accepted) where
+  read-taken : Taken input (layoutOf input) (rowsAt input 0) (rowsAt input (cbAt input)) (rowsAt input (crAt input))
+  unfolding readingOf
+  read-taken = taken input _ _ _ _ (rw a refl)
+
+  scratch-most : scratchNeed (layoutOf input) ≤ 9216
+  unfolding scratchNeed
+  scratch-most = let w = read-taken .width in let c = layout-sound read-taken .cw-most in omega arith
+
+  out-most : ppmLength (layoutOf input) ≤ 147472
+  unfolding ppmLength
+  out-most =
+      let l = layoutOf input in
+      let h = header-most (l .w) (l .h) (read-taken .width) in
+      let p = pixels-most read-taken in
+      omega arith
+
+-- with 9,216 values of scratch and 147,472 bytes of out neither 9 nor 10 is ever given
+pub room-enough : (input : List ℕ) (scratch : List Float) (out : List ℕ) → 9216 ≤ length scratch → 147472 ≤ length out → first (pictureTests input scratch out) ≡ first (readingTests input)
+unfolding pictureTests
+room-enough input scratch out g h = go (first (readingTests input)) refl
+  where
+    go : (a : Answer) → first (readingTests input) ≡ a → first (readingTests input ++ ((ltb (length scratch) (scratchNeed (layoutOf input)), 9) ∷ (ltb (length out) (ppmLength (layoutOf input)), 10) ∷ [])) ≡ first (readingTests input)
+    go Accepted k =
+        passed-early (readingTests input) _ (ap accepted k)
+        ∙ failed-accepted ((ltb (length scratch) (scratchNeed (layoutOf input)), 9) ∷ (ltb (length out) (ppmLength (layoutOf input)), 10) ∷ []) (le-ltb (length scratch) (scratchNeed (layoutOf input)) (omega (arith, scratch-most input k)), (le-ltb (length out) (ppmLength (layoutOf input)) (omega (arith, out-most input k)), tt))
+        ∙ sym k
+    go (Turned n) k = refused-early (readingTests input) _ (ap accepted k)
+
+-- a picture that was written fits out
+pub written-fits : {input : List ℕ} {scratch : List Float} {out : List ℕ} {n : ℕ} {scratch' : List Float} {out' : List ℕ} → PictureGiven input scratch out (Written n) scratch' out' → n ≤ length out
+unfolding pictureTests
+written-fits {input} {scratch} {out} {n} g = go (first (pictureTests input scratch out)) refl (g .answers)
+  where
+    go : (a : Answer) → first (pictureTests input scratch out) ≡ a → Written n ≡ pickOutcome a (ppmLength (layoutOf input)) → n ≤ length out
+    go Accepted k e =
+        let m : n ≡ ppmLength (layoutOf input) = cc in
+        let f = failed-both (readingTests input) ((ltb (length scratch) (scratchNeed (layoutOf input)), 9) ∷ (ltb (length out) (ppmLength (layoutOf input)), 10) ∷ []) (accepted-failed (pictureTests input scratch out) k) in
+        let b = ltb-false (length out) (ppmLength (layoutOf input)) (f .1 .1 .0) in
+        omega arith
+    go (Turned j) k e = let z : _≡_ {A = ℕ} 0 1 = cc in absurd (omega arith)
+
+-- the line of a refusal ends inside its bytes
+pub refusal-fits : (n : ℕ) (line : Line) → line ≡ lineOf (refusalLine n) → line .len ≤ length (line .bytes)
+unfolding lineOf
+refusal-fits n line e = rw (ap (λ (l : Line). l .len) e, ap (λ (l : Line). length (l .bytes)) e, length-append) (omega arith)

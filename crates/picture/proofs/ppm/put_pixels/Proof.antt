@@ -1,0 +1,67 @@
+use native.Mathlib.Omega.{arith}
+use borrow.Author.Needs.{needs}
+use Rattle.netpbm.proofs.Acceptance.{taken}
+use Rattle.picture.proofs.Readings.{filled}
+use Rattle.picture.proofs.ppm.put_pixels.Statement.{statement}
+use Rattle.picture.proofs.ppm.put_pixels.Tie as tie
+
+sub-fill : tie.Need-sub-fill
+sub-fill c = let t = taken _ _ _ _ _ (c .before .before .before .pre .0) in let g = t .y-rows in omega arith
+
+part-fill-start : tie.Need-part-fill-start
+part-fill-start c = let t = taken _ _ _ _ _ (c .before .before .before .pre .0) in let g = t .y-rows in omega arith
+
+part-fill-end : tie.Need-part-fill-end
+part-fill-end c = search needs
+
+sub-fill-2 : tie.Need-sub-fill-2
+sub-fill-2 c = let t = taken _ _ _ _ _ (c .before .before .before .before .pre .0) in let g = t .cb-rows in omega arith
+
+part-fill-start-2 : tie.Need-part-fill-start-2
+part-fill-start-2 c = let t = taken _ _ _ _ _ (c .before .before .before .before .pre .0) in let g = t .cb-rows in omega arith
+
+part-fill-end-2 : tie.Need-part-fill-end-2
+part-fill-end-2 c = search needs
+
+sub-fill-3 : tie.Need-sub-fill-3
+sub-fill-3 c = let t = taken _ _ _ _ _ (c .before .before .before .before .before .pre .0) in let g = t .cr-rows in omega arith
+
+part-fill-start-3 : tie.Need-part-fill-start-3
+part-fill-start-3 c = let t = taken _ _ _ _ _ (c .before .before .before .before .before .pre .0) in let g = t .cr-rows in omega arith
+
+part-fill-end-3 : tie.Need-part-fill-end-3
+part-fill-end-3 c = search needs
+
+fill-requires : tie.Need-fill-requires
+fill-requires c κs = search needs
+
+same-length : tie.Need-same-length
+same-length c = search needs
+
+same-length-2 : tie.Need-same-length-2
+same-length-2 c = search needs
+
+returns : tie.Need-returns
+returns c =
+    let s = c .before .before .before .before .before .before .before .before .before .before .before .before .before in
+    let p = s .pre in
+    let a = s .args in
+    filled (a .input .now) (a .layout) (a .y) (a .cb) (a .cr) (p .0) (s .args .s .now) (s .args .out .now) (p .1 .0) (p .1 .1) _ _ _ (c .before .before .before .before .fill .ensures)
+
+pub put-pixels-spec : {M : Type 1} → statement M
+put-pixels-spec =
+    tie.close
+    (tie.spec
+    sub-fill
+    part-fill-start
+    part-fill-end
+    sub-fill-2
+    part-fill-start-2
+    part-fill-end-2
+    sub-fill-3
+    part-fill-start-3
+    part-fill-end-3
+    fill-requires
+    same-length
+    same-length-2
+    returns)

@@ -1,0 +1,90 @@
+use mathlib.Core.Path.{refl, sym, _∙_, ap}
+use native.Mathlib.Omega.{arith}
+use borrow.Author.Needs.{needs}
+use Rattle.image.specs.declared.layout.Layout.{Layout}
+use Rattle.fill.specs.declared.ChromaUpsampling.the-variants.{LumaGuided}
+use Rattle.fill.specs.Fill.{fillScratch}
+use Rattle.netpbm.specs.Lines.{ppmHeader}
+use Rattle.netpbm.proofs.Acceptance.{taken}
+use Rattle.picture.specs.declared.Outcome.the-variants.{Written}
+use Rattle.picture.specs.Picture.{planesOf}
+use Rattle.picture.proofs.Fronts.{header-most, line-length, ppm-length}
+use Rattle.picture.proofs.Readings.{layout-sound, pixels-most, scratch-short, told, both-long, out-short}
+use Rattle.picture.proofs.written.Statement.{statement}
+use Rattle.picture.proofs.written.Tie as tie
+
+scratch-need-requires : tie.Need-scratch-need-requires
+scratch-need-requires c κs = layout-sound (taken _ _ _ _ _ (c .before .before .before .pre))
+
+returns : tie.Need-returns
+returns c =
+    let s = c .before .before .before .before .before in
+    let a = s .args in
+    record { answers = scratch-short (told _ _ _ _ _ (s .pre)) (a .s .now) (a .out .now) (rw (sym (c .before .scratch-need .ensures)) (c .if1 .taken)); gives = refl; scratches = refl }
+
+ppm-header-requires : tie.Need-ppm-header-requires
+ppm-header-requires c κs = let t = taken _ _ _ _ _ (c .before .before .before .before .before .pre) in let o = layout-sound t in (t .width, o .h-most)
+
+mul-len : tie.Need-mul-len
+mul-len c = let b = pixels-most (taken _ _ _ _ _ (c .before .before .before .before .before .before .before .pre)) in omega arith
+
+mul-len-2 : tie.Need-mul-len-2
+mul-len-2 c = let b = pixels-most (taken _ _ _ _ _ (c .before .before .before .before .before .before .before .pre)) in omega arith
+
+add-len : tie.Need-add-len
+add-len c =
+    let s = c .before .before .before .before .before .before .before .before in
+    let a = s .args in
+    let t = taken _ _ _ _ _ (s .pre) in
+    let b = pixels-most t in
+    let n = line-length (ppmHeader (a .layout .w) (a .layout .h)) _ (c .before .before .ppm-header .ensures) in
+    let m = header-most (a .layout .w) (a .layout .h) (t .width) in
+    omega arith
+
+returns-2 : tie.Need-returns-2
+returns-2 c =
+    let s = c .before .before .before .before .before .before .before .before .before in
+    let a = s .args in
+    let n = ppm-length (a .layout) _ (c .before .before .before .ppm-header .ensures) in
+    record { answers = out-short (told _ _ _ _ _ (s .pre)) (a .s .now) (a .out .now) (rw (sym (c .before .before .before .before .before .scratch-need .ensures)) (c .before .before .before .before .if1 .left)) (rw (sym n) (c .if2 .taken)); gives = refl; scratches = refl }
+
+put-ppm-requires : tie.Need-put-ppm-requires
+put-ppm-requires c κs =
+    let s = c .before .before .before .before .before .before .before .before .before .before .before in
+    let e = c .before .before .before .before .before .ppm-header .ensures in
+    (s .pre, (e, (rw (sym (c .before .before .before .before .before .before .before .scratch-need .ensures)) (c .before .before .before .before .before .before .if1 .left), rw (sym (ppm-length (s .args .layout) _ e)) (c .before .before .if2 .left))))
+
+same-length : tie.Need-same-length
+same-length c = search needs
+
+same-length-2 : tie.Need-same-length-2
+same-length-2 c = search needs
+
+returns-3 : tie.Need-returns-3
+returns-3 c =
+    let s = c .before .before .before .before .before .before .before .before .before .before .before .before .before .before .before .before in
+    let a = s .args in
+    let t = told _ _ _ _ _ (s .pre) in
+    let n = ppm-length (a .layout) _ (c .before .before .before .before .before .before .before .before .before .before .ppm-header .ensures) in
+    let w = c .before .before .before .before .put-ppm .ensures in
+    record {
+      answers = ap Written n ∙ both-long t (a .s .now) (a .out .now) (rw (sym (c .before .before .before .before .before .before .before .before .before .before .before .before .scratch-need .ensures)) (c .before .before .before .before .before .before .before .before .before .before .before .if1 .left)) (rw (sym n) (c .before .before .before .before .before .before .before .if2 .left));
+      gives = w .0;
+      scratches = w .1 ∙ ap (λ (l : Layout). fillScratch LumaGuided l (planesOf (a .input .now)) 0 (l .h) (a .s .now)) (t .layout-is);
+    }
+
+pub written-spec : {M : Type 1} → statement M
+written-spec =
+    tie.close
+    (tie.spec
+    scratch-need-requires
+    returns
+    ppm-header-requires
+    mul-len
+    mul-len-2
+    add-len
+    returns-2
+    put-ppm-requires
+    same-length
+    same-length-2
+    returns-3)

@@ -1,0 +1,71 @@
+-- 'The picture program' of document 01 as one call: the reasons for turning the input down, and the bytes that it writes. Definitions only.
+use mathlib.Core.Path.{_≡_}
+use mathlib.Core.Bool.{Bool, true, false, cond}
+use mathlib.Core.List.{List, [], _∷_, _++_}
+use Prim.Native.Nat.{ℕ, _+_, _*_}
+use lib.Dec.{ltb}
+use lib.ListN.{length, drop}
+use lib.Ieee.{Float}
+use Rattle.laws.specs.declared.Answer.{Answer}
+use Rattle.laws.specs.declared.Answer.the-variants.{Accepted, Refused as Turned}
+use Rattle.laws.specs.Refusals.{Test, first}
+use Rattle.image.specs.declared.layout.Layout.{Layout}
+use Rattle.image.specs.Picture.{Picture, Planes, pictureOf}
+use Rattle.resample.specs.Linear.{scratchNeed}
+use Rattle.colour_rows.specs.declared.YcbcrKernel.the-variants.{Exact}
+use Rattle.fill.specs.declared.ChromaUpsampling.the-variants.{LumaGuided}
+use Rattle.fill.specs.Fill.{fillColour, pixelRows, fillScratch}
+use Rattle.netpbm.specs.Images.{rowsAt}
+use Rattle.netpbm.specs.Lines.{ppmHeader}
+use Rattle.netpbm.specs.Reading.{cbAt, crAt, layoutOf, readingTests}
+use Rattle.picture.specs.declared.Outcome.{Outcome}
+use Rattle.picture.specs.declared.Outcome.the-variants.{Written, Refused}
+
+-- ---- the picture that the input holds
+
+-- "three Netpbm PGM images one after another (Y, Cb, Cr)": each plane begins where its image's rows do, a row behind the other
+unfoldable pub planesOf : List ℕ → Planes
+planesOf input =
+    let l = layoutOf input in
+    record {
+      y = record { bytes = drop (rowsAt input 0) input; stride = l .w };
+      cb = record { bytes = drop (rowsAt input (cbAt input)) input; stride = l .cw };
+      cr = record { bytes = drop (rowsAt input (crAt input)) input; stride = l .cw };
+    }
+
+abbrev pub inputPicture : List ℕ → Picture
+inputPicture input = pictureOf (layoutOf input) (planesOf input)
+
+-- ---- what is written
+
+-- header and pixels: how many bytes
+unfoldable pub ppmLength : Layout → ℕ
+ppmLength l = length (ppmHeader (l .w) (l .h)) + l .w * l .h * 3
+
+-- "It writes a PPM, guided and exact": the header, "then R, G, B bytes", row by row. What stood in out behind these is as it was.
+unfoldable pub ppmOver : Picture → List ℕ → List ℕ
+ppmOver p out =
+    let l = p .layout in
+    let header = ppmHeader (l .w) (l .h) in
+    header ++ pixelRows (l .w) 3 (fillColour LumaGuided Exact p) 0 (l .h) (drop (length header) out)
+
+-- ---- the reasons for turning the input down: the reading's "own order", then 9, "scratch too short", and 10, "output too short"
+unfoldable pub pictureTests : List ℕ → List Float → List ℕ → List Test
+pictureTests input scratch out =
+    let l = layoutOf input in
+    readingTests input ++ ((ltb (length scratch) (scratchNeed l), 9) ∷ (ltb (length out) (ppmLength l), 10) ∷ [])
+
+-- the number of the answer, or how many bytes were written
+abbrev pub pickOutcome : Answer → ℕ → Outcome
+pickOutcome Accepted n = Written n
+pickOutcome (Turned k) n = Refused k
+
+abbrev pub isWritten : Outcome → Bool
+isWritten (Written n) = true
+isWritten (Refused k) = false
+
+-- what `picture` promises: of its outcome, and of out and scratch after it; on refusal "every slice is unchanged"
+pub record PictureGiven (input : List ℕ) (scratch : List Float) (out : List ℕ) (outcome : Outcome) (scratch' : List Float) (out' : List ℕ) : Type 0 where
+  pub answers : outcome ≡ pickOutcome (first (pictureTests input scratch out)) (ppmLength (layoutOf input))
+  pub gives : out' ≡ cond (isWritten outcome) (ppmOver (inputPicture input) out) out
+  pub scratches : scratch' ≡ cond (isWritten outcome) (fillScratch LumaGuided (layoutOf input) (planesOf input) 0 (layoutOf input .h) scratch) scratch

@@ -1,0 +1,80 @@
+// A PPM at the front of out: its header, then the pixels.
+ghost use mathlib.Core.Path.{_≡_};
+ghost use Prim.Native.Nat.{_*_, _≤_};
+ghost use lib.ListN.{length, getD};
+ghost use Rattle.laws.specs.Lists.{put};
+ghost use Rattle.resample.specs.Linear.{scratchNeed};
+ghost use Rattle.fill.specs.Fill.{fillColour, pixelRows, fillScratch};
+ghost use Rattle.netpbm.specs.Reading.{readingOf};
+ghost use Rattle.netpbm.specs.Lines.{ppmHeader};
+ghost use Rattle.netpbm.specs.Forms.{lineOf};
+ghost use Rattle.picture.specs.Picture.{planesOf, inputPicture, ppmLength, ppmOver};
+use colour_rows::YcbcrKernel;
+use fill::ChromaUpsampling;
+use image::Layout;
+use netpbm::Line;
+use netpbm::Reading;
+
+// The bytes of a line, to the front of out.
+fn put_line(line: Line, out: &mut [u8])
+    requires { ⌜ (line .len ≤ 16) × (line .len ≤ length (now out)) ⌝ }
+    ensures { λ _. ⌜ now (out .exit) ≡ put (now (out .entry)) 0 (line .len) (λ i. getD (line .bytes) i 0) ⌝ }
+{
+    let bytes = line.bytes;
+    for i in 0..line.len {
+        out[i] = bytes[i];
+    }
+}
+
+// The pixels of the picture that was read, from the first byte of out on.
+fn put_pixels(
+    input: &[u8],
+    layout: Layout,
+    y: usize,
+    cb: usize,
+    cr: usize,
+    s: &mut [f32],
+    out: &mut [u8],
+)
+    requires { ⌜ readingOf (now input) ≡ Reading.Read layout y cb cr ⌝ }
+    requires { ⌜ (scratchNeed layout ≤ length (now s)) × (layout .w * layout .h * 3 ≤ length (now out)) ⌝ }
+    ensures { λ _. ⌜ now (out .exit) ≡ pixelRows (layout .w) 3 (fillColour ChromaUpsampling.LumaGuided YcbcrKernel.Exact (inputPicture (now (input .entry)))) 0 (layout .h) (now (out .entry)) ⌝ }
+    ensures { λ _. ⌜ now (s .exit) ≡ fillScratch ChromaUpsampling.LumaGuided layout (planesOf (now (input .entry))) 0 (layout .h) (now (s .entry)) ⌝ }
+{
+    fill::fill(
+        layout,
+        &input[y..],
+        layout.w,
+        &input[cb..],
+        layout.cw,
+        &input[cr..],
+        layout.cw,
+        ChromaUpsampling::LumaGuided,
+        YcbcrKernel::Exact,
+        3,
+        s,
+        out,
+    );
+}
+
+// Inner: the picture that was read, and this header before it.
+pub fn put_ppm(
+    input: &[u8],
+    layout: Layout,
+    y: usize,
+    cb: usize,
+    cr: usize,
+    header: Line,
+    s: &mut [f32],
+    out: &mut [u8],
+)
+    requires { ⌜ readingOf (now input) ≡ Reading.Read layout y cb cr ⌝ }
+    requires { ⌜ header ≡ lineOf (ppmHeader (layout .w) (layout .h)) ⌝ }
+    requires { ⌜ (scratchNeed layout ≤ length (now s)) × (ppmLength layout ≤ length (now out)) ⌝ }
+    ensures { λ _. ⌜ now (out .exit) ≡ ppmOver (inputPicture (now (input .entry))) (now (out .entry)) ⌝ }
+    ensures { λ _. ⌜ now (s .exit) ≡ fillScratch ChromaUpsampling.LumaGuided layout (planesOf (now (input .entry))) 0 (layout .h) (now (s .entry)) ⌝ }
+{
+    let at = header.len;
+    put_line(header, out);
+    put_pixels(input, layout, y, cb, cr, s, &mut out[at..]);
+}

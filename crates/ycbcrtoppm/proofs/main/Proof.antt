@@ -1,0 +1,62 @@
+use native.Mathlib.Omega.{arith}
+use borrow.Author.Needs.{needs}
+use Rattle.ycbcrtoppm.proofs.Fits.{outcome-fits}
+use Rattle.ycbcrtoppm.proofs.main.Statement.{statement}
+use Rattle.ycbcrtoppm.proofs.main.Tie as tie
+
+slice-aggregate-read-full : tie.Need-slice-aggregate-read-full
+slice-aggregate-read-full c = search needs
+
+read-full-requires : tie.Need-read-full-requires
+read-full-requires c κs = search needs
+
+array-share-prefix-input : tie.Need-array-share-prefix-input
+array-share-prefix-input c = search needs
+
+slice-aggregate-picture : tie.Need-slice-aggregate-picture
+slice-aggregate-picture c = search needs
+
+slice-aggregate-picture-2 : tie.Need-slice-aggregate-picture-2
+slice-aggregate-picture-2 c = search needs
+
+slice-aggregate-picture-3 : tie.Need-slice-aggregate-picture-3
+slice-aggregate-picture-3 c = search needs
+
+picture-requires : tie.Need-picture-requires
+picture-requires c κs = search needs
+
+slice-aggregate-write-outcome : tie.Need-slice-aggregate-write-outcome
+slice-aggregate-write-outcome c = search needs
+
+write-outcome-requires : tie.Need-write-outcome-requires
+write-outcome-requires c κs = let w = outcome-fits _ (c .before .before .before .picture .ensures) in omega arith
+
+slice-aggregate-fail : tie.Need-slice-aggregate-fail
+slice-aggregate-fail c = search needs
+
+fail-requires : tie.Need-fail-requires
+fail-requires c κs = search needs
+
+returns : tie.Need-returns
+returns c = search needs
+
+returns-2 : tie.Need-returns-2
+returns-2 c = search needs
+
+pub main-spec : {M : Type 1} → statement M
+main-spec =
+    tie.close
+    (tie.spec
+    slice-aggregate-read-full
+    read-full-requires
+    array-share-prefix-input
+    slice-aggregate-picture
+    slice-aggregate-picture-2
+    slice-aggregate-picture-3
+    picture-requires
+    slice-aggregate-write-outcome
+    write-outcome-requires
+    slice-aggregate-fail
+    fail-requires
+    returns
+    returns-2)

@@ -1,0 +1,42 @@
+// The picture program: three PGM images on standard input, a PPM or the line of a refusal on standard output.
+ghost use Prim.Native.Nat.{_≤_};
+ghost use lib.ListN.{length};
+ghost use Rattle.ycbcrtoppm.specs.Lengths.{writtenLength};
+use libc::STDIN_FILENO;
+use libc::STDOUT_FILENO;
+use picture::Outcome;
+
+// The longest input and one byte more, by which a longer one is seen to be too long.
+const INPUT: usize = 49_153;
+
+// The most scratch that a picture of 128 columns asks for, 64 · 128 + 8 · 128.
+const SCRATCH: usize = 9_216;
+
+// The longest header, and three bytes for each byte of the longest input.
+const OUT: usize = 147_472;
+
+// The picture at the front of out, or the refusal's line; whether all of it was written.
+fn write_outcome(outcome: Outcome, out: &[u8]) -> bool
+    requires { ⌜ writtenLength outcome ≤ length (now out) ⌝ }
+{
+    match outcome {
+        Outcome::Written(n) => io::write_all(STDOUT_FILENO, &out[..n]),
+        Outcome::Refused(n) => {
+            let line = picture::refusal_line(n);
+            let len = line.len;
+            let bytes = line.bytes;
+            io::write_all(STDOUT_FILENO, &bytes[..len])
+        }
+    }
+}
+
+fn main() {
+    let mut input = [0u8; INPUT];
+    let mut s = [0.0f32; SCRATCH];
+    let mut out = [0u8; OUT];
+    let n = io::read_full(STDIN_FILENO, &mut input);
+    let outcome = picture::picture(&input[..n], &mut s, &mut out);
+    if !write_outcome(outcome, &out) {
+        os::fail(b"standard output");
+    }
+}
