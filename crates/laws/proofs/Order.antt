@@ -6,8 +6,8 @@ use Prim.Native.Nat.{ℕ, _*_, _≤_}
 use native.Mathlib.Nat.{le-of-eq, le-of-lt}
 use lib.IntN.{ℤ}
 use lib.Dec.{T, ltb, eqb, ltb→lt, eqb→eq}
-use lib.Ieee.{Float, nan, inf, fin, up, down, lt, eq, ne, le, isNan}
-use borrow.Author.Tests.{eq-eqb, not-true, not-false}
+use lib.Ieee.{Float, nan, inf, fin, up, down, below, lt, eq, ne, le, isNan}
+use borrow.Author.Tests.{eq-eqb, le-ltb, not-true, not-false}
 use lib.Ieee.Fits.{and-l, and-r}
 
 or-l : (a b : Bool) → T a → T (a || b)
@@ -93,3 +93,24 @@ le-negative m e n d t = go (m * up e * down d) (n * up d * down e) t
   where
     go : (a b : ℕ) → T (false || (eqb a b && (false || eqb a 0))) → a ≡ 0
     go a b t = eqb→eq a 0 (and-r (eqb a b) (eqb a 0) t)
+
+-- what is less is not greater
+pub lt-asym : (x y : Float) → T (lt x y) → lt y x ≡ false
+unfolding lt
+lt-asym nan y t = absurd t
+lt-asym (inf s) nan t = absurd t
+lt-asym (inf true) (inf true) t = absurd t
+lt-asym (inf true) (inf false) t = refl
+lt-asym (inf false) (inf s) t = absurd t
+lt-asym (inf true) (fin s m e) t = refl
+lt-asym (inf false) (fin s m e) t = absurd t
+lt-asym (fin s m e) nan t = absurd t
+lt-asym (fin s m e) (inf true) t = absurd t
+lt-asym (fin s m e) (inf false) t = refl
+lt-asym (fin s m e) (fin u n d) t = go s u (m * up e * down d) (n * up d * down e) t
+  where
+    go : (s u : Bool) (a b : ℕ) → T (below s a u b) → below u b s a ≡ false
+    go true true a b t = le-ltb a b (le-of-lt (ltb→lt b a t))
+    go true false a b t = refl
+    go false true a b t = absurd t
+    go false false a b t = le-ltb b a (le-of-lt (ltb→lt a b t))
