@@ -2,29 +2,21 @@
 use mathlib.Core.Path.{_≡_, refl}
 use mathlib.Core.Bool.{Bool, true, false, _&&_, _||_, not}
 use Prim.Native.Nat.{ℕ, _+_, _*_, _/_, _≤_, _<_}
-use native.Mathlib.Nat.{mul-le-mul}
 use native.Mathlib.Omega.{arith}
-use lib.Dec.{ltb, leb, eqb}
+use lib.Dec.{leb, eqb}
 use lib.ListN.{length}
-use borrow.Author.Tests.{ltb-false, leb-false, eqb-true, ne-eqb, not-false}
-use Rattle.laws.specs.declared.Answer.{Answer}
-use Rattle.laws.specs.declared.Answer.the-variants.{Accepted, Refused}
-use Rattle.laws.specs.Refusals.{first, accepted}
-use Rattle.laws.proofs.Refusals.{accepted-failed, failed-accepted, failed-both}
+use borrow.Author.Tests.{ltb-false, leb-false, eqb-true, ne-eqb}
+use Rattle.laws.specs.declared.Answer.the-variants.{Accepted}
+use Rattle.laws.specs.Refusals.{first}
+use Rattle.laws.proofs.Refusals.{accepted-failed, failed-both}
 use Rattle.laws.proofs.Rows.{row-fits}
 use Rattle.image.specs.declared.layout.Layout.{Layout}
 use Rattle.image.specs.Tests.{divCeil, layoutTests, Sound}
 use Rattle.image.specs.Samples.{Plane}
-use Rattle.image.specs.Picture.{shortPlane}
 use Rattle.image.proofs.Layouts.{sound}
-use Rattle.image.proofs.Planes.{Holds, holds, row-inside}
+use Rattle.image.proofs.Planes.{Holds, row-inside, short-holds}
 use Rattle.upsample.specs.Triangular.{badTriangular, triangularTests}
-use Rattle.upsample.specs.Rows.{numberTests, RowInside, Doubled}
-
--- the tests see no more of the plane than its stride and its length
-pub by-numbers : (l : Layout) (p : Plane) (room : ℕ) → numberTests l (p .stride) (length (p .bytes)) room ≡ triangularTests l p room
-unfolding numberTests triangularTests shortPlane
-by-numbers l p room = refl
+use Rattle.upsample.specs.Rows.{RowInside, Doubled}
 
 -- ---- all refusals passed
 
@@ -34,14 +26,14 @@ pub record Taken (l : Layout) (stride len room : ℕ) : Type 0 where
   pub plane : Holds (l .«sample_bytes») (l .cw) (l .ch) stride len
   pub output : l .w * l .h ≤ room
 
-pub taken : (l : Layout) (stride len room : ℕ) → first (numberTests l stride len room) ≡ Accepted → Taken l stride len room
-unfolding numberTests
-taken l stride len room e =
-    let f = failed-both (layoutTests false l) _ (accepted-failed (numberTests l stride len room) e) in
+pub taken : (l : Layout) (p : Plane) (room : ℕ) → first (triangularTests l p room) ≡ Accepted → Taken l (p .stride) (length (p .bytes)) room
+unfolding triangularTests
+taken l p room e =
+    let f = failed-both (layoutTests false l) _ (accepted-failed (triangularTests l p room) e) in
     record {
       size = sound false l (f .0);
       kind = f .1 .0;
-      plane = holds _ _ _ _ _ (f .1 .1 .0);
+      plane = short-holds l (l .cw) (l .ch) p (f .1 .1 .0);
       output = ltb-false room (l .w * l .h) (f .1 .1 .1 .0);
     }
 

@@ -1,19 +1,9 @@
--- What the inner functions are told of a plane by numbers, and what they write of a row. Definitions only.
-use mathlib.Core.Bool.{false, cond}
-use mathlib.Core.List.{List, [], _∷_, _++_}
+-- What the inner functions write of a row. Definitions only.
+use mathlib.Core.Bool.{cond}
+use mathlib.Core.List.{List}
 use Prim.Native.Nat.{ℕ, _+_, _*_, _/_, _≤_, _<_}
-use lib.Dec.{ltb}
-use Rattle.laws.specs.Refusals.{Test}
-use Rattle.image.specs.declared.layout.Layout.{Layout}
-use Rattle.image.specs.Tests.{layoutTests, badPlane}
 use Rattle.image.specs.Samples.{sampleOf}
-use Rattle.upsample.specs.Triangular.{even, weighed, badTriangular}
-
--- the tests of `triangularTests`, of a plane of so many bytes
-unfoldable pub numberTests : Layout → ℕ → ℕ → ℕ → List Test
-numberTests l stride len room =
-    layoutTests false l
-    ++ ((badTriangular l, 6) ∷ (badPlane (l .«sample_bytes») (l .cw) (l .ch) stride len, 7) ∷ (ltb room (l .w * l .h), 10) ∷ [])
+use Rattle.upsample.specs.Triangular.{even, weighed, far}
 
 -- the cells of the row that begins at byte `row`
 abbrev pub cells : ℕ → List ℕ → ℕ → ℕ → ℕ

@@ -1,8 +1,8 @@
 // Whether a call is turned down. Nothing is written here.
 ghost use mathlib.Core.Path.{_≡_};
 ghost use Rattle.laws.specs.Refusals.{first};
-ghost use Rattle.upsample.specs.Triangular.{badTriangular, ratios};
-ghost use Rattle.upsample.specs.Rows.{numberTests};
+ghost use Rattle.image.specs.Samples.{Plane};
+ghost use Rattle.upsample.specs.Triangular.{badTriangular, ratios, triangularTests};
 use image::Layout;
 use laws::Answer;
 
@@ -22,9 +22,9 @@ fn bad_triangular(layout: Layout) -> bool
     image::either(!known, image::both(layout.rh == 2, layout.cw <= 2))
 }
 
-// Inner: the lowest of refusals 2 to 7 and 10 that applies, for a plane of plane_len bytes and an output of out_len values.
-pub fn triangular_answer(layout: Layout, stride: usize, plane_len: usize, out_len: usize) -> Answer
-    ensures { λ r. ⌜ r ≡ first (numberTests layout stride «plane_len» «out_len») ⌝ }
+// Inner: the lowest of refusals 2 to 7 and 10 that applies; `room` is the length of the output. It writes nothing.
+pub fn triangular_answer(layout: Layout, plane: &[u8], stride: usize, room: usize) -> Answer
+    ensures { λ r. ⌜ r ≡ first (triangularTests layout (record { bytes = now (plane .entry); stride = stride }) room) ⌝ }
 {
     let answer = layout.answer(false);
     if image::refused(answer) {
@@ -33,10 +33,16 @@ pub fn triangular_answer(layout: Layout, stride: usize, plane_len: usize, out_le
     if bad_triangular(layout) {
         return Answer::Refused(6);
     }
-    if image::bad_plane(layout.sample_bytes, layout.cw, layout.ch, stride, plane_len) {
+    if image::bad_plane(
+        layout.sample_bytes,
+        layout.cw,
+        layout.ch,
+        stride,
+        plane.len(),
+    ) {
         return Answer::Refused(7);
     }
-    if out_len < layout.w * layout.h {
+    if room < layout.w * layout.h {
         return Answer::Refused(10);
     }
     Answer::Accepted

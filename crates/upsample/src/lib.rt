@@ -12,14 +12,13 @@ ghost use Rattle.laws.specs.declared.Answer.the-variants.{Accepted};
 ghost use Rattle.laws.specs.Lists.{put};
 ghost use Rattle.laws.specs.Refusals.{first};
 ghost use Rattle.image.specs.Samples.{Plane, sampleAt};
-ghost use Rattle.upsample.specs.Triangular.{TriangularGiven, triangularPlane, triangularSample};
-ghost use Rattle.upsample.specs.Rows.{numberTests};
+ghost use Rattle.upsample.specs.Triangular.{TriangularGiven, triangularTests, triangularPlane, triangularSample};
 use image::Layout;
 use laws::Answer;
 
 // Row y of an accepted call.
 fn triangular_row(layout: Layout, plane: &[u8], stride: usize, y: usize, out: &mut [u16])
-    requires { ⌜ first (numberTests layout stride (length (now plane)) (length (now out))) ≡ Accepted ⌝ }
+    requires { ⌜ first (triangularTests layout (record { bytes = now plane; stride = stride }) (length (now out))) ≡ Accepted ⌝ }
     requires { ⌜ y < layout .h ⌝ }
     ensures { λ _. ⌜ now (out .exit) ≡ put (now (out .entry)) (y * layout .w) (layout .w) (triangularSample layout (sampleAt (layout .«sample_bytes») (record { bytes = now (plane .entry); stride = stride })) y) ⌝ }
 {
@@ -43,7 +42,7 @@ fn triangular_row(layout: Layout, plane: &[u8], stride: usize, y: usize, out: &m
 
 // All rows of an accepted call.
 fn triangular(layout: Layout, plane: &[u8], stride: usize, out: &mut [u16])
-    requires { ⌜ first (numberTests layout stride (length (now plane)) (length (now out))) ≡ Accepted ⌝ }
+    requires { ⌜ first (triangularTests layout (record { bytes = now plane; stride = stride }) (length (now out))) ≡ Accepted ⌝ }
     ensures { λ _. ⌜ now (out .exit) ≡ triangularPlane layout (record { bytes = now (plane .entry); stride = stride }) (now (out .entry)) ⌝ }
 {
     let mut y = 0;
@@ -57,7 +56,7 @@ fn triangular(layout: Layout, plane: &[u8], stride: usize, out: &mut [u16])
 pub fn triangular_plane(layout: Layout, plane: &[u8], stride: usize, out: &mut [u16]) -> Answer
     ensures { λ r. ⌜ TriangularGiven layout (record { bytes = now (plane .entry); stride = stride }) (now (out .entry)) r (now (out .exit)) ⌝ }
 {
-    let answer = answer::triangular_answer(layout, stride, plane.len(), out.len());
+    let answer = answer::triangular_answer(layout, plane, stride, out.len());
     if image::refused(answer) {
         return answer;
     }

@@ -1,9 +1,7 @@
-use mathlib.Core.Path.{refl, sym, ap, _∙_}
-use lib.ListN.{length}
+use mathlib.Core.Path.{refl, sym, _∙_}
 use borrow.Author.Needs.{needs}
 use borrow.Author.Tests.{not-true, not-false}
-use Rattle.laws.specs.Refusals.{first, accepted}
-use Rattle.upsample.proofs.Accepted.{by-numbers}
+use Rattle.laws.specs.Refusals.{accepted}
 use Rattle.laws.proofs.Refusals.{accepted-is}
 use Rattle.upsample.proofs.triangular_plane.Statement.{statement}
 use Rattle.upsample.proofs.triangular_plane.Tie as tie
@@ -19,7 +17,7 @@ returns c =
     let e = not-true (accepted (c .before .before .triangular-answer .result)) (sym (c .before .refused .ensures) ∙ c .if1 .taken) in
     let s = c .before .before .before .before .before in
     record {
-      answers = c .before .before .triangular-answer .ensures ∙ ap first (by-numbers (s .args .layout) (record { bytes = s .args .plane .now; stride = s .args .stride }) (length (s .args .out .now)));
+      answers = c .before .before .triangular-answer .ensures;
       leaves = rw e refl;
     }
 
@@ -37,7 +35,7 @@ returns-2 c =
     let e = not-false (accepted (r .result)) (sym (c .before .before .before .before .before .refused .ensures) ∙ c .before .before .before .before .if1 .left) in
     let s = c .before .before .before .before .before .before .before .before .before in
     record {
-      answers = r .ensures ∙ ap first (by-numbers (s .args .layout) (record { bytes = s .args .plane .now; stride = s .args .stride }) (length (s .args .out .now)));
+      answers = r .ensures;
       leaves = rw e (c .before .before .triangular .ensures);
     }
 

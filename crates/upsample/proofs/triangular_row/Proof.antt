@@ -8,10 +8,11 @@ use Rattle.upsample.specs.Rows.{RowInside}
 use Rattle.upsample.proofs.Accepted.{Taken, taken, across-kind, two-down, both-kind, doubled, output-row, cell-row, cell-row-all, near-one, near-two}
 use Rattle.upsample.proofs.Ratios.{across-is, down-is, both-is}
 use Rattle.upsample.proofs.triangular_row.Statement.{statement}
+use Rattle.upsample.specs.Triangular.{far}
 use Rattle.upsample.proofs.triangular_row.Tie as tie
 
 handed : (c : tie.Start) → Taken (c .args .layout) (c .args .stride) (length (c .args .plane .now)) (length (c .args .out .now))
-handed c = taken (c .args .layout) (c .args .stride) (length (c .args .plane .now)) (length (c .args .out .now)) (c .pre .0)
+handed c = taken (c .args .layout) (record { bytes = c .args .plane .now; stride = c .args .stride }) (length (c .args .out .now)) (c .pre .0)
 
 -- ratio (2, 1): the row of cells
 across-cells : (c : tie.Then1) → let s = c .before .before .before .before in RowInside (s .args .layout .«sample_bytes») (s .args .layout .cw) (s .args .y * s .args .stride) (length (s .args .plane .now))
