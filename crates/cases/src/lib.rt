@@ -20,6 +20,7 @@ pub use text::eight;
 pub use text::is_line;
 pub use text::layout;
 pub use text::long;
+pub use text::scratch_part;
 pub use text::size;
 pub use text::word;
 ghost use Prim.Native.Nat.{_≤_};

@@ -102,3 +102,11 @@ pub fn layout(text: &[u8]) -> Layout {
         maxval: long(text, 7) as u32,
     }
 }
+
+// How much of its scratch a line's call may touch: what the table says that it needs, or nothing where the line's answer is a refusal.
+pub fn scratch_part(text: &[u8], answer: usize) -> usize {
+    if answer != 0 {
+        return 0;
+    }
+    64 * word(text, 4) + 8 * word(text, 0)
+}
