@@ -8,7 +8,7 @@ fn next(state: u32) -> u32 {
     ((state as u64 * 1_103_515_245 + 12_345) % 4_294_967_296) as u32
 }
 
-// A byte of a plane, by its shape: of all values, of the sixteen smallest, or always the same.
+// A byte of a plane, by its shape: of all values, of the sixteen smallest, or always the same: 77, or from 256 on the shape's low byte.
 fn shaped(state: u32, shape: usize) -> u8 {
     if shape == 0 {
         return (state / 16_777_216) as u8;
@@ -16,7 +16,10 @@ fn shaped(state: u32, shape: usize) -> u8 {
     if shape == 1 {
         return (state / 268_435_456) as u8;
     }
-    77
+    if shape == 2 {
+        return 77;
+    }
+    (shape % 256) as u8
 }
 
 // The bytes of a plane, from a number that stands for it: the generator's top bits.
