@@ -1,9 +1,14 @@
 // What the test programs share, inner to them: numbers read from a line of a list, planes grown from a seed, buffers marked, and sums over what a call left.
+ghost use Prim.Native.Nat.{_≤_};
+
+mod checksums;
 mod floats;
 mod planes;
-mod sums;
 mod text;
 
+pub use checksums::sum_bytes;
+pub use checksums::sum_floats;
+pub use checksums::sum_values;
 pub use floats::bits;
 pub use floats::float;
 use laws::Answer;
@@ -12,9 +17,6 @@ pub use planes::mark_bytes;
 pub use planes::mark_floats;
 pub use planes::mark_values;
 pub use planes::touched;
-pub use sums::sum_bytes;
-pub use sums::sum_floats;
-pub use sums::sum_values;
 pub use text::byte;
 pub use text::eight;
 pub use text::is_line;
@@ -23,7 +25,6 @@ pub use text::long;
 pub use text::scratch_part;
 pub use text::size;
 pub use text::word;
-ghost use Prim.Native.Nat.{_≤_};
 
 // An answer as a line says it: 0, or the refusal's number.
 pub fn number(answer: Answer) -> usize {

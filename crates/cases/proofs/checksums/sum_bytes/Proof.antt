@@ -1,9 +1,9 @@
 use Prim.Native.Nat.{_-_, _≤_}
 use native.Mathlib.Omega.{arith}
 use lib.ListN.{length}
-use Rattle.cases.proofs.sums.sum_values.Statement.{statement}
+use Rattle.cases.proofs.checksums.sum_bytes.Statement.{statement}
 use borrow.Author.Needs.{needs}
-use Rattle.cases.proofs.sums.sum_values.Tie as tie
+use Rattle.cases.proofs.checksums.sum_bytes.Tie as tie
 
 abbrev Inv-loop : tie.InvT-loop
 Inv-loop sum out sum₀ i₀ sum' i = i ≤ length out
@@ -13,9 +13,6 @@ abbrev μ-loop : tie.MeasureT-loop
 
 loop-holds : tie.Need-loop-holds Inv-loop μ-loop
 loop-holds c = omega arith
-
-mul-added : tie.Need-mul-added Inv-loop μ-loop
-mul-added c = omega arith
 
 shared-slice-read-added : tie.Need-shared-slice-read-added Inv-loop μ-loop
 shared-slice-read-added c = omega arith
@@ -38,14 +35,13 @@ loop-again c = omega arith
 returns : tie.Need-returns Inv-loop μ-loop
 returns c = search needs
 
-pub sum-values-spec : {M : Type 1} → statement M
-sum-values-spec =
+pub sum-bytes-spec : {M : Type 1} → statement M
+sum-bytes-spec =
     tie.close
     (tie.spec
     Inv-loop
     μ-loop
     loop-holds
-    mul-added
     shared-slice-read-added
     cast-added
     added-requires

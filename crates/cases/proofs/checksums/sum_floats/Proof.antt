@@ -1,9 +1,9 @@
 use Prim.Native.Nat.{_-_, _≤_}
 use native.Mathlib.Omega.{arith}
 use lib.ListN.{length}
-use Rattle.cases.proofs.sums.sum_floats.Statement.{statement}
+use Rattle.cases.proofs.checksums.sum_floats.Statement.{statement}
 use borrow.Author.Needs.{needs}
-use Rattle.cases.proofs.sums.sum_floats.Tie as tie
+use Rattle.cases.proofs.checksums.sum_floats.Tie as tie
 
 abbrev Inv-loop : tie.InvT-loop
 Inv-loop sum out sum₀ i₀ sum' i = i ≤ length out

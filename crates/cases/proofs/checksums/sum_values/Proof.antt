@@ -1,12 +1,12 @@
-use borrow.Author.Needs.{needs}
-use Prim.Native.Nat.{_-_, _≤_, _<_}
+use Prim.Native.Nat.{_-_, _≤_}
 use native.Mathlib.Omega.{arith}
 use lib.ListN.{length}
-use Rattle.reader_cases.proofs.summed.Statement.{statement}
-use Rattle.reader_cases.proofs.summed.Tie as tie
+use Rattle.cases.proofs.checksums.sum_values.Statement.{statement}
+use borrow.Author.Needs.{needs}
+use Rattle.cases.proofs.checksums.sum_values.Tie as tie
 
 abbrev Inv-loop : tie.InvT-loop
-Inv-loop sum out sum₀ i₀ sum' i = (sum' < 4294967296) × (i ≤ length out)
+Inv-loop sum out sum₀ i₀ sum' i = i ≤ length out
 
 abbrev μ-loop : tie.MeasureT-loop
 μ-loop sum out sum₀ i₀ sum' i = length out - i
@@ -14,14 +14,14 @@ abbrev μ-loop : tie.MeasureT-loop
 loop-holds : tie.Need-loop-holds Inv-loop μ-loop
 loop-holds c = omega arith
 
-mul-bits : tie.Need-mul-bits Inv-loop μ-loop
-mul-bits c = omega arith
+mul-added : tie.Need-mul-added Inv-loop μ-loop
+mul-added c = omega arith
 
-shared-slice-read-bits : tie.Need-shared-slice-read-bits Inv-loop μ-loop
-shared-slice-read-bits c = omega arith
+shared-slice-read-added : tie.Need-shared-slice-read-added Inv-loop μ-loop
+shared-slice-read-added c = omega arith
 
-bits-requires : tie.Need-bits-requires Inv-loop μ-loop
-bits-requires c κs = search needs
+cast-added : tie.Need-cast-added Inv-loop μ-loop
+cast-added c = omega (arith, c .«shared-slice-known2» .given (c .before .before .loop .i) .fits)
 
 added-requires : tie.Need-added-requires Inv-loop μ-loop
 added-requires c κs = search needs
@@ -36,18 +36,18 @@ loop-again : tie.Need-loop-again Inv-loop μ-loop
 loop-again c = omega arith
 
 returns : tie.Need-returns Inv-loop μ-loop
-returns c = omega arith
+returns c = search needs
 
-pub summed-spec : {M : Type 1} → statement M
-summed-spec =
+pub sum-values-spec : {M : Type 1} → statement M
+sum-values-spec =
     tie.close
     (tie.spec
     Inv-loop
     μ-loop
     loop-holds
-    mul-bits
-    shared-slice-read-bits
-    bits-requires
+    mul-added
+    shared-slice-read-added
+    cast-added
     added-requires
     add-i
     loop-less
