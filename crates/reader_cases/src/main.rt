@@ -3,12 +3,9 @@
 // oracle/reader-cases made the list: a line of 142 bytes for each call, a kind and 28 words of four hex digits:
 // w h rh rv cw ch sample_bytes maxval(2) y_stride cb_stride cr_stride y_len cb_len cr_len seed shape
 // space(2) room_cb room_cr row change value(2) answer sum(2).
-ghost use Prim.Native.Nat.{_≤_, _<_};
 use guided::Geometry;
 use guided::Reader;
 use guided::Reply;
-use image::Layout;
-use laws::Answer;
 use libc::STDIN_FILENO;
 use libc::STDOUT_FILENO;
 use resample::Phase;
@@ -22,150 +19,17 @@ struct Step {
     reader: Reader,
 }
 
-// A hex digit; 0 for any other byte, whose line then has a wrong number in it.
-fn digit(b: u8) -> usize
-    ensures { λ r. ⌜ r < 16 ⌝ }
-{
-    if b < b'0' {
-        return 0;
-    }
-    if b <= b'9' {
-        return (b - b'0') as usize;
-    }
-    if b < b'a' {
-        return 0;
-    }
-    if b <= b'f' {
-        return (b - b'a') as usize + 10;
-    }
-    0
-}
-
-// Word k of a line.
-fn word(text: &[u8; 142], k: usize) -> usize
-    requires { ⌜ k < 28 ⌝ }
-    ensures { λ r. ⌜ r < 65536 ⌝ }
-{
-    let at = 2 + 5 * k;
-    let high = digit(text[at]) * 16 + digit(text[at + 1]);
-    let low = digit(text[at + 2]) * 16 + digit(text[at + 3]);
-    high * 256 + low
-}
-
-// Words k and k+1 as one number.
-fn long(text: &[u8; 142], k: usize) -> usize
-    requires { ⌜ k < 27 ⌝ }
-    ensures { λ r. ⌜ r < 4294967296 ⌝ }
-{
-    word(text, k) * 65_536 + word(text, k + 1)
-}
-
-// A size, stride or row: ffff stands for the largest usize.
-fn size(text: &[u8; 142], k: usize) -> usize
-    requires { ⌜ k < 28 ⌝ }
-{
-    let n = word(text, k);
-    if n == 65_535 {
-        return 18_446_744_073_709_551_615;
-    }
-    n
-}
-
-fn layout(text: &[u8; 142]) -> Layout {
-    Layout {
-        w: size(text, 0),
-        h: size(text, 1),
-        rh: size(text, 2),
-        rv: size(text, 3),
-        cw: size(text, 4),
-        ch: size(text, 5),
-        sample_bytes: size(text, 6),
-        maxval: long(text, 7) as u32,
-    }
-}
-
-// A byte of a plane: of all values, of the sixteen smallest, or always the same.
-fn byte(state: u64, shape: usize) -> u8
-    requires { ⌜ state < 4294967296 ⌝ }
-{
-    if shape == 0 {
-        return (state / 16_777_216) as u8;
-    }
-    if shape == 1 {
-        return (state / 268_435_456) as u8;
-    }
-    77
-}
-
-// The bytes of a plane, from a number that stands for it: the top bits of a linear congruential generator.
-fn grow(plane: &mut [u8], seed: usize, shape: usize)
-    requires { ⌜ seed < 4294967296 ⌝ }
-{
-    let mut state = seed as u64;
-    let mut i = 0;
-    while i < plane.len() {
-        state = (state * 1_103_515_245 + 12_345) % 4_294_967_296;
-        plane[i] = byte(state, shape);
-        i += 1;
-    }
-}
-
 // The three planes of a line.
-fn grow_planes(text: &[u8; 142], y: &mut [u8], cb: &mut [u8], cr: &mut [u8]) {
-    let seed = word(text, 15);
-    let shape = word(text, 16);
-    grow(y, seed, shape);
-    grow(cb, seed + 1, shape);
-    grow(cr, seed + 2, shape);
-}
-
-fn fill(out: &mut [f32], value: f32) {
-    let mut i = 0;
-    while i < out.len() {
-        out[i] = value;
-        i += 1;
-    }
-}
-
-// The bits of a number; of what is not one, bits that no number has.
-fn bits(x: f32) -> u32 {
-    if x == x {
-        return f32::to_bits(x);
-    }
-    4_294_967_295
-}
-
-// A sum with one more value.
-fn added(sum: u64, value: u32) -> u64
-    requires { ⌜ sum < 4294967296 ⌝ }
-    ensures { λ r. ⌜ r < 4294967296 ⌝ }
-{
-    (sum * 1_103_515_245 + value as u64) % 4_294_967_296
-}
-
-// The sum so far with the bits of all these values in their order; no single value can change in it unseen.
-fn summed(sum: u64, out: &[f32]) -> u64
-    requires { ⌜ sum < 4294967296 ⌝ }
-    ensures { λ r. ⌜ r < 4294967296 ⌝ }
-{
-    let mut sum = sum;
-    let mut i = 0;
-    while i < out.len() {
-        sum = added(sum, bits(out[i]));
-        i += 1;
-    }
-    sum
-}
-
-fn number(answer: Answer) -> usize {
-    match answer {
-        Answer::Accepted => 0,
-        Answer::Refused(n) => n as usize,
-    }
+fn grow_planes(text: &[u8], y: &mut [u8], cb: &mut [u8], cr: &mut [u8]) {
+    let seed = cases::word(text, 15);
+    let shape = cases::word(text, 16);
+    cases::grow(y, seed, shape);
+    cases::grow(cb, seed + 1, shape);
+    cases::grow(cr, seed + 2, shape);
 }
 
 fn same_phase(a: Phase, b: Phase) -> bool {
-    a.left == b.left && bits(a.f) == bits(b.f)
+    a.left == b.left && cases::bits(a.f) == cases::bits(b.f)
 }
 
 fn same_geometry(a: Geometry, b: Geometry) -> bool {
@@ -183,48 +47,35 @@ fn same_reader(a: Reader, b: Reader) -> bool {
     samples && counters && a.place == b.place && same_geometry(a.geometry, b.geometry)
 }
 
-// The float of a bit pattern; every not-a-number is one.
-fn float(bits: u32) -> f32 {
-    if 2_139_095_040 < bits % 2_147_483_648 {
-        return 0.0 / 0.0;
-    }
-    f32::from_bits(bits)
-}
-
-// A phase where fields 12 to 15 or 16 to 19 are its side or its fraction.
-fn changed_phase(p: Phase, k: usize, field: usize, value: usize) -> Phase
-    requires { ⌜ k < 4 ⌝ }
-    requires { ⌜ value < 4294967296 ⌝ }
-{
-    if field == 12 + k {
+// A phase, or another where the field to change is its side or its fraction.
+fn changed_phase(p: Phase, side: usize, fraction: usize, field: usize, value: u32) -> Phase {
+    if field == side {
         return Phase {
             left: value == 1,
             f: p.f,
         };
     }
-    if field == 16 + k {
+    if field == fraction {
         return Phase {
             left: p.left,
-            f: float(value as u32),
+            f: cases::float(value),
         };
     }
     p
 }
 
 // A value, or another where the field to change is this one; ffffffff stands for the largest usize.
-fn changed_size(old: usize, number: usize, field: usize, value: usize) -> usize {
+fn changed_size(old: usize, number: usize, field: usize, value: u32) -> usize {
     if number != field {
         return old;
     }
     if value == 4_294_967_295 {
         return 18_446_744_073_709_551_615;
     }
-    value
+    value as usize
 }
 
-fn changed_geometry(g: Geometry, field: usize, value: usize) -> Geometry
-    requires { ⌜ value < 4294967296 ⌝ }
-{
+fn changed_geometry(g: Geometry, field: usize, value: u32) -> Geometry {
     let p = g.phases;
     Geometry {
         w: changed_size(g.w, 6, field, value),
@@ -234,27 +85,25 @@ fn changed_geometry(g: Geometry, field: usize, value: usize) -> Geometry
         cw: changed_size(g.cw, 10, field, value),
         ch: changed_size(g.ch, 11, field, value),
         phases: [
-            changed_phase(p[0], 0, field, value),
-            changed_phase(p[1], 1, field, value),
-            changed_phase(p[2], 2, field, value),
-            changed_phase(p[3], 3, field, value),
+            changed_phase(p[0], 12, 16, field, value),
+            changed_phase(p[1], 13, 17, field, value),
+            changed_phase(p[2], 14, 18, field, value),
+            changed_phase(p[3], 15, 19, field, value),
         ],
     }
 }
 
-fn changed_maxval(old: u32, field: usize, value: usize) -> u32
-    requires { ⌜ value < 4294967296 ⌝ }
-{
+fn changed_maxval(old: u32, field: usize, value: u32) -> u32 {
     if field == 4 {
-        return value as u32;
+        return value;
     }
     old
 }
 
 // The reader that a line's call is handed: the one at hand, with one field changed where the line says which.
-fn handed(text: &[u8; 142], r: Reader) -> Reader {
-    let field = word(text, 22);
-    let value = long(text, 23);
+fn handed(text: &[u8], r: Reader) -> Reader {
+    let field = cases::word(text, 22);
+    let value = cases::long(text, 23) as u32;
     let geometry = changed_geometry(r.geometry, field, value);
     Reader {
         geometry,
@@ -267,25 +116,18 @@ fn handed(text: &[u8; 142], r: Reader) -> Reader {
 }
 
 // Whether a call's state is right: at the line's row, or as it was handed in.
-fn state_agrees(text: &[u8; 142], given: Reader, reply: Reply) -> bool {
-    if word(text, 25) == 0 {
-        return reply.reader.place == size(text, 21);
+fn state_agrees(text: &[u8], given: Reader, reply: Reply) -> bool {
+    if cases::word(text, 25) == 0 {
+        return reply.reader.place == cases::size(text, 21);
     }
     same_reader(given, reply.reader)
 }
 
 // What a call's reply makes of a line; a changed reader's is dropped.
-fn judged(
-    text: &[u8; 142],
-    reader: Reader,
-    given: Reader,
-    reply: Reply,
-    sum: u64,
-    kept: bool,
-) -> Step {
-    let answered = kept && number(reply.answer) == word(text, 25);
-    let left = state_agrees(text, given, reply) && sum as usize == long(text, 26);
-    if word(text, 22) != 0 {
+fn judged(text: &[u8], reader: Reader, given: Reader, reply: Reply, sum: u32, kept: bool) -> Step {
+    let answered = kept && cases::number(reply.answer) == cases::word(text, 25);
+    let left = state_agrees(text, given, reply) && sum as usize == cases::long(text, 26);
+    if cases::word(text, 22) != 0 {
         return Step {
             right: answered && left,
             reader,
@@ -297,34 +139,34 @@ fn judged(
     }
 }
 
-fn open_step(text: &[u8; 142], reader: Reader, y: &[u8], cb: &[u8], cr: &[u8], s: &[f32]) -> Step {
+fn open_step(text: &[u8], reader: Reader, y: &[u8], cb: &[u8], cr: &[u8], s: &[f32]) -> Step {
     let reply = reconstruction::open(
-        layout(text),
+        cases::layout(text),
         y,
-        size(text, 9),
+        cases::size(text, 9),
         cb,
-        size(text, 10),
+        cases::size(text, 10),
         cr,
-        size(text, 11),
+        cases::size(text, 11),
         s,
         reader,
     );
     judged(text, reader, reader, reply, 0, true)
 }
 
-fn seek_step(text: &[u8; 142], reader: Reader) -> Step {
+fn seek_step(text: &[u8], reader: Reader) -> Step {
     let given = handed(text, reader);
-    let reply = reconstruction::seek(given, size(text, 21));
+    let reply = reconstruction::seek(given, cases::size(text, 21));
     judged(text, reader, given, reply, 0, true)
 }
 
 // Whether scratch is as it was, by its sums, where the line's call is refused.
-fn kept_scratch(text: &[u8; 142], before: u64, after: u64) -> bool {
-    word(text, 25) == 0 || before == after
+fn kept_scratch(text: &[u8], before: u32, after: u32) -> bool {
+    cases::word(text, 25) == 0 || before == after
 }
 
 fn row_step(
-    text: &[u8; 142],
+    text: &[u8],
     reader: Reader,
     y: &[u8],
     cb: &[u8],
@@ -334,38 +176,28 @@ fn row_step(
     out_cr: &mut [f32],
 ) -> Step {
     let given = handed(text, reader);
-    let before = summed(0, s);
+    let before = cases::sum_floats(0, s);
     let reply = reconstruction::row(
         given,
         y,
-        size(text, 9),
+        cases::size(text, 9),
         cb,
-        size(text, 10),
+        cases::size(text, 10),
         cr,
-        size(text, 11),
-        size(text, 21),
+        cases::size(text, 11),
+        cases::size(text, 21),
         s,
         out_cb,
         out_cr,
     );
-    let sum = summed(summed(0, out_cb), out_cr);
-    let kept = kept_scratch(text, before, summed(0, s));
+    let sum = cases::sum_floats(cases::sum_floats(0, out_cb), out_cr);
+    let kept = kept_scratch(text, before, cases::sum_floats(0, s));
     judged(text, reader, given, reply, sum, kept)
-}
-
-// What is lent of a buffer: what the line asks for, or all that there is.
-fn lent(asked: usize, there: usize) -> usize
-    ensures { λ r. ⌜ r ≤ there ⌝ }
-{
-    if there < asked {
-        return there;
-    }
-    asked
 }
 
 // A line's call, lent the front of each buffer.
 fn one_step(
-    text: &[u8; 142],
+    text: &[u8],
     reader: Reader,
     y: &[u8],
     cb: &[u8],
@@ -374,18 +206,18 @@ fn one_step(
     out_cb: &mut [f32],
     out_cr: &mut [f32],
 ) -> Step {
-    if text[0] == b's' {
+    if cases::byte(text, 0) == b's' {
         return seek_step(text, reader);
     }
-    let y = &y[..lent(word(text, 12), y.len())];
-    let cb = &cb[..lent(word(text, 13), cb.len())];
-    let cr = &cr[..lent(word(text, 14), cr.len())];
-    let space = lent(long(text, 17), s.len());
-    if text[0] == b'o' {
+    let y = &y[..image::least(cases::word(text, 12), y.len())];
+    let cb = &cb[..image::least(cases::word(text, 13), cb.len())];
+    let cr = &cr[..image::least(cases::word(text, 14), cr.len())];
+    let space = image::least(cases::long(text, 17), s.len());
+    if cases::byte(text, 0) == b'o' {
         return open_step(text, reader, y, cb, cr, &s[..space]);
     }
-    let room_cb = lent(word(text, 19), out_cb.len());
-    let room_cr = lent(word(text, 20), out_cr.len());
+    let room_cb = image::least(cases::word(text, 19), out_cb.len());
+    let room_cr = image::least(cases::word(text, 20), out_cr.len());
     row_step(
         text,
         reader,
@@ -400,7 +232,7 @@ fn one_step(
 
 // The planes of a line, and the outputs as no row call leaves them.
 fn prepare(
-    text: &[u8; 142],
+    text: &[u8],
     y: &mut [u8],
     cb: &mut [u8],
     cr: &mut [u8],
@@ -408,13 +240,13 @@ fn prepare(
     out_cr: &mut [f32],
 ) {
     grow_planes(text, y, cb, cr);
-    fill(out_cb, UNWRITTEN);
-    fill(out_cr, UNWRITTEN);
+    cases::mark_floats(out_cb, UNWRITTEN);
+    cases::mark_floats(out_cr, UNWRITTEN);
 }
 
 // A line's call over the buffers that all lines share.
 fn replayed(
-    text: &[u8; 142],
+    text: &[u8],
     reader: Reader,
     y: &mut [u8],
     cb: &mut [u8],
@@ -425,16 +257,6 @@ fn replayed(
 ) -> Step {
     prepare(text, y, cb, cr, out_cb, out_cr);
     one_step(text, reader, y, cb, cr, s, out_cb, out_cr)
-}
-
-// One more, where a call was wrong.
-fn more(right: bool) -> u64
-    ensures { λ r. ⌜ r ≤ 1 ⌝ }
-{
-    if right {
-        return 0;
-    }
-    1
 }
 
 // A reader that no call leaves: the list's first calls are handed it.
@@ -473,7 +295,7 @@ fn main() {
     let mut out_cb = [0.0f32; 9_000];
     let mut out_cr = [0.0f32; 9_000];
     let mut reader = unopened();
-    fill(&mut s, 0.0 / 0.0);
+    cases::mark_floats(&mut s, 0.0 / 0.0);
     for _ in 0..65_536usize {
         if io::read_full(STDIN_FILENO, &mut text) < 142 {
             break;
@@ -490,7 +312,7 @@ fn main() {
             &mut out_cr,
         );
         reader = step.reader;
-        differ += more(step.right);
+        differ += cases::more(step.right);
     }
     io::print_decimal(STDOUT_FILENO, ran);
     io::write_all(STDOUT_FILENO, b" calls ran, ");

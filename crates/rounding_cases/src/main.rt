@@ -1,6 +1,5 @@
 // Runs the fixed list of rounding, fmin, fmax and sample cases on standard input against this library and writes how many ran and how many differ.
 // oracle/rounding-cases made the list: lines `K AAAAAAAA BBBBBBBB CCCCCCCC` of a kind, two operands and the original's answer.
-ghost use Prim.Native.Nat.{_<_};
 use libc::STDIN_FILENO;
 use libc::STDOUT_FILENO;
 
@@ -14,45 +13,6 @@ struct Line {
 struct Count {
     ran: u64,
     differ: u64,
-}
-
-// A hex digit; 0 for any other byte, whose line then has a wrong number in it.
-fn digit(b: u8) -> u32
-    ensures { λ r. ⌜ r < 16 ⌝ }
-{
-    if b < b'0' {
-        return 0;
-    }
-    if b <= b'9' {
-        return (b - b'0') as u32;
-    }
-    if b < b'a' {
-        return 0;
-    }
-    if b <= b'f' {
-        return (b - b'a') as u32 + 10;
-    }
-    0
-}
-
-fn two(text: &[u8; 29], at: usize) -> u32
-    requires { ⌜ at < 28 ⌝ }
-    ensures { λ r. ⌜ r < 256 ⌝ }
-{
-    digit(text[at]) * 16 + digit(text[at + 1])
-}
-
-fn four(text: &[u8; 29], at: usize) -> u32
-    requires { ⌜ at < 26 ⌝ }
-    ensures { λ r. ⌜ r < 65536 ⌝ }
-{
-    two(text, at) * 256 + two(text, at + 2)
-}
-
-fn eight(text: &[u8; 29], at: usize) -> u32
-    requires { ⌜ at < 22 ⌝ }
-{
-    four(text, at) * 65_536 + four(text, at + 4)
 }
 
 // The plane whose four bytes are the digits of n.
@@ -83,19 +43,11 @@ fn sample_two(n: u32, index: u32) -> u32 {
     65_536
 }
 
-// The float of a bit pattern; every not-a-number is one.
-fn float(bits: u32) -> f32 {
-    if 2_139_095_040 < bits % 2_147_483_648 {
-        return 0.0 / 0.0;
-    }
-    f32::from_bits(bits)
-}
-
 // Whether this library's answer to a line is another than the original's.
 fn differs(line: Line) -> bool {
-    let x = float(line.a);
-    let y = float(line.b);
-    let z = float(line.answer);
+    let x = cases::float(line.a);
+    let y = cases::float(line.b);
+    let z = cases::float(line.answer);
     let kind = line.kind;
     match kind {
         b'g' => fround::round_clamped_by_grid(x, line.b) != line.answer,
@@ -109,16 +61,16 @@ fn differs(line: Line) -> bool {
 }
 
 // The count after one more line. What is no line of the list counts as one that differs.
-fn counted(count: Count, text: &[u8; 29]) -> Count {
+fn counted(count: Count, text: &[u8]) -> Count {
     let line = Line {
-        kind: text[0],
-        a: eight(text, 2),
-        b: eight(text, 11),
-        answer: eight(text, 20),
+        kind: cases::byte(text, 0),
+        a: cases::eight(text, 2) as u32,
+        b: cases::eight(text, 11) as u32,
+        answer: cases::eight(text, 20) as u32,
     };
     let ran = count.ran % 1_000_000 + 1;
     let differ = count.differ % 1_000_000;
-    if text[28] != b'\n' {
+    if !cases::is_line(text) {
         return Count {
             ran,
             differ: differ + 1,

@@ -33,6 +33,9 @@ slice-aggregate-right-2 c = omega arith
 slice-aggregate-right-3 : tie.Need-slice-aggregate-right-3 Inv-loop μ-loop
 slice-aggregate-right-3 c = omega arith
 
+slice-aggregate-right-4 : tie.Need-slice-aggregate-right-4 Inv-loop μ-loop
+slice-aggregate-right-4 c = omega arith
+
 right-requires : tie.Need-right-requires Inv-loop μ-loop
 right-requires c κs = search needs
 
@@ -85,6 +88,7 @@ main-spec =
     slice-aggregate-right
     slice-aggregate-right-2
     slice-aggregate-right-3
+    slice-aggregate-right-4
     right-requires
     more-requires
     add-differ

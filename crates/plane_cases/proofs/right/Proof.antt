@@ -14,6 +14,9 @@ long-requires c κs = search needs
 word-requires-2 : tie.Need-word-requires-2
 word-requires-2 c κs = search needs
 
+is-line-requires : tie.Need-is-line-requires
+is-line-requires c κs = search needs
+
 returns : tie.Need-returns
 returns c = search needs
 
@@ -23,8 +26,11 @@ returns-2 c = search needs
 returns-3 : tie.Need-returns-3
 returns-3 c = search needs
 
-element-copy-out-if4 : tie.Need-element-copy-out-if4
-element-copy-out-if4 c = search needs
+returns-4 : tie.Need-returns-4
+returns-4 c = search needs
+
+byte-requires : tie.Need-byte-requires
+byte-requires c κs = search needs
 
 slice-relend-prefix-triangular-agrees : tie.Need-slice-relend-prefix-triangular-agrees
 slice-relend-prefix-triangular-agrees c = search needs
@@ -47,8 +53,8 @@ same-length c = search needs
 same-length-2 : tie.Need-same-length-2
 same-length-2 c = search needs
 
-returns-4 : tie.Need-returns-4
-returns-4 c = search needs
+returns-5 : tie.Need-returns-5
+returns-5 c = search needs
 
 slice-relend-prefix-linear-agrees : tie.Need-slice-relend-prefix-linear-agrees
 slice-relend-prefix-linear-agrees c = search needs
@@ -80,8 +86,8 @@ same-length-4 c = search needs
 same-length-5 : tie.Need-same-length-5
 same-length-5 c = search needs
 
-returns-5 : tie.Need-returns-5
-returns-5 c = search needs
+returns-6 : tie.Need-returns-6
+returns-6 c = search needs
 
 pub right-spec : {M : Type 1} → statement M
 right-spec =
@@ -90,10 +96,12 @@ right-spec =
     word-requires
     long-requires
     word-requires-2
+    is-line-requires
     returns
     returns-2
     returns-3
-    element-copy-out-if4
+    returns-4
+    byte-requires
     slice-relend-prefix-triangular-agrees
     slice-aggregate-triangular-agrees
     slice-relend-prefix-triangular-agrees-2
@@ -101,7 +109,7 @@ right-spec =
     triangular-agrees-requires
     same-length
     same-length-2
-    returns-4
+    returns-5
     slice-relend-prefix-linear-agrees
     slice-aggregate-linear-agrees
     slice-relend-prefix-linear-agrees-2
@@ -112,4 +120,4 @@ right-spec =
     same-length-3
     same-length-4
     same-length-5
-    returns-5)
+    returns-6)

@@ -1,9 +1,9 @@
-use borrow.Author.Needs.{needs}
 use mathlib.Core.Path.{_≡_}
 use Prim.Native.Nat.{_-_, _≤_}
 use native.Mathlib.Omega.{arith}
 use lib.ListN.{length}
 use Rattle.reader_cases.proofs.main.Statement.{statement}
+use borrow.Author.Needs.{needs}
 use Rattle.reader_cases.proofs.main.Tie as tie
 
 abbrev Inv-loop : tie.InvT-loop
@@ -15,11 +15,11 @@ abbrev μ-loop : tie.MeasureT-loop
 unopened-requires : tie.Need-unopened-requires Inv-loop μ-loop
 unopened-requires c κs = search needs
 
-slice-aggregate-fill : tie.Need-slice-aggregate-fill Inv-loop μ-loop
-slice-aggregate-fill c = omega arith
+slice-aggregate-mark-floats : tie.Need-slice-aggregate-mark-floats Inv-loop μ-loop
+slice-aggregate-mark-floats c = omega arith
 
-fill-requires : tie.Need-fill-requires Inv-loop μ-loop
-fill-requires c κs = search needs
+mark-floats-requires : tie.Need-mark-floats-requires Inv-loop μ-loop
+mark-floats-requires c κs = search needs
 
 loop-holds : tie.Need-loop-holds Inv-loop μ-loop
 loop-holds c = omega arith
@@ -50,6 +50,9 @@ slice-aggregate-replayed-5 c = omega arith
 
 slice-aggregate-replayed-6 : tie.Need-slice-aggregate-replayed-6 Inv-loop μ-loop
 slice-aggregate-replayed-6 c = omega arith
+
+slice-aggregate-replayed-7 : tie.Need-slice-aggregate-replayed-7 Inv-loop μ-loop
+slice-aggregate-replayed-7 c = omega arith
 
 replayed-requires : tie.Need-replayed-requires Inv-loop μ-loop
 replayed-requires c κs = search needs
@@ -97,8 +100,8 @@ main-spec =
     Inv-loop
     μ-loop
     unopened-requires
-    slice-aggregate-fill
-    fill-requires
+    slice-aggregate-mark-floats
+    mark-floats-requires
     loop-holds
     slice-aggregate-read-full
     read-full-requires
@@ -109,6 +112,7 @@ main-spec =
     slice-aggregate-replayed-4
     slice-aggregate-replayed-5
     slice-aggregate-replayed-6
+    slice-aggregate-replayed-7
     replayed-requires
     more-requires
     add-differ

@@ -5,8 +5,8 @@ use borrow.Author.Needs.{needs}
 use Rattle.reader_cases.proofs.one_step.Statement.{statement}
 use Rattle.reader_cases.proofs.one_step.Tie as tie
 
-element-copy-out-if1 : tie.Need-element-copy-out-if1
-element-copy-out-if1 c = search needs
+byte-requires : tie.Need-byte-requires
+byte-requires c κs = search needs
 
 seek-step-requires : tie.Need-seek-step-requires
 seek-step-requires c κs = search needs
@@ -17,8 +17,8 @@ returns c = search needs
 word-requires : tie.Need-word-requires
 word-requires c κs = search needs
 
-lent-requires : tie.Need-lent-requires
-lent-requires c κs = search needs
+least-requires : tie.Need-least-requires
+least-requires c κs = search needs
 
 slice-aggregate-y : tie.Need-slice-aggregate-y
 slice-aggregate-y c = sym (length-take-le _ _ (omega arith))
@@ -26,8 +26,8 @@ slice-aggregate-y c = sym (length-take-le _ _ (omega arith))
 word-requires-2 : tie.Need-word-requires-2
 word-requires-2 c κs = search needs
 
-lent-requires-2 : tie.Need-lent-requires-2
-lent-requires-2 c κs = search needs
+least-requires-2 : tie.Need-least-requires-2
+least-requires-2 c κs = search needs
 
 slice-aggregate-cb : tie.Need-slice-aggregate-cb
 slice-aggregate-cb c = sym (length-take-le _ _ (omega arith))
@@ -35,8 +35,8 @@ slice-aggregate-cb c = sym (length-take-le _ _ (omega arith))
 word-requires-3 : tie.Need-word-requires-3
 word-requires-3 c κs = search needs
 
-lent-requires-3 : tie.Need-lent-requires-3
-lent-requires-3 c κs = search needs
+least-requires-3 : tie.Need-least-requires-3
+least-requires-3 c κs = search needs
 
 slice-aggregate-cr : tie.Need-slice-aggregate-cr
 slice-aggregate-cr c = sym (length-take-le _ _ (omega arith))
@@ -44,11 +44,11 @@ slice-aggregate-cr c = sym (length-take-le _ _ (omega arith))
 long-requires : tie.Need-long-requires
 long-requires c κs = search needs
 
-lent-requires-4 : tie.Need-lent-requires-4
-lent-requires-4 c κs = search needs
+least-requires-4 : tie.Need-least-requires-4
+least-requires-4 c κs = search needs
 
-element-copy-out-if2 : tie.Need-element-copy-out-if2
-element-copy-out-if2 c = search needs
+byte-requires-2 : tie.Need-byte-requires-2
+byte-requires-2 c κs = search needs
 
 slice-reshare-prefix-open-step : tie.Need-slice-reshare-prefix-open-step
 slice-reshare-prefix-open-step c = search needs
@@ -68,14 +68,14 @@ returns-2 c = search needs
 word-requires-4 : tie.Need-word-requires-4
 word-requires-4 c κs = search needs
 
-lent-requires-5 : tie.Need-lent-requires-5
-lent-requires-5 c κs = search needs
+least-requires-5 : tie.Need-least-requires-5
+least-requires-5 c κs = search needs
 
 word-requires-5 : tie.Need-word-requires-5
 word-requires-5 c κs = search needs
 
-lent-requires-6 : tie.Need-lent-requires-6
-lent-requires-6 c κs = search needs
+least-requires-6 : tie.Need-least-requires-6
+least-requires-6 c κs = search needs
 
 slice-relend-prefix-row-step : tie.Need-slice-relend-prefix-row-step
 slice-relend-prefix-row-step c = search needs
@@ -114,30 +114,30 @@ pub one-step-spec : {M : Type 1} → statement M
 one-step-spec =
     tie.close
     (tie.spec
-    element-copy-out-if1
+    byte-requires
     seek-step-requires
     returns
     word-requires
-    lent-requires
+    least-requires
     slice-aggregate-y
     word-requires-2
-    lent-requires-2
+    least-requires-2
     slice-aggregate-cb
     word-requires-3
-    lent-requires-3
+    least-requires-3
     slice-aggregate-cr
     long-requires
-    lent-requires-4
-    element-copy-out-if2
+    least-requires-4
+    byte-requires-2
     slice-reshare-prefix-open-step
     slice-aggregate-open-step
     open-step-requires
     same-length
     returns-2
     word-requires-4
-    lent-requires-5
+    least-requires-5
     word-requires-5
-    lent-requires-6
+    least-requires-6
     slice-relend-prefix-row-step
     slice-aggregate-row-step
     slice-relend-prefix-row-step-2

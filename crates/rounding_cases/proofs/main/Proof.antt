@@ -21,6 +21,9 @@ slice-aggregate-read-full c = omega arith
 read-full-requires : tie.Need-read-full-requires Inv-loop μ-loop
 read-full-requires c κs = search needs
 
+slice-aggregate-counted : tie.Need-slice-aggregate-counted Inv-loop μ-loop
+slice-aggregate-counted c = omega arith
+
 counted-requires : tie.Need-counted-requires Inv-loop μ-loop
 counted-requires c κs = search needs
 
@@ -63,6 +66,7 @@ main-spec =
     loop-holds
     slice-aggregate-read-full
     read-full-requires
+    slice-aggregate-counted
     counted-requires
     add-counter
     loop-less

@@ -3,8 +3,8 @@ use mathlib.Core.Bool.{Bool, not}
 use lib.Dec.{T}
 use Rattle.laws.proofs.Order.{self-equal}
 use borrow.Author.Needs.{needs}
-use Rattle.reader_cases.proofs.bits.Statement.{statement}
-use Rattle.reader_cases.proofs.bits.Tie as tie
+use Rattle.cases.proofs.floats.bits.Statement.{statement}
+use Rattle.cases.proofs.floats.bits.Tie as tie
 
 float-to-bits-result : tie.Need-float-to-bits-result
 float-to-bits-result c = subst (λ (b : Bool). T (not b)) (sym (self-equal (c .before .args .x) (c .if1 .taken))) tt

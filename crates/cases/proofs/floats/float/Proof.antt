@@ -6,8 +6,8 @@ use lib.Ieee.Bits.{nanBits-above}
 use borrow.Author.Tests.{le-ltb}
 use Prim.Native.Nat.{_%_}
 use borrow.Author.Needs.{needs}
-use Rattle.reader_cases.proofs.float.Statement.{statement}
-use Rattle.reader_cases.proofs.float.Tie as tie
+use Rattle.cases.proofs.floats.float.Statement.{statement}
+use Rattle.cases.proofs.floats.float.Tie as tie
 
 returns : tie.Need-returns
 returns c = search needs

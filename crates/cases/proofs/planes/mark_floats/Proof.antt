@@ -1,25 +1,25 @@
-use borrow.Author.Needs.{needs}
 use mathlib.Core.Path.{_≡_}
 use Prim.Native.Nat.{_-_, _≤_}
 use native.Mathlib.Omega.{arith}
 use lib.ListN.{length, length-set}
-use Rattle.plane_cases.proofs.mark_scratch.Statement.{statement}
-use Rattle.plane_cases.proofs.mark_scratch.Tie as tie
+use Rattle.cases.proofs.planes.mark_floats.Statement.{statement}
+use borrow.Author.Needs.{needs}
+use Rattle.cases.proofs.planes.mark_floats.Tie as tie
 
 abbrev Inv-loop : tie.InvT-loop
-Inv-loop s₀ i₀ s i = (i ≤ length s) × (length s ≡ length s₀)
+Inv-loop out₀ value i₀ out i = (i ≤ length out) × (length out ≡ length out₀)
 
 abbrev μ-loop : tie.MeasureT-loop
-μ-loop s₀ i₀ s i = length s - i
+μ-loop out₀ value i₀ out i = length out - i
 
 loop-holds : tie.Need-loop-holds Inv-loop μ-loop
 loop-holds c = omega arith
 
-mul-s : tie.Need-mul-s Inv-loop μ-loop
-mul-s c = omega arith
+mul-out : tie.Need-mul-out Inv-loop μ-loop
+mul-out c = omega arith
 
-slice-write-s : tie.Need-slice-write-s Inv-loop μ-loop
-slice-write-s c = omega arith
+slice-write-out : tie.Need-slice-write-out Inv-loop μ-loop
+slice-write-out c = omega arith
 
 add-i : tie.Need-add-i Inv-loop μ-loop
 add-i c = omega arith
@@ -36,15 +36,15 @@ same-length c = search needs
 returns : tie.Need-returns Inv-loop μ-loop
 returns c = search needs
 
-pub mark-scratch-spec : {M : Type 1} → statement M
-mark-scratch-spec =
+pub mark-floats-spec : {M : Type 1} → statement M
+mark-floats-spec =
     tie.close
     (tie.spec
     Inv-loop
     μ-loop
     loop-holds
-    mul-s
-    slice-write-s
+    mul-out
+    slice-write-out
     add-i
     loop-less
     loop-again

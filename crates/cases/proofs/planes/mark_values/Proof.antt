@@ -1,10 +1,10 @@
-use borrow.Author.Needs.{needs}
 use mathlib.Core.Path.{_≡_}
 use Prim.Native.Nat.{_-_, _≤_}
 use native.Mathlib.Omega.{arith}
 use lib.ListN.{length, length-set}
-use Rattle.reader_cases.proofs.fill.Statement.{statement}
-use Rattle.reader_cases.proofs.fill.Tie as tie
+use Rattle.cases.proofs.planes.mark_values.Statement.{statement}
+use borrow.Author.Needs.{needs}
+use Rattle.cases.proofs.planes.mark_values.Tie as tie
 
 abbrev Inv-loop : tie.InvT-loop
 Inv-loop out₀ value i₀ out i = (i ≤ length out) × (length out ≡ length out₀)
@@ -36,8 +36,8 @@ same-length c = search needs
 returns : tie.Need-returns Inv-loop μ-loop
 returns c = search needs
 
-pub fill-spec : {M : Type 1} → statement M
-fill-spec =
+pub mark-values-spec : {M : Type 1} → statement M
+mark-values-spec =
     tie.close
     (tie.spec
     Inv-loop

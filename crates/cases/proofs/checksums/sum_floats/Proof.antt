@@ -1,12 +1,12 @@
-use borrow.Author.Needs.{needs}
-use Prim.Native.Nat.{_-_, _≤_, _<_}
+use Prim.Native.Nat.{_-_, _≤_}
 use native.Mathlib.Omega.{arith}
 use lib.ListN.{length}
-use Rattle.reader_cases.proofs.summed.Statement.{statement}
-use Rattle.reader_cases.proofs.summed.Tie as tie
+use Rattle.cases.proofs.checksums.sum_floats.Statement.{statement}
+use borrow.Author.Needs.{needs}
+use Rattle.cases.proofs.checksums.sum_floats.Tie as tie
 
 abbrev Inv-loop : tie.InvT-loop
-Inv-loop sum out sum₀ i₀ sum' i = (sum' < 4294967296) × (i ≤ length out)
+Inv-loop sum out sum₀ i₀ sum' i = i ≤ length out
 
 abbrev μ-loop : tie.MeasureT-loop
 μ-loop sum out sum₀ i₀ sum' i = length out - i
@@ -36,10 +36,10 @@ loop-again : tie.Need-loop-again Inv-loop μ-loop
 loop-again c = omega arith
 
 returns : tie.Need-returns Inv-loop μ-loop
-returns c = omega arith
+returns c = search needs
 
-pub summed-spec : {M : Type 1} → statement M
-summed-spec =
+pub sum-floats-spec : {M : Type 1} → statement M
+sum-floats-spec =
     tie.close
     (tie.spec
     Inv-loop

@@ -1,22 +1,19 @@
-use borrow.Author.Needs.{needs}
 use mathlib.Core.Path.{_≡_}
 use Prim.Native.Nat.{_-_, _≤_}
 use native.Mathlib.Omega.{arith}
 use lib.ListN.{length, length-set}
-use Rattle.plane_cases.proofs.mark.Statement.{statement}
-use Rattle.plane_cases.proofs.mark.Tie as tie
+use Rattle.cases.proofs.planes.mark_bytes.Statement.{statement}
+use borrow.Author.Needs.{needs}
+use Rattle.cases.proofs.planes.mark_bytes.Tie as tie
 
 abbrev Inv-loop : tie.InvT-loop
-Inv-loop out₀ i₀ out i = (i ≤ length out) × (length out ≡ length out₀)
+Inv-loop out₀ value i₀ out i = (i ≤ length out) × (length out ≡ length out₀)
 
 abbrev μ-loop : tie.MeasureT-loop
-μ-loop out₀ i₀ out i = length out - i
+μ-loop out₀ value i₀ out i = length out - i
 
 loop-holds : tie.Need-loop-holds Inv-loop μ-loop
 loop-holds c = omega arith
-
-mul-out : tie.Need-mul-out Inv-loop μ-loop
-mul-out c = omega arith
 
 slice-write-out : tie.Need-slice-write-out Inv-loop μ-loop
 slice-write-out c = omega arith
@@ -36,14 +33,13 @@ same-length c = search needs
 returns : tie.Need-returns Inv-loop μ-loop
 returns c = search needs
 
-pub mark-spec : {M : Type 1} → statement M
-mark-spec =
+pub mark-bytes-spec : {M : Type 1} → statement M
+mark-bytes-spec =
     tie.close
     (tie.spec
     Inv-loop
     μ-loop
     loop-holds
-    mul-out
     slice-write-out
     add-i
     loop-less

@@ -1,28 +1,28 @@
-use borrow.Author.Needs.{needs}
 use mathlib.Core.Path.{_≡_}
-use Prim.Native.Nat.{_-_, _≤_, _<_}
+use Prim.Native.Nat.{_-_, _≤_}
 use native.Mathlib.Omega.{arith}
 use lib.ListN.{length, length-set}
-use Rattle.reader_cases.proofs.grow.Statement.{statement}
-use Rattle.reader_cases.proofs.grow.Tie as tie
+use Rattle.cases.proofs.planes.grow.Statement.{statement}
+use borrow.Author.Needs.{needs}
+use Rattle.cases.proofs.planes.grow.Tie as tie
 
 abbrev Inv-loop : tie.InvT-loop
-Inv-loop plane₀ seed shape state₀ i₀ plane state i = (state < 4294967296) × (i ≤ length plane) × (length plane ≡ length plane₀)
+Inv-loop plane₀ seed shape state₀ i₀ plane state i = (i ≤ length plane) × (length plane ≡ length plane₀)
 
 abbrev μ-loop : tie.MeasureT-loop
 μ-loop plane₀ seed shape state₀ i₀ plane state i = length plane - i
 
+cast-state : tie.Need-cast-state Inv-loop μ-loop
+cast-state c = omega arith
+
 loop-holds : tie.Need-loop-holds Inv-loop μ-loop
 loop-holds c = omega arith
 
-mul-state : tie.Need-mul-state Inv-loop μ-loop
-mul-state c = omega arith
+next-requires : tie.Need-next-requires Inv-loop μ-loop
+next-requires c κs = search needs
 
-add-state : tie.Need-add-state Inv-loop μ-loop
-add-state c = omega arith
-
-byte-requires : tie.Need-byte-requires Inv-loop μ-loop
-byte-requires c κs = search needs
+shaped-requires : tie.Need-shaped-requires Inv-loop μ-loop
+shaped-requires c κs = search needs
 
 slice-write-plane : tie.Need-slice-write-plane Inv-loop μ-loop
 slice-write-plane c = omega arith
@@ -48,10 +48,10 @@ grow-spec =
     (tie.spec
     Inv-loop
     μ-loop
+    cast-state
     loop-holds
-    mul-state
-    add-state
-    byte-requires
+    next-requires
+    shaped-requires
     slice-write-plane
     add-i
     loop-less

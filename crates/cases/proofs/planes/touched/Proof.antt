@@ -1,15 +1,15 @@
-use borrow.Author.Needs.{needs}
 use Prim.Native.Nat.{_-_, _≤_}
 use native.Mathlib.Omega.{arith}
 use lib.ListN.{length}
-use Rattle.plane_cases.proofs.touched.Statement.{statement}
-use Rattle.plane_cases.proofs.touched.Tie as tie
+use Rattle.cases.proofs.planes.touched.Statement.{statement}
+use borrow.Author.Needs.{needs}
+use Rattle.cases.proofs.planes.touched.Tie as tie
 
 abbrev Inv-loop : tie.InvT-loop
-Inv-loop s touched₀ i₀ touched i = i ≤ length s
+Inv-loop s from value touched₀ i₀ touched i = 0 ≤ i
 
 abbrev μ-loop : tie.MeasureT-loop
-μ-loop s touched₀ i₀ touched i = length s - i
+μ-loop s from value touched₀ i₀ touched i = length s - i
 
 loop-holds : tie.Need-loop-holds Inv-loop μ-loop
 loop-holds c = omega arith

@@ -1,0 +1,112 @@
+// The numbers of a line: words of four hex digits, a blank before each, after a byte for the kind.
+// Past a line's end every byte is 0 and every digit too.
+ghost use Prim.Native.Nat.{_<_};
+ghost use lib.ListN.{length};
+use image::Layout;
+
+// The byte at a place.
+pub fn byte(text: &[u8], at: usize) -> u8 {
+    if at < text.len() {
+        return text[at];
+    }
+    0
+}
+
+// Whether a text ends as a line does.
+pub fn is_line(text: &[u8]) -> bool {
+    let n = text.len();
+    if n == 0 {
+        return false;
+    }
+    text[n - 1] == b'\n'
+}
+
+// A hex digit; 0 for any other byte, whose line then has a wrong number in it.
+fn digit(b: u8) -> usize
+    ensures { λ r. ⌜ r < 16 ⌝ }
+{
+    if b < b'0' {
+        return 0;
+    }
+    if b <= b'9' {
+        return (b - b'0') as usize;
+    }
+    if b < b'a' {
+        return 0;
+    }
+    if b <= b'f' {
+        return (b - b'a') as usize + 10;
+    }
+    0
+}
+
+fn two(text: &[u8], at: usize) -> usize
+    requires { ⌜ at < 65536 ⌝ }
+    ensures { λ r. ⌜ r < 256 ⌝ }
+{
+    digit(byte(text, at)) * 16 + digit(byte(text, at + 1))
+}
+
+fn four(text: &[u8], at: usize) -> usize
+    requires { ⌜ at < 65534 ⌝ }
+    ensures { λ r. ⌜ r < 65536 ⌝ }
+{
+    two(text, at) * 256 + two(text, at + 2)
+}
+
+// The number of the eight digits at a place.
+pub fn eight(text: &[u8], at: usize) -> usize
+    requires { ⌜ at < 65530 ⌝ }
+    ensures { λ r. ⌜ r < 4294967296 ⌝ }
+{
+    four(text, at) * 65_536 + four(text, at + 4)
+}
+
+// Word k of a line.
+pub fn word(text: &[u8], k: usize) -> usize
+    requires { ⌜ k < 1000 ⌝ }
+    ensures { λ r. ⌜ r < 65536 ⌝ }
+{
+    four(text, 2 + 5 * k)
+}
+
+// Words k and k+1 as one number.
+pub fn long(text: &[u8], k: usize) -> usize
+    requires { ⌜ k < 999 ⌝ }
+    ensures { λ r. ⌜ r < 4294967296 ⌝ }
+{
+    word(text, k) * 65_536 + word(text, k + 1)
+}
+
+// A size, stride or row: ffff stands for the largest usize.
+pub fn size(text: &[u8], k: usize) -> usize
+    requires { ⌜ k < 1000 ⌝ }
+{
+    let n = word(text, k);
+    if n == 65_535 {
+        return 18_446_744_073_709_551_615;
+    }
+    n
+}
+
+// The layout that a line begins with: its first nine words.
+pub fn layout(text: &[u8]) -> Layout {
+    Layout {
+        w: size(text, 0),
+        h: size(text, 1),
+        rh: size(text, 2),
+        rv: size(text, 3),
+        cw: size(text, 4),
+        ch: size(text, 5),
+        sample_bytes: size(text, 6),
+        maxval: long(text, 7) as u32,
+    }
+}
+
+// How much of its scratch a line's call may touch: what the table says that it needs, or nothing where the line's answer is a refusal.
+pub fn scratch_part(text: &[u8], answer: usize) -> usize {
+    if answer != 0 {
+        return 0;
+    }
+    64 * word(text, 4) + 8 * word(text, 0)
+}
