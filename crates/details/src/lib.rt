@@ -9,5 +9,6 @@ pub use detail::detail_row;
 pub use pairs::Lanes;
 pub use pairs::Pair;
 pub use pairs::across_pixel;
+pub use pairs::cell_at;
 pub use pairs::pair_at;
 pub use pairs::put_block;

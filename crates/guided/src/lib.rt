@@ -4,6 +4,7 @@ mod state;
 
 pub use geometry::Geometry;
 pub use geometry::geometry_of;
+pub use geometry::phases_of;
 pub use state::Counters;
 pub use state::Reader;
 pub use state::Reply;

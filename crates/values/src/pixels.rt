@@ -6,6 +6,7 @@ ghost use lib.ListN.{length, getD};
 ghost use Rattle.image.specs.Tests.{Sound};
 ghost use Rattle.fround.specs.Rounding.{fmin, fmax};
 ghost use Rattle.resample.specs.Linear.{scratchNeed};
+ghost use Rattle.guided.specs.Calls.{phasesOf};
 ghost use Rattle.sums.specs.Slopes.{chromaOf};
 ghost use Rattle.values.specs.Values.{BandsInside, valueAt, valuePair, valueRun, valueRow};
 use super::bands::Bands;
@@ -14,9 +15,11 @@ use super::bands::finished_at;
 use details::Lanes;
 use details::Pair;
 use details::across_pixel;
+use details::cell_at;
 use details::pair_at;
 use details::put_block;
 use image::Layout;
+use resample::Phase;
 
 // A component's value in column x: its cells and slopes lerped across, the detail between them, raised to the least and lowered to the greatest of its cell.
 fn value_at(layout: Layout, s: &[f32], t: Bands, x: usize) -> f32
@@ -51,6 +54,63 @@ fn limited(v: f32, least: f32, greatest: f32) -> f32
     ensures { λ r. ⌜ r ≡ fmin (fmax v least) greatest ⌝ }
 {
     fround::fmin(fround::fmax(v, least), greatest)
+}
+
+// A component's values in the pixels of cell i: no edge is met.
+fn value_cell(layout: Layout, phases: [Phase; 4], s: &mut [f32], t: Bands, dst: usize, i: usize)
+    requires { ⌜ Sound layout × BandsInside t (3 * layout .w) (layout .cw) (length (now s)) ⌝ }
+    requires { ⌜ (phases ≡ phasesOf (layout .rh)) × (0 < i) × (i + 1 < layout .cw) × (i * layout .rh + layout .rh ≤ layout .w) × (dst ≤ layout .w) ⌝ }
+    ensures { λ _. ⌜ now (s .exit) ≡ valueRun layout t dst (i * layout .rh) (layout .rh) (now (s .entry)) ⌝ }
+{
+    let c = cell_at(layout, s, t.cells, phases, i);
+    let a = cell_at(layout, s, t.slopes, phases, i);
+    let lo = t.least;
+    let hi = t.greatest;
+    let least = s[lo + i];
+    let greatest = s[hi + i];
+    let at = 2 * layout.w;
+    let rh = layout.rh;
+    let x = i * rh;
+    let mut k = 0;
+    while k < rh {
+        s[dst + x + k] = limited(c[k] + a[k] * s[at + (x + k)], least, greatest);
+        k += 1;
+    }
+}
+
+// Of n cells, from cell 1 on.
+fn value_each(layout: Layout, s: &mut [f32], t: Bands, dst: usize, n: usize)
+    requires { ⌜ Sound layout × BandsInside t (3 * layout .w) (layout .cw) (length (now s)) ⌝ }
+    requires { ⌜ (n + 2 ≤ layout .cw) × (layout .rh + n * layout .rh ≤ layout .w) × (dst ≤ layout .w) ⌝ }
+    ensures { λ _. ⌜ now (s .exit) ≡ valueRun layout t dst (layout .rh) (n * layout .rh) (now (s .entry)) ⌝ }
+{
+    let phases = guided::phases_of(layout.rh);
+    let mut i = 0;
+    while i < n {
+        value_cell(layout, phases, s, t, dst, i + 1);
+        i += 1;
+    }
+}
+
+// Of n cells, from cell 1 on, at ratio 1, where each is a pixel.
+fn value_ones(layout: Layout, s: &mut [f32], t: Bands, dst: usize, n: usize)
+    requires { ⌜ Sound layout × BandsInside t (3 * layout .w) (layout .cw) (length (now s)) ⌝ }
+    requires { ⌜ (layout .rh ≡ 1) × (n + 2 ≤ layout .cw) × (1 + n ≤ layout .w) × (dst ≤ layout .w) ⌝ }
+    ensures { λ _. ⌜ now (s .exit) ≡ valueRun layout t dst 1 n (now (s .entry)) ⌝ }
+{
+    let cells = t.cells;
+    let slopes = t.slopes;
+    let lo = t.least;
+    let hi = t.greatest;
+    let at = 2 * layout.w;
+    let mut i = 0;
+    while i < n {
+        let x = 1 + i;
+        let c = resample::lerp(s[cells + x], s[cells + (x + 1)], 0.0);
+        let a = resample::lerp(s[slopes + x], s[slopes + (x + 1)], 0.0);
+        s[dst + 1 + i] = limited(c + a * s[at + x], s[lo + x], s[hi + x]);
+        i += 1;
+    }
 }
 
 // A component's values in the pixels of cell i + 1 at ratio 2: no edge is met.
@@ -118,8 +178,8 @@ fn value_pairs(layout: Layout, s: &mut [f32], t: Bands, dst: usize, from: usize,
     }
 }
 
-// Of the n cells between the first and the last: blocks, then pairs.
-fn value_inner(layout: Layout, s: &mut [f32], t: Bands, dst: usize, n: usize)
+// Of n cells, from cell 1 on, at ratio 2: blocks, then pairs.
+fn value_twos(layout: Layout, s: &mut [f32], t: Bands, dst: usize, n: usize)
     requires { ⌜ Sound layout × BandsInside t (3 * layout .w) (layout .cw) (length (now s)) ⌝ }
     requires { ⌜ (layout .rh ≡ 2) × (n + 2 ≤ layout .cw) × (2 + 2 * n ≤ layout .w) × (dst ≤ layout .w) ⌝ }
     ensures { λ _. ⌜ now (s .exit) ≡ valueRun layout t dst 2 (2 * n) (now (s .entry)) ⌝ }
@@ -130,22 +190,40 @@ fn value_inner(layout: Layout, s: &mut [f32], t: Bands, dst: usize, n: usize)
     value_pairs(layout, s, t, dst, m, n - m);
 }
 
-// A component's row at ratio 2: edge, pairs, edge.
-fn value_twos(layout: Layout, s: &mut [f32], t: Bands, dst: usize)
+// Of n cells, from cell 1 on: a loop for each ratio.
+fn value_inner(layout: Layout, s: &mut [f32], t: Bands, dst: usize, n: usize)
     requires { ⌜ Sound layout × BandsInside t (3 * layout .w) (layout .cw) (length (now s)) ⌝ }
-    requires { ⌜ (layout .rh ≡ 2) × (dst ≤ layout .w) ⌝ }
+    requires { ⌜ (n + 2 ≤ layout .cw) × (layout .rh + n * layout .rh ≤ layout .w) × (dst ≤ layout .w) ⌝ }
+    ensures { λ _. ⌜ now (s .exit) ≡ valueRun layout t dst (layout .rh) (n * layout .rh) (now (s .entry)) ⌝ }
+{
+    if layout.rh == 1 {
+        value_ones(layout, s, t, dst, n);
+        return;
+    }
+    if layout.rh == 2 {
+        value_twos(layout, s, t, dst, n);
+        return;
+    }
+    value_each(layout, s, t, dst, n);
+}
+
+// Of all cells: the first, the inner ones, and the last with its pixels inside the picture.
+fn value_cells(layout: Layout, s: &mut [f32], t: Bands, dst: usize)
+    requires { ⌜ Sound layout × BandsInside t (3 * layout .w) (layout .cw) (length (now s)) ⌝ }
+    requires { ⌜ dst ≤ layout .w ⌝ }
     ensures { λ _. ⌜ now (s .exit) ≡ valueRun layout t dst 0 (layout .w) (now (s .entry)) ⌝ }
 {
     let w = layout.w;
+    let rh = layout.rh;
     if layout.cw < 2 {
         value_run(layout, s, t, dst, 0, w);
         return;
     }
     let n = layout.cw - 2;
-    let m = 2 * n;
-    value_run(layout, s, t, dst, 0, 2);
+    let m = rh + n * rh;
+    value_run(layout, s, t, dst, 0, rh);
     value_inner(layout, s, t, dst, n);
-    value_run(layout, s, t, dst, 2 + m, w - (2 + m));
+    value_run(layout, s, t, dst, m, w - m);
 }
 
 // Inner: a component's finished row, from its rows of cells and the detail.
@@ -155,9 +233,5 @@ pub fn value_row(layout: Layout, cr: bool, s: &mut [f32])
 {
     let t = bands_of(layout, cr);
     let dst = finished_at(layout, cr);
-    if layout.rh != 2 {
-        value_run(layout, s, t, dst, 0, layout.w);
-        return;
-    }
-    value_twos(layout, s, t, dst);
+    value_cells(layout, s, t, dst);
 }

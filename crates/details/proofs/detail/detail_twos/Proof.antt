@@ -1,75 +1,49 @@
-use mathlib.Core.List.{List}
-use Rattle.image.specs.Samples.{Plane}
-use Rattle.details.specs.Pixels.{detailRun}
-use Rattle.details.proofs.Twos.{pairs-inside, detail-parts}
-use mathlib.Core.Path.{ap, _∙_}
-use Prim.Native.Nat.{ℕ, _+_, _-_, _*_, _≤_}
-use lib.Ieee.{Float}
+use mathlib.Core.Path.{_≡_, ap, _∙_}
+use Prim.Native.Nat.{ℕ, _+_, _-_, _*_, _/_}
 use native.Mathlib.Omega.{arith}
 use borrow.Author.Needs.{needs}
 use Rattle.details.proofs.detail.detail_twos.Statement.{statement}
+use lib.Ieee.{Float}
+use mathlib.Core.List.{List}
+use Rattle.details.proofs.Twos.{detail-chain}
+use Rattle.details.specs.Pixels.{detailRun}
 use Rattle.details.proofs.detail.detail_twos.Tie as tie
 
--- the pairs lie inside the picture
+mul-m : tie.Need-mul-m
+mul-m c = search needs
 
-room : (c : tie.Else1) → 2 + 2 * (c .before .before .before .before .args .layout .cw - 2) ≤ c .before .before .before .before .args .layout .w
-room c = pairs-inside (c .before .before .before .before .args .layout) (c .before .before .before .before .pre .0 .0 .sound) (c .before .before .before .before .pre .0 .2) (omega arith)
+detail-blocks-requires : tie.Need-detail-blocks-requires
+detail-blocks-requires c κs = let s = c .before .before .before in ((s .pre .0 .0, s .pre .0 .1, s .pre .0 .2, omega arith, omega arith), s .pre .1)
 
-detail-run-requires : tie.Need-detail-run-requires
-detail-run-requires c κs = ((c .before .before .before .before .before .pre .0 .0, omega arith, omega arith), omega arith)
+sub-detail-pairs : tie.Need-sub-detail-pairs
+sub-detail-pairs c = search needs
+
+detail-pairs-requires : tie.Need-detail-pairs-requires
+detail-pairs-requires c κs = let s = c .before .before .before .before .before .before .before in ((s .pre .0 .0, s .pre .0 .1, s .pre .0 .2, omega arith, omega arith), omega arith)
 
 same-length : tie.Need-same-length
 same-length c = search needs
 
 returns : tie.Need-returns
-returns c = search needs
-
-mul-m : tie.Need-mul-m
-mul-m c = search needs
-
-detail-run-requires-2 : tie.Need-detail-run-requires-2
-detail-run-requires-2 c κs = let h = room (c .before .before) in ((c .before .before .before .before .before .before .pre .0 .0, omega arith, omega arith), omega arith)
-
-detail-inner-requires : tie.Need-detail-inner-requires
-detail-inner-requires c κs = let h = room (c .before .before .before .before .before .before) in ((c .before .before .before .before .before .before .before .before .before .before .pre .0 .0, omega arith, c .before .before .before .before .before .before .before .before .before .before .pre .0 .2, omega arith, omega arith), omega arith)
-
-add-detail-run : tie.Need-add-detail-run
-add-detail-run c = omega arith
-
-add-detail-run-2 : tie.Need-add-detail-run-2
-add-detail-run-2 c = omega arith
-
-sub-detail-run : tie.Need-sub-detail-run
-sub-detail-run c = let h = room (c .before .before .before .before .before .before .before .before .before .before) in omega arith
-
-detail-run-requires-3 : tie.Need-detail-run-requires-3
-detail-run-requires-3 c κs = let h = room (c .before .before .before .before .before .before .before .before .before .before) in ((c .before .before .before .before .before .before .before .before .before .before .before .before .before .before .pre .0 .0, omega arith, omega arith), omega arith)
-
-same-length-2 : tie.Need-same-length-2
-same-length-2 c = search needs
-
-returns-2 : tie.Need-returns-2
-returns-2 c =
-    let a = c .before .before .before .before .before .before .before .before .before .before .before .before .before .before .before .before .before .args in
-    let l = a .layout in
-    let p : Plane = record { bytes = a .plane .now; stride = a .stride } in
-    let m : ℕ = 2 * (l .cw - 2) in
-    let run : ℕ → ℕ → List Float → List Float = detailRun l p (a .y) (a .src) (a .dst) in
-    c .before .before .detail-run3 .ensures ∙ ap (run (2 + m) (l .w - (2 + m))) (c .before .before .before .before .before .before .detail-inner .ensures ∙ ap (run 2 m) (c .before .before .before .before .before .before .before .before .before .before .detail-run2 .ensures)) ∙ detail-parts l (c .before .before .before .before .before .before .before .before .before .before .before .before .before .before .before .before .before .pre .0 .0 .sound) p (a .y) (a .src) (a .dst) (omega arith) m (a .s .now) (room (c .before .before .before .before .before .before .before .before .before .before .before .before .before))
+returns c = let a = c .before .before .before .before .before .before .before .before .before .before .args in
+    let o = c .before .before .before .before .before .before .before .before .before .before .pre .0 .0 .sound in
+    let run : ℕ → ℕ → List Float → List Float = detailRun (a .layout) (record { bytes = a .plane .now; stride = a .stride }) (a .y) (a .src) (a .dst) in
+    let k : ℕ = a .n / 8 in
+    let e : 2 + 2 * (8 * k) ≡ 2 + 16 * k = omega arith in
+    let m : 16 * k + 2 * (a .n - 8 * k) ≡ 2 * a .n = omega arith in
+    c .before .before .detail-pairs .ensures
+    ∙ ap (run (2 + 2 * (8 * k)) (2 * (a .n - 8 * k))) (c .before .before .before .before .before .before .detail-blocks .ensures)
+    ∙ ap (λ (x : ℕ). run x (2 * (a .n - 8 * k)) (run 2 (16 * k) (a .s .now))) e
+    ∙ detail-chain (a .layout) o (record { bytes = a .plane .now; stride = a .stride }) (a .y) (a .src) (a .dst) (omega arith) 2 (16 * k) (2 * (a .n - 8 * k)) (a .s .now) (omega arith)
+    ∙ ap (λ (x : ℕ). run 2 x (a .s .now)) m
 
 pub detail-twos-spec : {M : Type 1} → statement M
 detail-twos-spec =
     tie.close
     (tie.spec
-    detail-run-requires
-    same-length
-    returns
     mul-m
-    detail-run-requires-2
-    detail-inner-requires
-    add-detail-run
-    add-detail-run-2
-    sub-detail-run
-    detail-run-requires-3
-    same-length-2
-    returns-2)
+    detail-blocks-requires
+    sub-detail-pairs
+    detail-pairs-requires
+    same-length
+    returns)
