@@ -92,23 +92,31 @@ fn value_each(layout: Layout, s: &mut [f32], t: Bands, dst: usize, n: usize)
     }
 }
 
-// Of n cells, from cell 1 on, at ratio 1, where each is a pixel.
-fn value_ones(layout: Layout, s: &mut [f32], t: Bands, dst: usize, n: usize)
-    requires { ⌜ Sound layout × BandsInside t (3 * layout .w) (layout .cw) (length (now s)) ⌝ }
-    requires { ⌜ (layout .rh ≡ 1) × (n + 2 ≤ layout .cw) × (1 + n ≤ layout .w) × (dst ≤ layout .w) ⌝ }
-    ensures { λ _. ⌜ now (s .exit) ≡ valueRun layout t dst 1 n (now (s .entry)) ⌝ }
+// A component's value in column x at ratio 1, where each cell is a pixel: no edge is met.
+fn value_one(layout: Layout, s: &[f32], t: Bands, x: usize) -> f32
+    requires { ⌜ (layout .rh ≡ 1) × (x + 1 < layout .cw) × (x < layout .w) ⌝ }
+    requires { ⌜ BandsInside t (3 * layout .w) (layout .cw) (length (now s)) ⌝ }
+    ensures { λ r. ⌜ r ≡ valueAt layout (now (s .entry)) t x ⌝ }
 {
     let cells = t.cells;
     let slopes = t.slopes;
     let lo = t.least;
     let hi = t.greatest;
-    let at = 2 * layout.w;
+    let c = resample::lerp(s[cells + x], s[cells + (x + 1)], 0.0);
+    let a = resample::lerp(s[slopes + x], s[slopes + (x + 1)], 0.0);
+    limited(c + a * s[2 * layout.w + x], s[lo + x], s[hi + x])
+}
+
+// Of n cells, from cell 1 on, at ratio 1.
+fn value_ones(layout: Layout, s: &mut [f32], t: Bands, dst: usize, n: usize)
+    requires { ⌜ Sound layout × BandsInside t (3 * layout .w) (layout .cw) (length (now s)) ⌝ }
+    requires { ⌜ (layout .rh ≡ 1) × (n + 2 ≤ layout .cw) × (1 + n ≤ layout .w) × (dst ≤ layout .w) ⌝ }
+    ensures { λ _. ⌜ now (s .exit) ≡ valueRun layout t dst 1 n (now (s .entry)) ⌝ }
+{
     let mut i = 0;
     while i < n {
-        let x = 1 + i;
-        let c = resample::lerp(s[cells + x], s[cells + (x + 1)], 0.0);
-        let a = resample::lerp(s[slopes + x], s[slopes + (x + 1)], 0.0);
-        s[dst + 1 + i] = limited(c + a * s[at + x], s[lo + x], s[hi + x]);
+        let v = value_one(layout, s, t, 1 + i);
+        s[dst + 1 + i] = v;
         i += 1;
     }
 }
