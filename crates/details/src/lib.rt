@@ -1,4 +1,5 @@
 // The rows of cells of a picture row, lerped down from the window, and its detail: luma less what its cells lerp to.
+mod blocks;
 mod columns;
 mod detail;
 mod pairs;

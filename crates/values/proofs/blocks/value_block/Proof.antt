@@ -1,12 +1,12 @@
 use mathlib.Core.Path.{refl}
 use Prim.Native.Nat.{_+_, _-_, _*_, _≤_}
 use native.Mathlib.Omega.{arith}
-use Rattle.values.proofs.pixels.value_block.Statement.{statement}
+use Rattle.values.proofs.blocks.value_block.Statement.{statement}
 use Rattle.laws.proofs.Lists.{Run, run-at, run-none, run-two}
 use Rattle.details.proofs.Twos.{block-at, pair-turn}
 use Rattle.values.proofs.Twos.{value-pair-at}
 use Rattle.values.specs.Values.{valueAt}
-use Rattle.values.proofs.pixels.value_block.Tie as tie
+use Rattle.values.proofs.blocks.value_block.Tie as tie
 
 abbrev Inv-loop : tie.InvT-loop
 Inv-loop layout s t i block₀ b₀ block b = (b ≤ 8) × Run block₀ block 0 (2 * b) (λ k. valueAt layout s t (2 + 2 * i + k))

@@ -2,14 +2,14 @@ use mathlib.Core.Path.{refl, _∙_}
 use Prim.Native.Nat.{_+_, _-_, _*_, _≤_}
 use native.Mathlib.Omega.{arith}
 use lib.ListN.{length-set}
-use Rattle.values.proofs.pixels.value_pairs.Statement.{statement}
+use Rattle.values.proofs.blocks.value_pairs.Statement.{statement}
 use Rattle.laws.proofs.Lists.{Run, run-after, run-end, run-none, run-two}
 use lib.Ieee.{nan}
 use Rattle.details.proofs.Twos.{pair-turn}
 use Rattle.values.proofs.Twos.{value-pair-at}
 use Rattle.values.proofs.Values.{value-same}
 use Rattle.values.specs.Values.{valueAt, valueRun}
-use Rattle.values.proofs.pixels.value_pairs.Tie as tie
+use Rattle.values.proofs.blocks.value_pairs.Tie as tie
 
 abbrev Inv-loop : tie.InvT-loop
 Inv-loop layout s₀ t dst from n i₀ s i = (i ≤ n) × Run s₀ s (dst + (2 + 2 * from)) (2 * i) (λ k. valueAt layout s₀ t (2 + 2 * from + k))

@@ -2,12 +2,12 @@ use mathlib.Core.Path.{_≡_, ap, _∙_}
 use Prim.Native.Nat.{ℕ, _+_, _-_, _*_, _/_}
 use native.Mathlib.Omega.{arith}
 use borrow.Author.Needs.{needs}
-use Rattle.values.proofs.pixels.value_twos.Statement.{statement}
+use Rattle.values.proofs.blocks.value_twos.Statement.{statement}
 use lib.Ieee.{Float}
 use mathlib.Core.List.{List}
 use Rattle.values.proofs.Twos.{value-chain}
 use Rattle.values.specs.Values.{valueRun}
-use Rattle.values.proofs.pixels.value_twos.Tie as tie
+use Rattle.values.proofs.blocks.value_twos.Tie as tie
 
 mul-m : tie.Need-mul-m
 mul-m c = search needs

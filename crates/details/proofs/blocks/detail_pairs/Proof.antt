@@ -1,5 +1,5 @@
 use native.Mathlib.Omega.{arith}
-use Rattle.details.proofs.detail.detail_pairs.Statement.{statement}
+use Rattle.details.proofs.blocks.detail_pairs.Statement.{statement}
 use Rattle.laws.proofs.Lists.{Run, run-after, run-end, run-none, run-two}
 use Prim.Native.Nat.{_*_, _+_, _-_, _≤_}
 use mathlib.Core.Path.{_∙_, refl}
@@ -7,7 +7,7 @@ use Rattle.details.proofs.Twos.{detail-pair-at, detail-same, pair-turn}
 use Rattle.details.specs.Pixels.{detailIn, detailRun}
 use lib.ListN.{length-set}
 use lib.Ieee.{nan}
-use Rattle.details.proofs.detail.detail_pairs.Tie as tie
+use Rattle.details.proofs.blocks.detail_pairs.Tie as tie
 
 abbrev Inv-loop : tie.InvT-loop
 Inv-loop layout plane stride y s₀ src dst from n i₀ s i = (i ≤ n) × Run s₀ s (dst + (2 + 2 * from)) (2 * i) (λ k. detailIn layout (record { bytes = plane; stride = stride }) y s₀ src (2 + 2 * from + k))

@@ -1,11 +1,11 @@
 use native.Mathlib.Omega.{arith}
-use Rattle.details.proofs.detail.detail_pair.Statement.{statement}
+use Rattle.details.proofs.blocks.detail_pair.Statement.{statement}
 use Prim.Native.Nat.{_*_, _+_}
 use Rattle.resample.specs.Rows.{cellAt}
 use Rattle.details.proofs.Lerps.{detail-is}
 use Rattle.details.proofs.Twos.{detail-pair-is, pair-left, pair-right}
 use mathlib.Core.Path.{refl}
-use Rattle.details.proofs.detail.detail_pair.Tie as tie
+use Rattle.details.proofs.blocks.detail_pair.Tie as tie
 
 pair-at-requires : tie.Need-pair-at-requires
 pair-at-requires c κs = omega arith

@@ -1,8 +1,8 @@
 use mathlib.Core.Path.{refl, _∙_}
 use borrow.Author.Needs.{needs}
-use Rattle.values.proofs.pixels.limited.Statement.{statement}
+use Rattle.values.proofs.bands.limited.Statement.{statement}
 use Rattle.laws.proofs.Differences.{limited}
-use Rattle.values.proofs.pixels.limited.Tie as tie
+use Rattle.values.proofs.bands.limited.Tie as tie
 
 fmax-requires : tie.Need-fmax-requires
 fmax-requires c κs = search needs

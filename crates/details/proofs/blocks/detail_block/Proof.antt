@@ -1,11 +1,11 @@
 use native.Mathlib.Omega.{arith}
-use Rattle.details.proofs.detail.detail_block.Statement.{statement}
+use Rattle.details.proofs.blocks.detail_block.Statement.{statement}
 use Rattle.laws.proofs.Lists.{Run, run-at, run-none, run-two}
 use Prim.Native.Nat.{_*_, _+_, _-_, _≤_}
 use Rattle.details.proofs.Twos.{block-at, detail-pair-at, pair-turn}
 use Rattle.details.specs.Pixels.{detailIn}
 use mathlib.Core.Path.{refl}
-use Rattle.details.proofs.detail.detail_block.Tie as tie
+use Rattle.details.proofs.blocks.detail_block.Tie as tie
 
 abbrev Inv-loop : tie.InvT-loop
 Inv-loop layout plane stride y s src i block₀ b₀ block b = (b ≤ 8) × Run block₀ block 0 (2 * b) (λ k. detailIn layout (record { bytes = plane; stride = stride }) y s src (2 + 2 * i + k))

@@ -2,13 +2,13 @@ use mathlib.Core.Path.{_≡_, _∙_}
 use Prim.Native.Nat.{ℕ, _+_, _-_, _*_, _≤_, _<_}
 use native.Mathlib.Omega.{arith}
 use lib.ListN.{getD}
-use Rattle.values.proofs.pixels.value_blocks.Statement.{statement}
+use Rattle.values.proofs.blocks.value_blocks.Statement.{statement}
 use Rattle.laws.proofs.Lists.{Run, run-after, run-end, run-none}
 use Rattle.details.proofs.Twos.{lanes-more}
 use lib.Ieee.{nan}
 use Rattle.values.proofs.Values.{value-same}
 use Rattle.values.specs.Values.{valueAt, valueRun}
-use Rattle.values.proofs.pixels.value_blocks.Tie as tie
+use Rattle.values.proofs.blocks.value_blocks.Tie as tie
 
 abbrev Inv-loop : tie.InvT-loop
 Inv-loop layout s₀ t dst n i₀ s i = (i ≤ n) × Run s₀ s (dst + 2) (16 * i) (λ k. valueAt layout s₀ t (2 + k))

@@ -2,10 +2,10 @@ use Rattle.resample.specs.Rows.{cellAt}
 use Rattle.guided.specs.Scratch.{detailAt}
 use native.Mathlib.Omega.{arith}
 use borrow.Author.Needs.{needs}
-use Rattle.values.proofs.pixels.value_pair.Statement.{statement}
+use Rattle.values.proofs.blocks.value_pair.Statement.{statement}
 use Rattle.values.proofs.Twos.{value-left, value-pair-is, value-right}
 use Rattle.values.specs.Values.{valueAt}
-use Rattle.values.proofs.pixels.value_pair.Tie as tie
+use Rattle.values.proofs.blocks.value_pair.Tie as tie
 
 pair-at-requires : tie.Need-pair-at-requires
 pair-at-requires c κs = search needs

@@ -2,12 +2,12 @@ use mathlib.Core.Path.{_≡_, ap, _∙_}
 use Prim.Native.Nat.{ℕ, _+_, _-_, _*_, _/_}
 use native.Mathlib.Omega.{arith}
 use borrow.Author.Needs.{needs}
-use Rattle.details.proofs.detail.detail_twos.Statement.{statement}
+use Rattle.details.proofs.blocks.detail_twos.Statement.{statement}
 use lib.Ieee.{Float}
 use mathlib.Core.List.{List}
 use Rattle.details.proofs.Twos.{detail-chain}
 use Rattle.details.specs.Pixels.{detailRun}
-use Rattle.details.proofs.detail.detail_twos.Tie as tie
+use Rattle.details.proofs.blocks.detail_twos.Tie as tie
 
 mul-m : tie.Need-mul-m
 mul-m c = search needs

@@ -2,12 +2,12 @@ use mathlib.Core.Path.{_≡_, _∙_}
 use Prim.Native.Nat.{ℕ, _+_, _-_, _*_, _≤_, _<_}
 use native.Mathlib.Omega.{arith}
 use lib.ListN.{getD}
-use Rattle.details.proofs.detail.detail_blocks.Statement.{statement}
+use Rattle.details.proofs.blocks.detail_blocks.Statement.{statement}
 use Rattle.laws.proofs.Lists.{Run, run-after, run-end, run-none}
 use Rattle.details.proofs.Twos.{detail-same, lanes-more}
 use Rattle.details.specs.Pixels.{detailIn, detailRun}
 use lib.Ieee.{nan}
-use Rattle.details.proofs.detail.detail_blocks.Tie as tie
+use Rattle.details.proofs.blocks.detail_blocks.Tie as tie
 
 abbrev Inv-loop : tie.InvT-loop
 Inv-loop layout plane stride y s₀ src dst n i₀ s i = (i ≤ n) × Run s₀ s (dst + 2) (16 * i) (λ k. detailIn layout (record { bytes = plane; stride = stride }) y s₀ src (2 + k))
