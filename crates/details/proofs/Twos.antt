@@ -10,14 +10,16 @@ use Rattle.laws.specs.Floats.{f32, _⊖_}
 use Rattle.laws.specs.Lists.{put}
 use Rattle.laws.proofs.Lists.{put-same, put-after, put-chain, Run, run-inside, run-run}
 use Rattle.image.specs.declared.layout.Layout.{Layout}
-use Rattle.image.specs.Tests.{Sound, divCeil}
+use Rattle.image.specs.Tests.{Sound}
 use Rattle.image.specs.Samples.{Plane, sampleAt}
 use Rattle.resample.specs.Rows.{cellAt}
 use Rattle.resample.specs.Taps.{lerpOf, fractionOf, phaseOf}
 use Rattle.guided.specs.Guided.{acrossTo, detailOf}
 use Rattle.details.specs.declared.pairs.Pair.{Pair}
 use Rattle.details.specs.Pixels.{pairOf, detailRun, detailIn, detailPair}
-use Rattle.details.proofs.Lerps.{none-plus, across-same}
+use Rattle.details.proofs.Lerps.{across-same}
+use Rattle.details.proofs.Phases.{Runs}
+use Rattle.laws.proofs.Fractions.{chain}
 
 -- the pixels of cell i + 1
 pub pair-is : (g : ℕ → Float) (i : ℕ) (u v : Float) → u ≡ lerpOf (g i) (g (i + 1)) (fractionOf 3 4) → v ≡ lerpOf (g (i + 1)) (g (i + 2)) (fractionOf 1 4) → record { left = u; right = v } ≡ pairOf g i
@@ -60,14 +62,6 @@ lanes-more {xs} {ys} {at} n F r zs block e h =
     place : (k : ℕ) → 2 + 2 * (8 * n) + k ≡ 2 + (16 * n + k)
     place k = omega arith
 
--- the cells but the first and the last have both pixels inside the picture
-pub pairs-inside : (l : Layout) → Sound l → l .rh ≡ 2 → 2 ≤ l .cw → 2 + 2 * (l .cw - 2) ≤ l .w
-unfolding divCeil
-pairs-inside l o e h = half (l .w) (l .cw) (o .cw-is ∙ ap (λ (r : ℕ). (l .w + (r - 1)) / r) e) h
-  where
-    half : (w c : ℕ) → c ≡ (w + (2 - 1)) / 2 → 2 ≤ c → 2 + 2 * (c - 2) ≤ w
-    half w c q k = omega arith
-
 -- m values from `from` on and then k more are one run, where a value looks only at what lies from `low` on
 pub row-chain : (F : List Float → ℕ → Float) (low dst from m k : ℕ) (s : List Float) → dst + from + m ≤ low
     → ((xs ys : List Float) → ((q : ℕ) → low ≤ q → getD ys q nan ≡ getD xs q nan) → (i : ℕ) → i < from + m + k → F ys i ≡ F xs i)
@@ -82,9 +76,6 @@ row-chain F low dst from m k s h keeps =
     place : (a b c : ℕ) → a + (b + c) ≡ a + b + c
     place a b c = omega arith
 
-pub whole : (a n : ℕ) → a ≤ n → a + (n - a) ≡ n
-whole a n h = omega arith
-
 -- ---- the detail
 
 module _ (l : Layout) (o : Sound l) (p : Plane) (y src dst : ℕ) (h : dst + l .w ≤ src) where
@@ -98,14 +89,9 @@ module _ (l : Layout) (o : Sound l) (p : Plane) (y src dst : ℕ) (h : dst + l .
   detail-chain from m k s q =
       row-chain (λ s x. detailIn l p y s src x) src dst from m k s (omega arith) (λ xs ys e i r. detail-same xs ys i (omega arith) e)
 
-  -- a row: the first cell's pixels, pairs, and the rest
-  pub detail-parts : (m : ℕ) (s : List Float) → 2 + m ≤ l .w → detailRun l p y src dst (2 + m) (l .w - (2 + m)) (detailRun l p y src dst 2 m (detailRun l p y src dst 0 2 s)) ≡ detailRun l p y src dst 0 (l .w) s
-  detail-parts m s q =
-      let run : ℕ → ℕ → List Float → List Float = detailRun l p y src dst in
-      ap (run (2 + m) (l .w - (2 + m))) (detail-chain 0 2 m s (omega arith))
-      ∙ ap (λ (f : ℕ). run f (l .w - (2 + m)) (run 0 (2 + m) s)) (sym (none-plus (2 + m)))
-      ∙ detail-chain 0 (2 + m) (l .w - (2 + m)) s (omega arith)
-      ∙ ap (λ (k : ℕ). run 0 k s) (whole (2 + m) (l .w) q)
+  pub detail-runs : Runs (detailRun l p y src dst) (l .w)
+  unfolding detailRun put
+  detail-runs = record { none = λ from s. refl; chain = detail-chain }
 
 -- ---- a pair's detail
 

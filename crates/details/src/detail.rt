@@ -1,19 +1,18 @@
 // The detail of a picture row: luma less what its cells lerp to.
 ghost use mathlib.Core.Path.{_≡_};
-ghost use Prim.Native.Nat.{ℕ, _+_, _*_, _≤_, _<_};
-ghost use lib.Ieee.{nan};
-ghost use lib.ListN.{length, getD};
+ghost use Prim.Native.Nat.{_+_, _*_, _≤_, _<_};
+ghost use lib.ListN.{length};
 ghost use Rattle.resample.specs.Linear.{scratchNeed};
+ghost use Rattle.guided.specs.Calls.{phasesOf};
 ghost use Rattle.sums.specs.Luma.{Cells};
-ghost use Rattle.details.specs.Pixels.{detailIn, detailPair, detailRun, detailLine};
+ghost use Rattle.details.specs.Pixels.{detailRun, detailLine};
+use super::blocks::detail_twos;
 use super::columns::column_at;
-use super::pairs::Lanes;
-use super::pairs::Pair;
 use super::pairs::across_pixel;
-use super::pairs::pair_at;
-use super::pairs::put_block;
+use super::pairs::cell_at;
 use extremes::sample_at;
 use image::Layout;
+use resample::Phase;
 
 // The detail of n columns of row y, from column `from` on: luma less the cells at src lerped across.
 fn detail_run(
@@ -42,54 +41,37 @@ fn detail_run(
     }
 }
 
-// The detail of the pixels of cell i + 1 at ratio 2: no phase and no edge is looked at.
-fn detail_pair(
+// The detail of the pixels of cell i: no edge is met.
+fn detail_cell(
     layout: Layout,
     plane: &[u8],
     stride: usize,
     y: usize,
-    s: &[f32],
+    phases: [Phase; 4],
+    s: &mut [f32],
     src: usize,
+    dst: usize,
     i: usize,
-) -> Pair
-    requires { ⌜ Cells layout (record { bytes = now plane; stride = stride }) × (y < layout .h) × (layout .rh ≡ 2) × (i + 3 ≤ layout .cw) × (2 * i + 4 ≤ layout .w) ⌝ }
-    requires { ⌜ src + layout .cw ≤ length (now s) ⌝ }
-    ensures { λ r. ⌜ r ≡ detailPair layout (record { bytes = now (plane .entry); stride = stride }) y (now (s .entry)) src i ⌝ }
+)
+    requires { ⌜ Cells layout (record { bytes = now plane; stride = stride }) × (y < layout .h) × (phases ≡ phasesOf (layout .rh)) ⌝ }
+    requires { ⌜ (0 < i) × (i + 1 < layout .cw) × (i * layout .rh + layout .rh ≤ layout .w) ⌝ }
+    requires { ⌜ (dst + layout .w ≤ src) × (src + layout .cw ≤ length (now s)) ⌝ }
+    ensures { λ _. ⌜ now (s .exit) ≡ detailRun layout (record { bytes = now (plane .entry); stride = stride }) y src dst (i * layout .rh) (layout .rh) (now (s .entry)) ⌝ }
 {
     let w = layout.w;
     let h = layout.h;
-    let p = pair_at(s, src, i);
-    Pair {
-        left: sample_at(layout, plane, stride, w, h, 2 + 2 * i, y) - p.left,
-        right: sample_at(layout, plane, stride, w, h, 2 + (2 * i + 1), y) - p.right,
+    let rh = layout.rh;
+    let x = i * rh;
+    let v = cell_at(layout, s, src, phases, i);
+    let mut k = 0;
+    while k < rh {
+        s[dst + x + k] = sample_at(layout, plane, stride, w, h, x + k, y) - v[k];
+        k += 1;
     }
 }
 
-// Of the pixels of eight cells, from cell i + 1 on.
-fn detail_block(
-    layout: Layout,
-    plane: &[u8],
-    stride: usize,
-    y: usize,
-    s: &[f32],
-    src: usize,
-    i: usize,
-) -> [f32; Lanes::PIXELS]
-    requires { ⌜ Cells layout (record { bytes = now plane; stride = stride }) × (y < layout .h) × (layout .rh ≡ 2) × (i + 10 ≤ layout .cw) × (2 * i + 18 ≤ layout .w) ⌝ }
-    requires { ⌜ src + layout .cw ≤ length (now s) ⌝ }
-    ensures { λ r. ⌜ ((k : ℕ) → k < 16 → getD r k nan ≡ detailIn layout (record { bytes = now (plane .entry); stride = stride }) y (now (s .entry)) src (2 + 2 * i + k)) ⌝ }
-{
-    let mut block = [0.0f32; Lanes::PIXELS];
-    for b in 0..Lanes::CELLS {
-        let p = detail_pair(layout, plane, stride, y, s, src, i + b);
-        block[2 * b] = p.left;
-        block[2 * b + 1] = p.right;
-    }
-    block
-}
-
-// Of n such blocks, from cell 1 on.
-fn detail_blocks(
+// Of n cells, from cell 1 on.
+fn detail_each(
     layout: Layout,
     plane: &[u8],
     stride: usize,
@@ -99,20 +81,20 @@ fn detail_blocks(
     dst: usize,
     n: usize,
 )
-    requires { ⌜ Cells layout (record { bytes = now plane; stride = stride }) × (y < layout .h) × (layout .rh ≡ 2) × (8 * n + 2 ≤ layout .cw) × (16 * n + 2 ≤ layout .w) ⌝ }
+    requires { ⌜ Cells layout (record { bytes = now plane; stride = stride }) × (y < layout .h) × (n + 2 ≤ layout .cw) × (layout .rh + n * layout .rh ≤ layout .w) ⌝ }
     requires { ⌜ (dst + layout .w ≤ src) × (src + layout .cw ≤ length (now s)) ⌝ }
-    ensures { λ _. ⌜ now (s .exit) ≡ detailRun layout (record { bytes = now (plane .entry); stride = stride }) y src dst 2 (16 * n) (now (s .entry)) ⌝ }
+    ensures { λ _. ⌜ now (s .exit) ≡ detailRun layout (record { bytes = now (plane .entry); stride = stride }) y src dst (layout .rh) (n * layout .rh) (now (s .entry)) ⌝ }
 {
+    let phases = state::phases_of(layout.rh);
     let mut i = 0;
     while i < n {
-        let block = detail_block(layout, plane, stride, y, s, src, 8 * i);
-        put_block(s, dst + 2 + 16 * i, block);
+        detail_cell(layout, plane, stride, y, phases, s, src, dst, i + 1);
         i += 1;
     }
 }
 
-// Of n cells, from cell `from` + 1 on.
-fn detail_pairs(
+// Of n cells, from cell 1 on, at ratio 1, where each is a pixel.
+fn detail_ones(
     layout: Layout,
     plane: &[u8],
     stride: usize,
@@ -120,23 +102,24 @@ fn detail_pairs(
     s: &mut [f32],
     src: usize,
     dst: usize,
-    from: usize,
     n: usize,
 )
-    requires { ⌜ Cells layout (record { bytes = now plane; stride = stride }) × (y < layout .h) × (layout .rh ≡ 2) × (from + n + 2 ≤ layout .cw) × (2 * (from + n) + 2 ≤ layout .w) ⌝ }
+    requires { ⌜ Cells layout (record { bytes = now plane; stride = stride }) × (y < layout .h) × (layout .rh ≡ 1) × (n + 2 ≤ layout .cw) × (1 + n ≤ layout .w) ⌝ }
     requires { ⌜ (dst + layout .w ≤ src) × (src + layout .cw ≤ length (now s)) ⌝ }
-    ensures { λ _. ⌜ now (s .exit) ≡ detailRun layout (record { bytes = now (plane .entry); stride = stride }) y src dst (2 + 2 * from) (2 * n) (now (s .entry)) ⌝ }
+    ensures { λ _. ⌜ now (s .exit) ≡ detailRun layout (record { bytes = now (plane .entry); stride = stride }) y src dst 1 n (now (s .entry)) ⌝ }
 {
+    let w = layout.w;
+    let h = layout.h;
     let mut i = 0;
     while i < n {
-        let p = detail_pair(layout, plane, stride, y, s, src, from + i);
-        s[dst + (2 + 2 * from) + 2 * i] = p.left;
-        s[dst + (2 + 2 * from) + 2 * i + 1] = p.right;
+        let x = 1 + i;
+        let v = resample::lerp(s[src + x], s[src + (x + 1)], 0.0);
+        s[dst + 1 + i] = sample_at(layout, plane, stride, w, h, x, y) - v;
         i += 1;
     }
 }
 
-// Of the n cells between the first and the last: blocks, then pairs.
+// Of n cells, from cell 1 on: a loop for each ratio.
 fn detail_inner(
     layout: Layout,
     plane: &[u8],
@@ -147,18 +130,23 @@ fn detail_inner(
     dst: usize,
     n: usize,
 )
-    requires { ⌜ Cells layout (record { bytes = now plane; stride = stride }) × (y < layout .h) × (layout .rh ≡ 2) × (n + 2 ≤ layout .cw) × (2 + 2 * n ≤ layout .w) ⌝ }
+    requires { ⌜ Cells layout (record { bytes = now plane; stride = stride }) × (y < layout .h) × (n + 2 ≤ layout .cw) × (layout .rh + n * layout .rh ≤ layout .w) ⌝ }
     requires { ⌜ (dst + layout .w ≤ src) × (src + layout .cw ≤ length (now s)) ⌝ }
-    ensures { λ _. ⌜ now (s .exit) ≡ detailRun layout (record { bytes = now (plane .entry); stride = stride }) y src dst 2 (2 * n) (now (s .entry)) ⌝ }
+    ensures { λ _. ⌜ now (s .exit) ≡ detailRun layout (record { bytes = now (plane .entry); stride = stride }) y src dst (layout .rh) (n * layout .rh) (now (s .entry)) ⌝ }
 {
-    let k = n / Lanes::CELLS;
-    let m = 8 * k;
-    detail_blocks(layout, plane, stride, y, s, src, dst, k);
-    detail_pairs(layout, plane, stride, y, s, src, dst, m, n - m);
+    if layout.rh == 1 {
+        detail_ones(layout, plane, stride, y, s, src, dst, n);
+        return;
+    }
+    if layout.rh == 2 {
+        detail_twos(layout, plane, stride, y, s, src, dst, n);
+        return;
+    }
+    detail_each(layout, plane, stride, y, s, src, dst, n);
 }
 
-// The detail of a row at ratio 2: edge, pairs, edge.
-fn detail_twos(
+// Of all cells: the first, the inner ones, and the last with its pixels inside the picture.
+fn detail_cells(
     layout: Layout,
     plane: &[u8],
     stride: usize,
@@ -167,20 +155,21 @@ fn detail_twos(
     src: usize,
     dst: usize,
 )
-    requires { ⌜ Cells layout (record { bytes = now plane; stride = stride }) × (y < layout .h) × (layout .rh ≡ 2) ⌝ }
+    requires { ⌜ Cells layout (record { bytes = now plane; stride = stride }) × (y < layout .h) ⌝ }
     requires { ⌜ (dst + layout .w ≤ src) × (src + layout .cw ≤ length (now s)) ⌝ }
     ensures { λ _. ⌜ now (s .exit) ≡ detailRun layout (record { bytes = now (plane .entry); stride = stride }) y src dst 0 (layout .w) (now (s .entry)) ⌝ }
 {
     let w = layout.w;
+    let rh = layout.rh;
     if layout.cw < 2 {
         detail_run(layout, plane, stride, y, s, src, dst, 0, w);
         return;
     }
     let n = layout.cw - 2;
-    let m = 2 * n;
-    detail_run(layout, plane, stride, y, s, src, dst, 0, 2);
+    let m = rh + n * rh;
+    detail_run(layout, plane, stride, y, s, src, dst, 0, rh);
     detail_inner(layout, plane, stride, y, s, src, dst, n);
-    detail_run(layout, plane, stride, y, s, src, dst, 2 + m, w - (2 + m));
+    detail_run(layout, plane, stride, y, s, src, dst, m, w - m);
 }
 
 // Inner: the detail of row y, from luma's row of cells.
@@ -189,11 +178,6 @@ pub fn detail_row(layout: Layout, plane: &[u8], stride: usize, y: usize, s: &mut
     ensures { λ _. ⌜ now (s .exit) ≡ detailLine layout (record { bytes = now (plane .entry); stride = stride }) y (now (s .entry)) ⌝ }
 {
     let src = column_at(layout, 0);
-    let w = layout.w;
-    let dst = 2 * w;
-    if layout.rh != 2 {
-        detail_run(layout, plane, stride, y, s, src, dst, 0, w);
-        return;
-    }
-    detail_twos(layout, plane, stride, y, s, src, dst);
+    let dst = 2 * layout.w;
+    detail_cells(layout, plane, stride, y, s, src, dst);
 }

@@ -1,4 +1,5 @@
 // The rows of cells of a picture row, lerped down from the window, and its detail: luma less what its cells lerp to.
+mod blocks;
 mod columns;
 mod detail;
 mod pairs;
@@ -9,5 +10,6 @@ pub use detail::detail_row;
 pub use pairs::Lanes;
 pub use pairs::Pair;
 pub use pairs::across_pixel;
+pub use pairs::cell_at;
 pub use pairs::pair_at;
 pub use pairs::put_block;

@@ -1,12 +1,14 @@
-// Cells lerped across: by any phase, and by pairs of pixels at ratio 2.
+// Cells lerped across: by any phase, by all phases of a cell, and by pairs of pixels at ratio 2.
 ghost use mathlib.Core.Path.{_≡_};
-ghost use Prim.Native.Nat.{_+_, _≤_, _<_};
+ghost use mathlib.Core.Bool.{cond};
+ghost use Prim.Native.Nat.{ℕ, _+_, _-_, _*_, _≤_, _<_};
 ghost use lib.Ieee.{nan};
 ghost use lib.ListN.{length, getD};
 ghost use Rattle.laws.specs.Lists.{put};
 ghost use Rattle.image.specs.Tests.{Sound};
 ghost use Rattle.resample.specs.Rows.{cellAt};
 ghost use Rattle.guided.specs.Guided.{acrossTo};
+ghost use Rattle.guided.specs.Calls.{phasesOf};
 ghost use Rattle.details.specs.Pixels.{phased, pairOf};
 use image::Layout;
 use resample::Phase;
@@ -31,6 +33,39 @@ pub fn across_pixel(layout: Layout, s: &[f32], src: usize, x: usize) -> f32
 {
     let p = resample::phase_of(layout.rh, x % layout.rh);
     across_at(s, src, layout.cw, p, x / layout.rh)
+}
+
+// The first of the two cells that a phase of cell i lies between, where no edge is met.
+fn start_of(p: Phase, i: usize) -> usize
+    requires { ⌜ 0 < i ⌝ }
+    ensures { λ r. ⌜ (r ≡ cond (p .left) (i - 1) i) × (r ≤ i) ⌝ }
+{
+    if p.left {
+        return i - 1;
+    }
+    i
+}
+
+// Cell i of the cells at src, lerped across by a phase: no edge is met.
+fn between(s: &[f32], src: usize, p: Phase, i: usize) -> f32
+    requires { ⌜ (0 < i) × (src + i + 2 ≤ length (now s)) ⌝ }
+    ensures { λ r. ⌜ ((n : ℕ) → i + 1 < n → r ≡ phased (cellAt (now (s .entry)) src) n p i) ⌝ }
+{
+    let a = start_of(p, i);
+    resample::lerp(s[src + a], s[src + (a + 1)], p.f)
+}
+
+// Inner: cell i of the cells at src, lerped across in each of its pixels: no edge is met. What stands past the ratio is no pixel's.
+pub fn cell_at(layout: Layout, s: &[f32], src: usize, phases: [Phase; 4], i: usize) -> [f32; 4]
+    requires { ⌜ (phases ≡ phasesOf (layout .rh)) × (layout .rh ≤ 4) × (0 < i) × (i + 1 < layout .cw) × (src + layout .cw ≤ length (now s)) ⌝ }
+    ensures { λ r. ⌜ ((k : ℕ) → k < layout .rh → getD r k nan ≡ acrossTo layout (cellAt (now (s .entry)) src) (i * layout .rh + k)) ⌝ }
+{
+    [
+        between(s, src, phases[0], i),
+        between(s, src, phases[1], i),
+        between(s, src, phases[2], i),
+        between(s, src, phases[3], i),
+    ]
 }
 
 pub struct Lanes;

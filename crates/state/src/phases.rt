@@ -20,7 +20,8 @@ fn phase_at(r: usize, k: usize) -> Phase
     resample::phase_of(r, k)
 }
 
-fn phases_of(r: usize) -> [Phase; 4]
+// Inner: the four phases of a ratio.
+pub fn phases_of(r: usize) -> [Phase; 4]
     requires { ⌜ r ≤ 4 ⌝ }
     ensures { λ p. ⌜ p ≡ phasesOf r ⌝ }
 {

@@ -1,7 +1,7 @@
 -- A component's values at ratio 2, and rows of them in parts.
-use mathlib.Core.Path.{_≡_, refl, sym, ap, _∙_}
+use mathlib.Core.Path.{_≡_, refl, ap, _∙_}
 use mathlib.Core.List.{List}
-use Prim.Native.Nat.{ℕ, _+_, _-_, _*_, _/_, _≤_, _<_}
+use Prim.Native.Nat.{ℕ, _+_, _*_, _/_, _≤_, _<_}
 use native.Mathlib.Omega.{arith}
 use lib.Ieee.{Float}
 use Rattle.laws.specs.Floats.{_⊕_, _⊗_}
@@ -12,10 +12,11 @@ use Rattle.values.specs.declared.bands.Bands.{Bands}
 use Rattle.details.specs.declared.pairs.Pair.{Pair}
 use Rattle.fround.specs.Rounding.{fmin, fmax}
 use Rattle.details.specs.Pixels.{pairOf}
-use Rattle.details.proofs.Lerps.{none-plus}
-use Rattle.details.proofs.Twos.{pair-left, pair-right, row-chain, whole}
+use Rattle.details.proofs.Twos.{pair-left, pair-right, row-chain}
 use Rattle.values.specs.Values.{BandsInside, valueAt, valuePair, valueRun}
 use Rattle.values.proofs.Values.{value-same}
+use Rattle.details.proofs.Phases.{Runs}
+use Rattle.laws.specs.Lists.{put}
 
 module _ (l : Layout) (gc ga lo hi : ℕ → Float) (d : Float) (i : ℕ) (c a : Pair) (v : Float) (e : l .rh ≡ 2) (p : c ≡ pairOf gc i) (q : a ≡ pairOf ga i) where
   pub value-left : v ≡ fmin (fmax (c .left ⊕ a .left ⊗ d) (lo (i + 1))) (hi (i + 1)) → v ≡ valueOf l gc ga lo hi d (2 + 2 * i)
@@ -43,10 +44,6 @@ module _ (l : Layout) (o : Sound l) (t : Bands) (len dst : ℕ) (b : BandsInside
   unfolding valueRun
   value-chain from m k s q = row-chain (λ s x. valueAt l s t x) (2 * l .w) dst from m k s (omega arith) (λ xs ys e i r. value-same l o t xs ys len i b (omega arith) e)
 
-  pub value-parts : (m : ℕ) (s : List Float) → 2 + m ≤ l .w → valueRun l t dst (2 + m) (l .w - (2 + m)) (valueRun l t dst 2 m (valueRun l t dst 0 2 s)) ≡ valueRun l t dst 0 (l .w) s
-  value-parts m s q =
-      let run : ℕ → ℕ → List Float → List Float = valueRun l t dst in
-      ap (run (2 + m) (l .w - (2 + m))) (value-chain 0 2 m s (omega arith))
-      ∙ ap (λ (f : ℕ). run f (l .w - (2 + m)) (run 0 (2 + m) s)) (sym (none-plus (2 + m)))
-      ∙ value-chain 0 (2 + m) (l .w - (2 + m)) s (omega arith)
-      ∙ ap (λ (k : ℕ). run 0 k s) (whole (2 + m) (l .w) q)
+  pub value-runs : Runs (valueRun l t dst) (l .w)
+  unfolding valueRun put
+  value-runs = record { none = λ from s. refl; chain = value-chain }

@@ -24,9 +24,9 @@ use Rattle.laws.proofs.Counts.{none-plus, plus-none}
 use Rattle.values.specs.Values.{Band, BandsInside, bandsOf, valueAt, valueRow, valueRun}
 
 -- a value from its parts
-pub value-is : (l : Layout) (gc ga lo hi : ℕ → Float) (d : Float) (x : ℕ) (u v r e : Float) → u ≡ acrossTo l gc x → v ≡ acrossTo l ga x → r ≡ fmax (u ⊕ v ⊗ d) (lo (x / l .rh)) → e ≡ fmin r (hi (x / l .rh)) → e ≡ valueOf l gc ga lo hi d x
+pub value-is : (l : Layout) (gc ga lo hi : ℕ → Float) (d : Float) (x : ℕ) (u v r : Float) → u ≡ acrossTo l gc x → v ≡ acrossTo l ga x → r ≡ fmin (fmax (u ⊕ v ⊗ d) (lo (x / l .rh))) (hi (x / l .rh)) → r ≡ valueOf l gc ga lo hi d x
 unfolding valueOf
-value-is l gc ga lo hi d x u v r e p q m n = n ∙ rw (m, p, q) refl
+value-is l gc ga lo hi d x u v r p q e = e ∙ rw (p, q) refl
 
 -- what is written before the detail leaves the values
 pub value-same : (l : Layout) → Sound l → (t : Bands) (xs ys : List Float) (len x : ℕ) → BandsInside t (3 * l .w) (l .cw) len → x < l .w → ((k : ℕ) → 2 * l .w ≤ k → getD ys k nan ≡ getD xs k nan) → valueAt l ys t x ≡ valueAt l xs t x

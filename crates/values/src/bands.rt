@@ -1,7 +1,8 @@
-// Where a component's rows of cells and its finished row lie in scratch.
+// Where a component's rows of cells and its finished row lie in scratch, and how a value is kept between two of them.
 ghost use mathlib.Core.Path.{_≡_};
 ghost use Prim.Native.Nat.{_≤_};
 ghost use Rattle.image.specs.Tests.{Sound};
+ghost use Rattle.fround.specs.Rounding.{fmin, fmax};
 ghost use Rattle.guided.specs.Scratch.{finishedAt, columnOf};
 ghost use Rattle.sums.specs.Slopes.{chromaOf};
 ghost use Rattle.values.specs.Values.{bandsOf};
@@ -44,4 +45,11 @@ pub fn bands_of(layout: Layout, cr: bool) -> Bands
         least: details::column_at(layout, m + 2),
         greatest: details::column_at(layout, m + 3),
     }
+}
+
+// A value raised to the least and lowered to the greatest.
+pub fn limited(v: f32, least: f32, greatest: f32) -> f32
+    ensures { λ r. ⌜ r ≡ fmin (fmax v least) greatest ⌝ }
+{
+    fround::fmin(fround::fmax(v, least), greatest)
 }

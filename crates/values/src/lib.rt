@@ -1,5 +1,6 @@
 // A picture row of luma-guided reconstruction from the window's rows: the original's GuidedRows::row.
 mod bands;
+mod blocks;
 mod pixels;
 mod row;
 

@@ -1,22 +1,21 @@
 // A component's values in the pixels of a picture row, from its rows of cells and the detail.
 ghost use mathlib.Core.Path.{_≡_};
-ghost use Prim.Native.Nat.{ℕ, _+_, _*_, _≤_, _<_};
-ghost use lib.Ieee.{nan};
-ghost use lib.ListN.{length, getD};
+ghost use Prim.Native.Nat.{_+_, _*_, _≤_, _<_};
+ghost use lib.ListN.{length};
 ghost use Rattle.image.specs.Tests.{Sound};
-ghost use Rattle.fround.specs.Rounding.{fmin, fmax};
 ghost use Rattle.resample.specs.Linear.{scratchNeed};
+ghost use Rattle.guided.specs.Calls.{phasesOf};
 ghost use Rattle.sums.specs.Slopes.{chromaOf};
-ghost use Rattle.values.specs.Values.{BandsInside, valueAt, valuePair, valueRun, valueRow};
+ghost use Rattle.values.specs.Values.{BandsInside, valueAt, valueRun, valueRow};
 use super::bands::Bands;
 use super::bands::bands_of;
 use super::bands::finished_at;
-use details::Lanes;
-use details::Pair;
+use super::bands::limited;
+use super::blocks::value_twos;
 use details::across_pixel;
-use details::pair_at;
-use details::put_block;
+use details::cell_at;
 use image::Layout;
+use resample::Phase;
 
 // A component's value in column x: its cells and slopes lerped across, the detail between them, raised to the least and lowered to the greatest of its cell.
 fn value_at(layout: Layout, s: &[f32], t: Bands, x: usize) -> f32
@@ -29,7 +28,7 @@ fn value_at(layout: Layout, s: &[f32], t: Bands, x: usize) -> f32
     let lo = t.least;
     let hi = t.greatest;
     let d = s[2 * layout.w + x];
-    fround::fmin(fround::fmax(c + a * d, s[lo + i]), s[hi + i])
+    limited(c + a * d, s[lo + i], s[hi + i])
 }
 
 // A component's values in n columns, from column `from` on.
@@ -46,106 +45,105 @@ fn value_run(layout: Layout, s: &mut [f32], t: Bands, dst: usize, from: usize, n
     }
 }
 
-// A value raised to the least and lowered to the greatest.
-fn limited(v: f32, least: f32, greatest: f32) -> f32
-    ensures { λ r. ⌜ r ≡ fmin (fmax v least) greatest ⌝ }
+// A component's values in the pixels of cell i: no edge is met.
+fn value_cell(layout: Layout, phases: [Phase; 4], s: &mut [f32], t: Bands, dst: usize, i: usize)
+    requires { ⌜ Sound layout × BandsInside t (3 * layout .w) (layout .cw) (length (now s)) ⌝ }
+    requires { ⌜ (phases ≡ phasesOf (layout .rh)) × (0 < i) × (i + 1 < layout .cw) × (i * layout .rh + layout .rh ≤ layout .w) × (dst ≤ layout .w) ⌝ }
+    ensures { λ _. ⌜ now (s .exit) ≡ valueRun layout t dst (i * layout .rh) (layout .rh) (now (s .entry)) ⌝ }
 {
-    fround::fmin(fround::fmax(v, least), greatest)
-}
-
-// A component's values in the pixels of cell i + 1 at ratio 2: no edge is met.
-fn value_pair(layout: Layout, s: &[f32], t: Bands, i: usize) -> Pair
-    requires { ⌜ (layout .rh ≡ 2) × (i + 3 ≤ layout .cw) × (2 * i + 4 ≤ layout .w) ⌝ }
-    requires { ⌜ BandsInside t (3 * layout .w) (layout .cw) (length (now s)) ⌝ }
-    ensures { λ p. ⌜ p ≡ valuePair layout (now (s .entry)) t i ⌝ }
-{
-    let c = pair_at(s, t.cells, i);
-    let a = pair_at(s, t.slopes, i);
+    let c = cell_at(layout, s, t.cells, phases, i);
+    let a = cell_at(layout, s, t.slopes, phases, i);
     let lo = t.least;
     let hi = t.greatest;
+    let least = s[lo + i];
+    let greatest = s[hi + i];
     let at = 2 * layout.w;
-    let least = s[lo + (i + 1)];
-    let greatest = s[hi + (i + 1)];
-    let d = s[at + (2 + 2 * i)];
-    let e = s[at + (2 + (2 * i + 1))];
-    Pair {
-        left: limited(c.left + a.left * d, least, greatest),
-        right: limited(c.right + a.right * e, least, greatest),
+    let rh = layout.rh;
+    let x = i * rh;
+    let mut k = 0;
+    while k < rh {
+        s[dst + x + k] = limited(c[k] + a[k] * s[at + (x + k)], least, greatest);
+        k += 1;
     }
 }
 
-// Of the pixels of eight cells, from cell i + 1 on.
-fn value_block(layout: Layout, s: &[f32], t: Bands, i: usize) -> [f32; Lanes::PIXELS]
-    requires { ⌜ (layout .rh ≡ 2) × (i + 10 ≤ layout .cw) × (2 * i + 18 ≤ layout .w) ⌝ }
+// Of n cells, from cell 1 on.
+fn value_each(layout: Layout, s: &mut [f32], t: Bands, dst: usize, n: usize)
+    requires { ⌜ Sound layout × BandsInside t (3 * layout .w) (layout .cw) (length (now s)) ⌝ }
+    requires { ⌜ (n + 2 ≤ layout .cw) × (layout .rh + n * layout .rh ≤ layout .w) × (dst ≤ layout .w) ⌝ }
+    ensures { λ _. ⌜ now (s .exit) ≡ valueRun layout t dst (layout .rh) (n * layout .rh) (now (s .entry)) ⌝ }
+{
+    let phases = state::phases_of(layout.rh);
+    let mut i = 0;
+    while i < n {
+        value_cell(layout, phases, s, t, dst, i + 1);
+        i += 1;
+    }
+}
+
+// A component's value in column x at ratio 1, where each cell is a pixel: no edge is met.
+fn value_one(layout: Layout, s: &[f32], t: Bands, x: usize) -> f32
+    requires { ⌜ (layout .rh ≡ 1) × (x + 1 < layout .cw) × (x < layout .w) ⌝ }
     requires { ⌜ BandsInside t (3 * layout .w) (layout .cw) (length (now s)) ⌝ }
-    ensures { λ r. ⌜ ((k : ℕ) → k < 16 → getD r k nan ≡ valueAt layout (now (s .entry)) t (2 + 2 * i + k)) ⌝ }
+    ensures { λ r. ⌜ r ≡ valueAt layout (now (s .entry)) t x ⌝ }
 {
-    let mut block = [0.0f32; Lanes::PIXELS];
-    for b in 0..Lanes::CELLS {
-        let p = value_pair(layout, s, t, i + b);
-        block[2 * b] = p.left;
-        block[2 * b + 1] = p.right;
-    }
-    block
+    let cells = t.cells;
+    let slopes = t.slopes;
+    let lo = t.least;
+    let hi = t.greatest;
+    let c = resample::lerp(s[cells + x], s[cells + (x + 1)], 0.0);
+    let a = resample::lerp(s[slopes + x], s[slopes + (x + 1)], 0.0);
+    limited(c + a * s[2 * layout.w + x], s[lo + x], s[hi + x])
 }
 
-// Of n such blocks, from cell 1 on.
-fn value_blocks(layout: Layout, s: &mut [f32], t: Bands, dst: usize, n: usize)
+// Of n cells, from cell 1 on, at ratio 1.
+fn value_ones(layout: Layout, s: &mut [f32], t: Bands, dst: usize, n: usize)
     requires { ⌜ Sound layout × BandsInside t (3 * layout .w) (layout .cw) (length (now s)) ⌝ }
-    requires { ⌜ (layout .rh ≡ 2) × (8 * n + 2 ≤ layout .cw) × (16 * n + 2 ≤ layout .w) × (dst ≤ layout .w) ⌝ }
-    ensures { λ _. ⌜ now (s .exit) ≡ valueRun layout t dst 2 (16 * n) (now (s .entry)) ⌝ }
+    requires { ⌜ (layout .rh ≡ 1) × (n + 2 ≤ layout .cw) × (1 + n ≤ layout .w) × (dst ≤ layout .w) ⌝ }
+    ensures { λ _. ⌜ now (s .exit) ≡ valueRun layout t dst 1 n (now (s .entry)) ⌝ }
 {
     let mut i = 0;
     while i < n {
-        let block = value_block(layout, s, t, 8 * i);
-        put_block(s, dst + 2 + 16 * i, block);
+        let v = value_one(layout, s, t, 1 + i);
+        s[dst + 1 + i] = v;
         i += 1;
     }
 }
 
-// Of n cells, from cell `from` + 1 on.
-fn value_pairs(layout: Layout, s: &mut [f32], t: Bands, dst: usize, from: usize, n: usize)
-    requires { ⌜ Sound layout × BandsInside t (3 * layout .w) (layout .cw) (length (now s)) ⌝ }
-    requires { ⌜ (layout .rh ≡ 2) × (from + n + 2 ≤ layout .cw) × (2 * (from + n) + 2 ≤ layout .w) × (dst ≤ layout .w) ⌝ }
-    ensures { λ _. ⌜ now (s .exit) ≡ valueRun layout t dst (2 + 2 * from) (2 * n) (now (s .entry)) ⌝ }
-{
-    let mut i = 0;
-    while i < n {
-        let p = value_pair(layout, s, t, from + i);
-        s[dst + (2 + 2 * from) + 2 * i] = p.left;
-        s[dst + (2 + 2 * from) + 2 * i + 1] = p.right;
-        i += 1;
-    }
-}
-
-// Of the n cells between the first and the last: blocks, then pairs.
+// Of n cells, from cell 1 on: a loop for each ratio.
 fn value_inner(layout: Layout, s: &mut [f32], t: Bands, dst: usize, n: usize)
     requires { ⌜ Sound layout × BandsInside t (3 * layout .w) (layout .cw) (length (now s)) ⌝ }
-    requires { ⌜ (layout .rh ≡ 2) × (n + 2 ≤ layout .cw) × (2 + 2 * n ≤ layout .w) × (dst ≤ layout .w) ⌝ }
-    ensures { λ _. ⌜ now (s .exit) ≡ valueRun layout t dst 2 (2 * n) (now (s .entry)) ⌝ }
+    requires { ⌜ (n + 2 ≤ layout .cw) × (layout .rh + n * layout .rh ≤ layout .w) × (dst ≤ layout .w) ⌝ }
+    ensures { λ _. ⌜ now (s .exit) ≡ valueRun layout t dst (layout .rh) (n * layout .rh) (now (s .entry)) ⌝ }
 {
-    let k = n / Lanes::CELLS;
-    let m = 8 * k;
-    value_blocks(layout, s, t, dst, k);
-    value_pairs(layout, s, t, dst, m, n - m);
+    if layout.rh == 1 {
+        value_ones(layout, s, t, dst, n);
+        return;
+    }
+    if layout.rh == 2 {
+        value_twos(layout, s, t, dst, n);
+        return;
+    }
+    value_each(layout, s, t, dst, n);
 }
 
-// A component's row at ratio 2: edge, pairs, edge.
-fn value_twos(layout: Layout, s: &mut [f32], t: Bands, dst: usize)
+// Of all cells: the first, the inner ones, and the last with its pixels inside the picture.
+fn value_cells(layout: Layout, s: &mut [f32], t: Bands, dst: usize)
     requires { ⌜ Sound layout × BandsInside t (3 * layout .w) (layout .cw) (length (now s)) ⌝ }
-    requires { ⌜ (layout .rh ≡ 2) × (dst ≤ layout .w) ⌝ }
+    requires { ⌜ dst ≤ layout .w ⌝ }
     ensures { λ _. ⌜ now (s .exit) ≡ valueRun layout t dst 0 (layout .w) (now (s .entry)) ⌝ }
 {
     let w = layout.w;
+    let rh = layout.rh;
     if layout.cw < 2 {
         value_run(layout, s, t, dst, 0, w);
         return;
     }
     let n = layout.cw - 2;
-    let m = 2 * n;
-    value_run(layout, s, t, dst, 0, 2);
+    let m = rh + n * rh;
+    value_run(layout, s, t, dst, 0, rh);
     value_inner(layout, s, t, dst, n);
-    value_run(layout, s, t, dst, 2 + m, w - (2 + m));
+    value_run(layout, s, t, dst, m, w - m);
 }
 
 // Inner: a component's finished row, from its rows of cells and the detail.
@@ -155,9 +153,5 @@ pub fn value_row(layout: Layout, cr: bool, s: &mut [f32])
 {
     let t = bands_of(layout, cr);
     let dst = finished_at(layout, cr);
-    if layout.rh != 2 {
-        value_run(layout, s, t, dst, 0, layout.w);
-        return;
-    }
-    value_twos(layout, s, t, dst);
+    value_cells(layout, s, t, dst);
 }

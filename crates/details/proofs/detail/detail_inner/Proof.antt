@@ -1,49 +1,49 @@
-use mathlib.Core.Path.{_≡_, ap, _∙_}
-use Prim.Native.Nat.{ℕ, _+_, _-_, _*_, _/_}
+use mathlib.Core.Path.{_∙_}
+use Prim.Native.Nat.{_*_}
 use native.Mathlib.Omega.{arith}
 use borrow.Author.Needs.{needs}
 use Rattle.details.proofs.detail.detail_inner.Statement.{statement}
-use lib.Ieee.{Float}
-use mathlib.Core.List.{List}
-use Rattle.details.proofs.Twos.{detail-chain}
 use Rattle.details.specs.Pixels.{detailRun}
+use Rattle.details.proofs.Phases.{ratio-inside, ratio-run}
 use Rattle.details.proofs.detail.detail_inner.Tie as tie
 
-mul-m : tie.Need-mul-m
-mul-m c = search needs
-
-detail-blocks-requires : tie.Need-detail-blocks-requires
-detail-blocks-requires c κs = let s = c .before .before .before in ((s .pre .0 .0, s .pre .0 .1, s .pre .0 .2, omega arith, omega arith), s .pre .1)
-
-sub-detail-pairs : tie.Need-sub-detail-pairs
-sub-detail-pairs c = search needs
-
-detail-pairs-requires : tie.Need-detail-pairs-requires
-detail-pairs-requires c κs = let s = c .before .before .before .before .before .before .before in ((s .pre .0 .0, s .pre .0 .1, s .pre .0 .2, omega arith, omega arith), omega arith)
+detail-ones-requires : tie.Need-detail-ones-requires
+detail-ones-requires c κs = let s = c .before .before .before .before .before in let h = ratio-inside (s .args .layout .rh) 1 (s .args .n) (s .args .layout .w) (c .before .if1 .taken) (omega arith) in ((s .pre .0 .0, s .pre .0 .1, c .before .if1 .taken, omega arith, omega arith), s .pre .1)
 
 same-length : tie.Need-same-length
 same-length c = search needs
 
 returns : tie.Need-returns
-returns c = let a = c .before .before .before .before .before .before .before .before .before .before .args in
-    let o = c .before .before .before .before .before .before .before .before .before .before .pre .0 .0 .sound in
-    let run : ℕ → ℕ → List Float → List Float = detailRun (a .layout) (record { bytes = a .plane .now; stride = a .stride }) (a .y) (a .src) (a .dst) in
-    let k : ℕ = a .n / 8 in
-    let e : 2 + 2 * (8 * k) ≡ 2 + 16 * k = omega arith in
-    let m : 16 * k + 2 * (a .n - 8 * k) ≡ 2 * a .n = omega arith in
-    c .before .before .detail-pairs .ensures
-    ∙ ap (run (2 + 2 * (8 * k)) (2 * (a .n - 8 * k))) (c .before .before .before .before .before .before .detail-blocks .ensures)
-    ∙ ap (λ (x : ℕ). run x (2 * (a .n - 8 * k)) (run 2 (16 * k) (a .s .now))) e
-    ∙ detail-chain (a .layout) o (record { bytes = a .plane .now; stride = a .stride }) (a .y) (a .src) (a .dst) (omega arith) 2 (16 * k) (2 * (a .n - 8 * k)) (a .s .now) (omega arith)
-    ∙ ap (λ (x : ℕ). run 2 x (a .s .now)) m
+returns c = let a = c .before .before .before .before .before .before .before .before .args in c .before .before .detail-ones .ensures ∙ ratio-run (detailRun (a .layout) (record { bytes = a .plane .now; stride = a .stride }) (a .y) (a .src) (a .dst)) (a .layout .rh) 1 (a .n) (a .n) (a .s .now) (c .before .before .before .before .if1 .taken) (omega arith)
+
+detail-twos-requires : tie.Need-detail-twos-requires
+detail-twos-requires c κs = let s = c .before .before .before .before .before .before .before in let h = ratio-inside (s .args .layout .rh) 2 (s .args .n) (s .args .layout .w) (c .before .if2 .taken) (omega arith) in ((s .pre .0 .0, s .pre .0 .1, c .before .if2 .taken, omega arith, omega arith), s .pre .1)
+
+same-length-2 : tie.Need-same-length-2
+same-length-2 c = search needs
+
+returns-2 : tie.Need-returns-2
+returns-2 c = let a = c .before .before .before .before .before .before .before .before .before .before .args in c .before .before .detail-twos .ensures ∙ ratio-run (detailRun (a .layout) (record { bytes = a .plane .now; stride = a .stride }) (a .y) (a .src) (a .dst)) (a .layout .rh) 2 (a .n) (2 * a .n) (a .s .now) (c .before .before .before .before .if2 .taken) (omega arith)
+
+detail-each-requires : tie.Need-detail-each-requires
+detail-each-requires c κs = search needs
+
+same-length-3 : tie.Need-same-length-3
+same-length-3 c = search needs
+
+returns-3 : tie.Need-returns-3
+returns-3 c = search needs
 
 pub detail-inner-spec : {M : Type 1} → statement M
 detail-inner-spec =
     tie.close
     (tie.spec
-    mul-m
-    detail-blocks-requires
-    sub-detail-pairs
-    detail-pairs-requires
+    detail-ones-requires
     same-length
-    returns)
+    returns
+    detail-twos-requires
+    same-length-2
+    returns-2
+    detail-each-requires
+    same-length-3
+    returns-3)

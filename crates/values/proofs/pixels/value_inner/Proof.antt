@@ -1,43 +1,49 @@
-use mathlib.Core.Path.{_≡_, ap, _∙_}
-use Prim.Native.Nat.{ℕ, _+_, _-_, _*_, _/_}
+use mathlib.Core.Path.{_∙_}
+use Prim.Native.Nat.{_*_}
 use native.Mathlib.Omega.{arith}
 use borrow.Author.Needs.{needs}
 use Rattle.values.proofs.pixels.value_inner.Statement.{statement}
-use lib.Ieee.{Float}
-use mathlib.Core.List.{List}
-use Rattle.values.proofs.Twos.{value-chain}
+use Rattle.details.proofs.Phases.{ratio-inside, ratio-run}
 use Rattle.values.specs.Values.{valueRun}
 use Rattle.values.proofs.pixels.value_inner.Tie as tie
 
-mul-m : tie.Need-mul-m
-mul-m c = search needs
-
-value-blocks-requires : tie.Need-value-blocks-requires
-value-blocks-requires c κs = let s = c .before .before in (s .pre .0, (s .pre .1 .0, omega arith, omega arith, omega arith))
-
-sub-value-pairs : tie.Need-sub-value-pairs
-sub-value-pairs c = search needs
-
-value-pairs-requires : tie.Need-value-pairs-requires
-value-pairs-requires c κs = let s = c .before .before .before .before .before .before in ((s .pre .0 .0, omega arith), (s .pre .1 .0, omega arith, omega arith, omega arith))
+value-ones-requires : tie.Need-value-ones-requires
+value-ones-requires c κs = let s = c .before .before .before .before in let h = ratio-inside (s .args .layout .rh) 1 (s .args .n) (s .args .layout .w) (c .before .if1 .taken) (s .pre .1 .1) in (s .pre .0, (c .before .if1 .taken, s .pre .1 .0, omega arith, s .pre .1 .2))
 
 same-length : tie.Need-same-length
 same-length c = search needs
 
 returns : tie.Need-returns
-returns c = let a = c .before .before .before .before .before .before .before .before .before .args in
-    let o = c .before .before .before .before .before .before .before .before .before .pre .0 in
-    let run : ℕ → ℕ → List Float → List Float = valueRun (a .layout) (a .t) (a .dst) in
-    let k : ℕ = a .n / 8 in
-    let e : 2 + 2 * (8 * k) ≡ 2 + 16 * k = omega arith in
-    let m : 16 * k + 2 * (a .n - 8 * k) ≡ 2 * a .n = omega arith in
-    c .before .before .value-pairs .ensures
-    ∙ ap (run (2 + 2 * (8 * k)) (2 * (a .n - 8 * k))) (c .before .before .before .before .before .before .value-blocks .ensures)
-    ∙ ap (λ (x : ℕ). run x (2 * (a .n - 8 * k)) (run 2 (16 * k) (a .s .now))) e
-    ∙ value-chain (a .layout) (o .0) (a .t) _ (a .dst) (o .1) (omega arith) 2 (16 * k) (2 * (a .n - 8 * k)) (a .s .now) (omega arith)
-    ∙ ap (λ (x : ℕ). run 2 x (a .s .now)) m
+returns c = let a = c .before .before .before .before .before .before .before .args in c .before .before .value-ones .ensures ∙ ratio-run (valueRun (a .layout) (a .t) (a .dst)) (a .layout .rh) 1 (a .n) (a .n) (a .s .now) (c .before .before .before .before .if1 .taken) (omega arith)
+
+value-twos-requires : tie.Need-value-twos-requires
+value-twos-requires c κs = let s = c .before .before .before .before .before .before in let h = ratio-inside (s .args .layout .rh) 2 (s .args .n) (s .args .layout .w) (c .before .if2 .taken) (s .pre .1 .1) in (s .pre .0, (c .before .if2 .taken, s .pre .1 .0, omega arith, s .pre .1 .2))
+
+same-length-2 : tie.Need-same-length-2
+same-length-2 c = search needs
+
+returns-2 : tie.Need-returns-2
+returns-2 c = let a = c .before .before .before .before .before .before .before .before .before .args in c .before .before .value-twos .ensures ∙ ratio-run (valueRun (a .layout) (a .t) (a .dst)) (a .layout .rh) 2 (a .n) (2 * a .n) (a .s .now) (c .before .before .before .before .if2 .taken) (omega arith)
+
+value-each-requires : tie.Need-value-each-requires
+value-each-requires c κs = search needs
+
+same-length-3 : tie.Need-same-length-3
+same-length-3 c = search needs
+
+returns-3 : tie.Need-returns-3
+returns-3 c = search needs
 
 pub value-inner-spec : {M : Type 1} → statement M
 value-inner-spec =
     tie.close
-    (tie.spec mul-m value-blocks-requires sub-value-pairs value-pairs-requires same-length returns)
+    (tie.spec
+    value-ones-requires
+    same-length
+    returns
+    value-twos-requires
+    same-length-2
+    returns-2
+    value-each-requires
+    same-length-3
+    returns-3)

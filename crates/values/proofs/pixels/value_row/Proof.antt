@@ -1,10 +1,10 @@
-use Rattle.guided.proofs.Places.{finished-place}
-use Rattle.sums.specs.Slopes.{chromaOf}
 use mathlib.Core.Path.{_∙_}
 use native.Mathlib.Omega.{arith}
 use borrow.Author.Needs.{needs}
 use Rattle.values.proofs.pixels.value_row.Statement.{statement}
 use Rattle.values.proofs.Values.{bands-inside, value-line}
+use Rattle.sums.specs.Slopes.{chromaOf}
+use Rattle.guided.proofs.Places.{finished-place}
 use Rattle.values.proofs.pixels.value_row.Tie as tie
 
 bands-of-requires : tie.Need-bands-of-requires
@@ -13,45 +13,19 @@ bands-of-requires c κs = search needs
 finished-at-requires : tie.Need-finished-at-requires
 finished-at-requires c κs = search needs
 
-value-run-requires : tie.Need-value-run-requires
-value-run-requires c κs =
-    let a = c .before .before .before .before .before .before .args in
+value-cells-requires : tie.Need-value-cells-requires
+value-cells-requires c κs = let a = c .before .before .before .before .args in
     let k = chromaOf (a .cr) in
-    let e = c .before .before .before .finished-at .ensures in
-    ((c .before .before .before .before .before .before .pre .0, bands-inside (a .layout) k _ _ (c .before .before .before .before .bands-of .ensures) (omega arith)), (omega arith, omega (arith, e, finished-place (a .layout) k)))
+    let e = c .before .finished-at .ensures in
+    ((c .before .before .before .before .pre .0, bands-inside (a .layout) k _ _ (c .before .before .bands-of .ensures) (omega arith)), omega (arith, e, finished-place (a .layout) k))
 
 same-length : tie.Need-same-length
 same-length c = search needs
 
 returns : tie.Need-returns
-returns c =
-    let a = c .before .before .before .before .before .before .before .before .before .args in
-    c .before .before .value-run .ensures ∙ value-line (a .layout) (chromaOf (a .cr)) _ _ (a .s .now) (c .before .before .before .before .before .before .before .bands-of .ensures) (c .before .before .before .before .before .before .finished-at .ensures)
-
-value-twos-requires : tie.Need-value-twos-requires
-value-twos-requires c κs =
-    let a = c .before .before .before .before .before .before .args in
-    let k = chromaOf (a .cr) in
-    let e = c .before .before .before .finished-at .ensures in
-    ((c .before .before .before .before .before .before .pre .0, bands-inside (a .layout) k _ _ (c .before .before .before .before .bands-of .ensures) (omega arith)), (omega arith, omega (arith, e, finished-place (a .layout) k)))
-
-same-length-2 : tie.Need-same-length-2
-same-length-2 c = search needs
-
-returns-2 : tie.Need-returns-2
-returns-2 c =
-    let a = c .before .before .before .before .before .before .before .before .before .args in
-    c .before .before .value-twos .ensures ∙ value-line (a .layout) (chromaOf (a .cr)) _ _ (a .s .now) (c .before .before .before .before .before .before .before .bands-of .ensures) (c .before .before .before .before .before .before .finished-at .ensures)
+returns c = let a = c .before .before .before .before .before .before .before .args in c .before .before .value-cells .ensures ∙ value-line (a .layout) (chromaOf (a .cr)) _ _ (a .s .now) (c .before .before .before .before .before .bands-of .ensures) (c .before .before .before .before .finished-at .ensures)
 
 pub value-row-spec : {M : Type 1} → statement M
 value-row-spec =
     tie.close
-    (tie.spec
-    bands-of-requires
-    finished-at-requires
-    value-run-requires
-    same-length
-    returns
-    value-twos-requires
-    same-length-2
-    returns-2)
+    (tie.spec bands-of-requires finished-at-requires value-cells-requires same-length returns)

@@ -1,0 +1,128 @@
+// The detail of the cells that have both neighbours, at ratio 2: eight cells at a time, so that many pixels are computed at once.
+ghost use mathlib.Core.Path.{_≡_};
+ghost use Prim.Native.Nat.{ℕ, _+_, _*_, _≤_, _<_};
+ghost use lib.Ieee.{nan};
+ghost use lib.ListN.{length, getD};
+ghost use Rattle.sums.specs.Luma.{Cells};
+ghost use Rattle.details.specs.Pixels.{detailIn, detailPair, detailRun};
+use super::pairs::Lanes;
+use super::pairs::Pair;
+use super::pairs::pair_at;
+use super::pairs::put_block;
+use extremes::sample_at;
+use image::Layout;
+
+// The detail of the pixels of cell i + 1 at ratio 2: no phase and no edge is looked at.
+fn detail_pair(
+    layout: Layout,
+    plane: &[u8],
+    stride: usize,
+    y: usize,
+    s: &[f32],
+    src: usize,
+    i: usize,
+) -> Pair
+    requires { ⌜ Cells layout (record { bytes = now plane; stride = stride }) × (y < layout .h) × (layout .rh ≡ 2) × (i + 3 ≤ layout .cw) × (2 * i + 4 ≤ layout .w) ⌝ }
+    requires { ⌜ src + layout .cw ≤ length (now s) ⌝ }
+    ensures { λ r. ⌜ r ≡ detailPair layout (record { bytes = now (plane .entry); stride = stride }) y (now (s .entry)) src i ⌝ }
+{
+    let w = layout.w;
+    let h = layout.h;
+    let p = pair_at(s, src, i);
+    Pair {
+        left: sample_at(layout, plane, stride, w, h, 2 + 2 * i, y) - p.left,
+        right: sample_at(layout, plane, stride, w, h, 2 + (2 * i + 1), y) - p.right,
+    }
+}
+
+// Of the pixels of eight cells, from cell i + 1 on.
+fn detail_block(
+    layout: Layout,
+    plane: &[u8],
+    stride: usize,
+    y: usize,
+    s: &[f32],
+    src: usize,
+    i: usize,
+) -> [f32; Lanes::PIXELS]
+    requires { ⌜ Cells layout (record { bytes = now plane; stride = stride }) × (y < layout .h) × (layout .rh ≡ 2) × (i + 10 ≤ layout .cw) × (2 * i + 18 ≤ layout .w) ⌝ }
+    requires { ⌜ src + layout .cw ≤ length (now s) ⌝ }
+    ensures { λ r. ⌜ ((k : ℕ) → k < 16 → getD r k nan ≡ detailIn layout (record { bytes = now (plane .entry); stride = stride }) y (now (s .entry)) src (2 + 2 * i + k)) ⌝ }
+{
+    let mut block = [0.0f32; Lanes::PIXELS];
+    for b in 0..Lanes::CELLS {
+        let p = detail_pair(layout, plane, stride, y, s, src, i + b);
+        block[2 * b] = p.left;
+        block[2 * b + 1] = p.right;
+    }
+    block
+}
+
+// Of n such blocks, from cell 1 on.
+fn detail_blocks(
+    layout: Layout,
+    plane: &[u8],
+    stride: usize,
+    y: usize,
+    s: &mut [f32],
+    src: usize,
+    dst: usize,
+    n: usize,
+)
+    requires { ⌜ Cells layout (record { bytes = now plane; stride = stride }) × (y < layout .h) × (layout .rh ≡ 2) × (8 * n + 2 ≤ layout .cw) × (16 * n + 2 ≤ layout .w) ⌝ }
+    requires { ⌜ (dst + layout .w ≤ src) × (src + layout .cw ≤ length (now s)) ⌝ }
+    ensures { λ _. ⌜ now (s .exit) ≡ detailRun layout (record { bytes = now (plane .entry); stride = stride }) y src dst 2 (16 * n) (now (s .entry)) ⌝ }
+{
+    let mut i = 0;
+    while i < n {
+        let block = detail_block(layout, plane, stride, y, s, src, 8 * i);
+        put_block(s, dst + 2 + 16 * i, block);
+        i += 1;
+    }
+}
+
+// Of n cells, from cell `from` + 1 on.
+fn detail_pairs(
+    layout: Layout,
+    plane: &[u8],
+    stride: usize,
+    y: usize,
+    s: &mut [f32],
+    src: usize,
+    dst: usize,
+    from: usize,
+    n: usize,
+)
+    requires { ⌜ Cells layout (record { bytes = now plane; stride = stride }) × (y < layout .h) × (layout .rh ≡ 2) × (from + n + 2 ≤ layout .cw) × (2 * (from + n) + 2 ≤ layout .w) ⌝ }
+    requires { ⌜ (dst + layout .w ≤ src) × (src + layout .cw ≤ length (now s)) ⌝ }
+    ensures { λ _. ⌜ now (s .exit) ≡ detailRun layout (record { bytes = now (plane .entry); stride = stride }) y src dst (2 + 2 * from) (2 * n) (now (s .entry)) ⌝ }
+{
+    let mut i = 0;
+    while i < n {
+        let p = detail_pair(layout, plane, stride, y, s, src, from + i);
+        s[dst + (2 + 2 * from) + 2 * i] = p.left;
+        s[dst + (2 + 2 * from) + 2 * i + 1] = p.right;
+        i += 1;
+    }
+}
+
+// Of n cells, from cell 1 on, at ratio 2: blocks, then pairs.
+pub fn detail_twos(
+    layout: Layout,
+    plane: &[u8],
+    stride: usize,
+    y: usize,
+    s: &mut [f32],
+    src: usize,
+    dst: usize,
+    n: usize,
+)
+    requires { ⌜ Cells layout (record { bytes = now plane; stride = stride }) × (y < layout .h) × (layout .rh ≡ 2) × (n + 2 ≤ layout .cw) × (2 + 2 * n ≤ layout .w) ⌝ }
+    requires { ⌜ (dst + layout .w ≤ src) × (src + layout .cw ≤ length (now s)) ⌝ }
+    ensures { λ _. ⌜ now (s .exit) ≡ detailRun layout (record { bytes = now (plane .entry); stride = stride }) y src dst 2 (2 * n) (now (s .entry)) ⌝ }
+{
+    let k = n / Lanes::CELLS;
+    let m = 8 * k;
+    detail_blocks(layout, plane, stride, y, s, src, dst, k);
+    detail_pairs(layout, plane, stride, y, s, src, dst, m, n - m);
+}
