@@ -20,6 +20,7 @@ use Rattle.guided.proofs.Taken.{own-column}
 use Rattle.guided.proofs.Places.{column-behind}
 use Rattle.details.specs.Columns.{ColumnGiven}
 use Rattle.details.specs.Pixels.{phased, detailRun, detailLine}
+use Rattle.laws.proofs.Counts.{none-plus, plus-none}
 
 -- rows that are alike in their n cells are lerped alike
 pub phased-same : (g h : ℕ → Float) (n : ℕ) (p : Phase) (i : ℕ) → i < n → ((k : ℕ) → k < n → g k ≡ h k) → phased g n p i ≡ phased h n p i
@@ -48,13 +49,6 @@ detail-ready l src len o h =
     let e : src ≡ columnAt l 0 = o .is in
     let k : 3 * l .w ≤ columnAt l 0 = column-behind l 0 in
     (omega arith, omega (arith, o .fits))
-
--- nothing added
-pub plus-none : (n : ℕ) → n + 0 ≡ n
-plus-none n = omega arith
-
-pub none-plus : (n : ℕ) → 0 + n ≡ n
-none-plus n = omega arith
 
 -- a whole row is the run from 0
 pub detail-line : (l : Layout) (p : Plane) (y src : ℕ) (s : List Float) → src ≡ columnAt l 0 → detailRun l p y src (2 * l .w) 0 (l .w) s ≡ detailLine l p y s

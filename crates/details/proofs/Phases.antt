@@ -18,7 +18,7 @@ use Rattle.resample.specs.Taps.{lerpOf, phaseOf}
 use Rattle.guided.specs.Guided.{acrossTo}
 use Rattle.guided.specs.Calls.{phaseAt, phasesOf}
 use Rattle.sums.proofs.Cells.{begins}
-use Rattle.sums.proofs.Counts.{none-plus, part-rest}
+use Rattle.laws.proofs.Counts.{none-plus, part-rest}
 use Rattle.details.specs.Pixels.{phased}
 
 -- ---- a cell that has both neighbours

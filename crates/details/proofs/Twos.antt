@@ -20,6 +20,7 @@ use Rattle.details.specs.Pixels.{pairOf, detailRun, detailIn, detailPair
 use Rattle.details.proofs.Lerps.{across-same}
 use Rattle.details.proofs.Phases.{Runs}
 use Rattle.laws.proofs.Fractions.{chain}
+use Rattle.laws.proofs.Counts.{plus-plus}
 
 -- the pixels of cell i + 1
 pub pair-is : (g : ℕ → Float) (i : ℕ) (u v : Float) → u ≡ lerpOf (g i) (g (i + 1)) (fractionOf 3 4) → v ≡ lerpOf (g (i + 1)) (g (i + 2)) (fractionOf 1 4) → record { left = u; right = v } ≡ pairOf g i
@@ -69,12 +70,9 @@ pub row-chain : (F : List Float → ℕ → Float) (low dst from m k : ℕ) (s :
 row-chain F low dst from m k s h keeps =
     let f : ℕ → Float = λ i. F s (from + i) in
     let xs = put s (dst + from) m f in
-    ap (λ (a : ℕ). put xs a k (λ i. F xs (from + m + i))) (place dst from m)
-    ∙ put-same xs (dst + from + m) k _ (λ i. f (m + i)) (λ i l. keeps s xs (λ q r. put-after s (dst + from) m f q nan (omega arith)) (from + m + i) (omega arith) ∙ ap (F s) (sym (place from m i)))
+    ap (λ (a : ℕ). put xs a k (λ i. F xs (from + m + i))) (plus-plus dst from m)
+    ∙ put-same xs (dst + from + m) k _ (λ i. f (m + i)) (λ i l. keeps s xs (λ q r. put-after s (dst + from) m f q nan (omega arith)) (from + m + i) (omega arith) ∙ ap (F s) (sym (plus-plus from m i)))
     ∙ put-chain s (dst + from) m k f
-  where
-    place : (a b c : ℕ) → a + (b + c) ≡ a + b + c
-    place a b c = omega arith
 
 -- ---- the detail
 

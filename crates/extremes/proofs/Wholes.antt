@@ -2,20 +2,20 @@
 use mathlib.Core.Path.{_≡_, refl, sym, ap, _∙_}
 use mathlib.Core.Bool.{Bool, true, false}
 use mathlib.Core.List.{List}
-use Prim.Native.Nat.{ℕ, _+_, _-_, _*_, _≤_, _<_, min, max}
+use Prim.Native.Nat.{ℕ, _+_, _-_, _*_, _≤_, _<_, min}
 use native.Mathlib.Omega.{arith}
 use lib.ListN.{getD}
 use lib.Ieee.{Float}
 use Rattle.laws.specs.Floats.{f32}
 use Rattle.laws.specs.Lists.{put}
 use Rattle.laws.proofs.Lists.{put-same, put-chain}
-use Rattle.laws.proofs.Rows.{next-row}
 use Rattle.image.specs.declared.layout.Layout.{Layout}
 use Rattle.image.specs.Samples.{Plane, sampleOf, sampleAt}
 use Rattle.image.proofs.Pictures.{sample-small}
 use Rattle.guided.specs.Guided.{three, extremeOf}
 use Rattle.guided.proofs.Extremes.{fmin-whole, fmax-whole}
 use Rattle.extremes.specs.Extremes.{opOf, extremeRun, extremeRow, wholeOp, threeFrom, nineFrom}
+use Rattle.laws.proofs.Counts.{plus-plus}
 
 op-whole : (greatest : Bool) (a b : ℕ) → a ≤ 65535 → b ≤ 65535 → opOf greatest (f32 a) (f32 b) ≡ f32 (wholeOp greatest a b)
 op-whole true a b h k = fmax-whole a b h k
@@ -98,12 +98,9 @@ module _ (l : Layout) (p : Plane) (greatest : Bool) (j dst : ℕ) where
   run-chain from m k s =
       let f : ℕ → Float = extremeOf l (opOf greatest) (sampleAt (l .«sample_bytes») p) j in
       let xs = put s (dst + from) m (λ i. f (from + i)) in
-      ap (λ (a : ℕ). put xs a k (λ i. f (from + m + i))) (place dst from m)
-      ∙ put-same xs (dst + from + m) k _ (λ i. f (from + (m + i))) (λ i h. ap f (sym (place from m i)))
+      ap (λ (a : ℕ). put xs a k (λ i. f (from + m + i))) (plus-plus dst from m)
+      ∙ put-same xs (dst + from + m) k _ (λ i. f (from + (m + i))) (λ i h. ap f (sym (plus-plus from m i)))
       ∙ put-chain s (dst + from) m k (λ i. f (from + i))
-    where
-      place : (a b c : ℕ) → a + (b + c) ≡ a + b + c
-      place a b c = omega arith
 
   -- a whole row is the run from 0
   pub run-whole : (n : ℕ) (s : List Float) → n ≡ l .cw → extremeRun l p greatest j dst 0 n s ≡ extremeRow l p greatest j dst s

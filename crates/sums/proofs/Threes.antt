@@ -10,7 +10,7 @@ use Rattle.laws.specs.Lists.{put}
 use Rattle.laws.proofs.Lists.{put-same, put-before, put-chain, Run, run-more, run-before}
 use Rattle.guided.specs.Guided.{three}
 use Rattle.sums.specs.Rows.{cellsAt, productsAt, threeRun, threeRow}
-use Rattle.laws.proofs.Counts.{plus-none, none-plus}
+use Rattle.laws.proofs.Counts.{plus-none, none-plus, plus-plus}
 
 -- a value by its own three cells
 pub three-is : (n : ℕ) (g : ℕ → Float) (i l r : ℕ) (v : Float) → l ≡ i - 1 → r ≡ min (i + 1) (n - 1) → v ≡ g l ⊕ g i ⊕ g r → v ≡ three _⊕_ n g i
@@ -61,14 +61,11 @@ module _ {g : List Float → ℕ → Float} {n dst : ℕ} (o : Behind g n dst) w
   three-chain from m k s h =
       let f : ℕ → Float = λ i. three _⊕_ n (g s) (from + i) in
       let xs = put s (dst + from) m f in
-      ap (λ (a : ℕ). put xs a k (λ i. three _⊕_ n (g xs) (from + m + i))) (place dst from m)
+      ap (λ (a : ℕ). put xs a k (λ i. three _⊕_ n (g xs) (from + m + i))) (plus-plus dst from m)
       ∙ put-same xs (dst + from + m) k _ (λ i. f (m + i)) (λ i l.
       three-same _⊕_ n (g xs) (g s) (from + m + i) (omega arith) (o .keeps s xs (λ j q. put-before s (dst + from) m f j nan (omega arith)))
-      ∙ ap (λ (j : ℕ). three _⊕_ n (g s) j) (sym (place from m i)))
+      ∙ ap (λ (j : ℕ). three _⊕_ n (g s) j) (sym (plus-plus from m i)))
       ∙ put-chain s (dst + from) m k f
-    where
-      place : (a b c : ℕ) → a + (b + c) ≡ a + b + c
-      place a b c = omega arith
 
 -- a whole row is the run from 0
 whole-is : (g : List Float → ℕ → Float) (n dst : ℕ) (s : List Float) → threeRun g n dst 0 n s ≡ threeRow g n dst s

@@ -18,13 +18,13 @@ use Rattle.guided.specs.Guided.{extremeOf, extreme, detailOf}
 use Rattle.guided.specs.Scratch.{firstOf, columnAt, columnOf, detailAt, readAcross, readSlope, lumaColumn, detailRow, componentColumns, finishedRow, componentsOver}
 use Rattle.guided.proofs.Taken.{own-row}
 use Rattle.sums.proofs.Threes.{three-same}
-use Rattle.details.proofs.Lerps.{plus-none}
 use Rattle.values.specs.declared.bands.Bands.{Bands}
 use Rattle.details.specs.Columns.{downColumn}
 use Rattle.extremes.specs.Extremes.{extremeRow}
 use Rattle.details.specs.Pixels.{detailLine}
 use Rattle.values.specs.Row.{downsOf, boundsOf, componentRow, guidedStep}
 use Rattle.values.specs.Values.{bandsOf, valueAt, valueRow}
+use Rattle.laws.proofs.Counts.{plus-none}
 
 -- a component's rows lerped down, by the numbers of its first rows
 pub downs-are : (l : Layout) (k : Chroma) (y n m : ℕ) (s : List Float) → n ≡ firstOf k → m ≡ columnOf k → downColumn l (n + 3) (m + 1) y (downColumn l n m y s) ≡ downsOf l k y s
