@@ -125,8 +125,8 @@ fn state_agrees(text: &[u8], given: Reader, reply: Reply) -> bool {
 
 // What a call's reply makes of a line; a changed reader's is dropped.
 fn judged(text: &[u8], reader: Reader, given: Reader, reply: Reply, sum: u32, kept: bool) -> Step {
-    let answered = kept && cases::number(reply.answer) == cases::word(text, 25);
-    let left = state_agrees(text, given, reply) && sum as usize == cases::long(text, 26);
+    let answered = cases::number(reply.answer) == cases::word(text, 25) && cases::is_line(text);
+    let left = kept && state_agrees(text, given, reply) && sum as usize == cases::long(text, 26);
     if cases::word(text, 22) != 0 {
         return Step {
             right: answered && left,
