@@ -1,7 +1,4 @@
 // What calls are handed: planes grown from a seed, and buffers marked, so that whatever is written shows.
-ghost use mathlib.Core.Path.{_≡_};
-ghost use Prim.Native.Nat.{_-_, _≤_};
-ghost use lib.ListN.{length};
 
 // The next state of a linear congruential generator.
 fn next(state: u32) -> u32 {

@@ -1,7 +1,6 @@
 // The numbers of a line: words of four hex digits, a blank before each, after a byte for the kind.
 // Past a line's end every byte is 0 and every digit too.
 ghost use Prim.Native.Nat.{_<_};
-ghost use lib.ListN.{length};
 use image::Layout;
 
 // The byte at a place.
@@ -103,7 +102,7 @@ pub fn layout(text: &[u8]) -> Layout {
     }
 }
 
-// How much of its scratch a line's call may touch: what the table says that it needs, or nothing where the line's answer is a refusal.
+// How much of its scratch a line's call may touch: the 64·cw + 8·w floats that it needs, or none where its answer is a refusal.
 pub fn scratch_part(text: &[u8], answer: usize) -> usize {
     if answer != 0 {
         return 0;

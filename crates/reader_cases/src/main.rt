@@ -64,6 +64,16 @@ fn changed_phase(p: Phase, side: usize, fraction: usize, field: usize, value: u3
     p
 }
 
+// The phases, where fields 12 to 15 are their sides and 16 to 19 their fractions.
+fn changed_phases(p: [Phase; 4], field: usize, value: u32) -> [Phase; 4] {
+    [
+        changed_phase(p[0], 12, 16, field, value),
+        changed_phase(p[1], 13, 17, field, value),
+        changed_phase(p[2], 14, 18, field, value),
+        changed_phase(p[3], 15, 19, field, value),
+    ]
+}
+
 // A value, or another where the field to change is this one; ffffffff stands for the largest usize.
 fn changed_size(old: usize, number: usize, field: usize, value: u32) -> usize {
     if number != field {
@@ -77,6 +87,7 @@ fn changed_size(old: usize, number: usize, field: usize, value: u32) -> usize {
 
 fn changed_geometry(g: Geometry, field: usize, value: u32) -> Geometry {
     let p = g.phases;
+    let phases = changed_phases(p, field, value);
     Geometry {
         w: changed_size(g.w, 6, field, value),
         h: changed_size(g.h, 7, field, value),
@@ -84,12 +95,7 @@ fn changed_geometry(g: Geometry, field: usize, value: u32) -> Geometry {
         rv: changed_size(g.rv, 9, field, value),
         cw: changed_size(g.cw, 10, field, value),
         ch: changed_size(g.ch, 11, field, value),
-        phases: [
-            changed_phase(p[0], 12, 16, field, value),
-            changed_phase(p[1], 13, 17, field, value),
-            changed_phase(p[2], 14, 18, field, value),
-            changed_phase(p[3], 15, 19, field, value),
-        ],
+        phases,
     }
 }
 
@@ -125,8 +131,8 @@ fn state_agrees(text: &[u8], given: Reader, reply: Reply) -> bool {
 
 // What a call's reply makes of a line; a changed reader's is dropped.
 fn judged(text: &[u8], reader: Reader, given: Reader, reply: Reply, sum: u32, kept: bool) -> Step {
-    let answered = kept && cases::number(reply.answer) == cases::word(text, 25);
-    let left = state_agrees(text, given, reply) && sum as usize == cases::long(text, 26);
+    let answered = cases::number(reply.answer) == cases::word(text, 25) && cases::is_line(text);
+    let left = kept && state_agrees(text, given, reply) && sum as usize == cases::long(text, 26);
     if cases::word(text, 22) != 0 {
         return Step {
             right: answered && left,
