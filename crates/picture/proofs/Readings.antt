@@ -74,6 +74,9 @@ module _ {s : List ℕ} {l : Layout} {y cb cr : ℕ} (t : Taken s l y cb cr) whe
   pub layout-sound : Sound l
   layout-sound = sound false l (accepted-failed (layoutTests false l) (t .passes))
 
+  pub rows-inside : (y ≤ length s) × (cb ≤ length s) × (cr ≤ length s)
+  rows-inside = let a = t .y-rows in let b = t .cb-rows in let c = t .cr-rows in (omega arith, omega arith, omega arith)
+
   pub pixels-most : l .w * l .h ≤ 49152
   pixels-most = let a = t .y-rows in let b = t .short in omega arith
 

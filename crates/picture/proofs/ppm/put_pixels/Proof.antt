@@ -1,33 +1,33 @@
 use native.Mathlib.Omega.{arith}
 use borrow.Author.Needs.{needs}
 use Rattle.netpbm.proofs.Acceptance.{taken}
-use Rattle.picture.proofs.Readings.{filled}
+use Rattle.picture.proofs.Readings.{rows-inside, filled}
 use Rattle.picture.proofs.ppm.put_pixels.Statement.{statement}
 use Rattle.picture.proofs.ppm.put_pixels.Tie as tie
 
 sub-fill : tie.Need-sub-fill
-sub-fill c = let t = taken _ _ _ _ _ (c .before .before .before .pre .0) in let g = t .y-rows in omega arith
+sub-fill c = let i = rows-inside (taken _ _ _ _ _ (c .before .before .before .pre .0)) in omega arith
 
 part-fill-start : tie.Need-part-fill-start
-part-fill-start c = let t = taken _ _ _ _ _ (c .before .before .before .pre .0) in let g = t .y-rows in omega arith
+part-fill-start c = let i = rows-inside (taken _ _ _ _ _ (c .before .before .before .pre .0)) in omega arith
 
 part-fill-end : tie.Need-part-fill-end
 part-fill-end c = search needs
 
 sub-fill-2 : tie.Need-sub-fill-2
-sub-fill-2 c = let t = taken _ _ _ _ _ (c .before .before .before .before .pre .0) in let g = t .cb-rows in omega arith
+sub-fill-2 c = let i = rows-inside (taken _ _ _ _ _ (c .before .before .before .before .pre .0)) in omega arith
 
 part-fill-start-2 : tie.Need-part-fill-start-2
-part-fill-start-2 c = let t = taken _ _ _ _ _ (c .before .before .before .before .pre .0) in let g = t .cb-rows in omega arith
+part-fill-start-2 c = let i = rows-inside (taken _ _ _ _ _ (c .before .before .before .before .pre .0)) in omega arith
 
 part-fill-end-2 : tie.Need-part-fill-end-2
 part-fill-end-2 c = search needs
 
 sub-fill-3 : tie.Need-sub-fill-3
-sub-fill-3 c = let t = taken _ _ _ _ _ (c .before .before .before .before .before .pre .0) in let g = t .cr-rows in omega arith
+sub-fill-3 c = let i = rows-inside (taken _ _ _ _ _ (c .before .before .before .before .before .pre .0)) in omega arith
 
 part-fill-start-3 : tie.Need-part-fill-start-3
-part-fill-start-3 c = let t = taken _ _ _ _ _ (c .before .before .before .before .before .pre .0) in let g = t .cr-rows in omega arith
+part-fill-start-3 c = let i = rows-inside (taken _ _ _ _ _ (c .before .before .before .before .before .pre .0)) in omega arith
 
 part-fill-end-3 : tie.Need-part-fill-end-3
 part-fill-end-3 c = search needs
@@ -46,7 +46,7 @@ returns c =
     let s = c .before .before .before .before .before .before .before .before .before .before .before .before .before in
     let p = s .pre in
     let a = s .args in
-    filled (a .input .now) (a .layout) (a .y) (a .cb) (a .cr) (p .0) (s .args .s .now) (s .args .out .now) (p .1 .0) (p .1 .1) _ _ _ (c .before .before .before .before .fill .ensures)
+    filled (a .input .now) (a .layout) (a .y) (a .cb) (a .cr) (p .0) (a .s .now) (a .out .now) (p .1 .0) (p .1 .1) _ _ _ (c .before .before .before .before .fill .ensures)
 
 pub put-pixels-spec : {M : Type 1} → statement M
 put-pixels-spec =

@@ -1,0 +1,68 @@
+use mathlib.Core.Path.{_≡_}
+use Prim.Native.Nat.{_-_, _≤_}
+use native.Mathlib.Omega.{arith}
+use lib.ListN.{length}
+use borrow.Author.Needs.{needs}
+use Rattle.picture_cases.proofs.put_text.Statement.{statement}
+use Rattle.picture_cases.proofs.put_text.Tie as tie
+
+abbrev Inv-loop : tie.InvT-loop
+Inv-loop list at count input₀ len len₀ i₀ input len' i = (len' ≤ length input) × (length input ≡ length input₀) × (i ≤ count)
+
+abbrev μ-loop : tie.MeasureT-loop
+μ-loop list at count input₀ len len₀ i₀ input len' i = count - i
+
+loop-holds : tie.Need-loop-holds Inv-loop μ-loop
+loop-holds c = omega arith
+
+mul-pair : tie.Need-mul-pair Inv-loop μ-loop
+mul-pair c = omega arith
+
+add-pair : tie.Need-add-pair Inv-loop μ-loop
+add-pair c = omega arith
+
+add-pair-2 : tie.Need-add-pair-2 Inv-loop μ-loop
+add-pair-2 c = omega arith
+
+pair-requires : tie.Need-pair-requires Inv-loop μ-loop
+pair-requires c κs = search needs
+
+cast-push : tie.Need-cast-push Inv-loop μ-loop
+cast-push c = omega arith
+
+push-requires : tie.Need-push-requires Inv-loop μ-loop
+push-requires c κs = search needs
+
+add-i : tie.Need-add-i Inv-loop μ-loop
+add-i c = omega arith
+
+loop-less : tie.Need-loop-less Inv-loop μ-loop
+loop-less c = omega arith
+
+loop-again : tie.Need-loop-again Inv-loop μ-loop
+loop-again c = omega arith
+
+same-length : tie.Need-same-length Inv-loop μ-loop
+same-length c = omega arith
+
+returns : tie.Need-returns Inv-loop μ-loop
+returns c = omega arith
+
+pub put-text-spec : {M : Type 1} → statement M
+put-text-spec =
+    tie.close
+    (tie.spec
+    Inv-loop
+    μ-loop
+    loop-holds
+    mul-pair
+    add-pair
+    add-pair-2
+    pair-requires
+    cast-push
+    push-requires
+    add-i
+    loop-less
+    loop-again
+    same-length
+    returns)
