@@ -1,0 +1,203 @@
+//! Chroma reconstruction and colour conversion: from Y, Cb and Cr planes to RGB, by a library
+//! whose every function is proved to meet its contract. This crate is a thin safe wrapper over
+//! its C interface (include/chroma.h); slices and lifetimes keep what C callers must.
+//!
+//! The library is linked from target/staticlib, where `rt staticlib ffi` writes it, or from the
+//! folder that CHROMA_LIB_DIR names.
+//!
+//! ```
+//! use chroma::{fill, Kernel, Layout, Picture, Plane, Scratch, Upsampling};
+//!
+//! let (y, cb, cr) = ([230], [3], [128]);
+//! let picture = Picture::new(
+//!     Layout::new(1, 1, 1, 1),
+//!     Plane::new(&y, 1),
+//!     Plane::new(&cb, 1),
+//!     Plane::new(&cr, 1),
+//! )?;
+//! let mut rgb = [0; 3];
+//! fill(&picture, Upsampling::LumaGuided, Kernel::Exact, 3, &mut Scratch::new(), &mut rgb)?;
+//! assert_eq!(rgb, [230, 255, 9]);
+//! # Ok::<(), chroma::Refusal>(())
+//! ```
+#![deny(missing_docs)]
+#![deny(unsafe_code)]
+
+#[allow(unsafe_code)]
+mod ffi;
+mod picture;
+mod reader;
+mod refusal;
+
+pub use picture::{Layout, Picture, Plane, Scratch};
+pub use reader::Reader;
+pub use refusal::Refusal;
+
+/// How chroma is reconstructed.
+#[derive(Clone, Copy, Debug, PartialEq, Eq)]
+pub enum Upsampling {
+    /// Between cells, in a straight line.
+    Linear = 0,
+    /// Guided by luma.
+    LumaGuided = 1,
+}
+
+/// Which kernel makes the colour.
+#[derive(Clone, Copy, Debug, PartialEq, Eq)]
+pub enum Kernel {
+    /// T.871's equations, each colour rounded once.
+    Exact = 0,
+    /// 16-bit fixed point on whole chroma, for maxval 255.
+    FixedPoint16 = 1,
+}
+
+/// The picture's pixels into `out`, row by row, `size` bytes each (3 or 4): red, green, blue; a
+/// fourth byte keeps what it held. Refusals 4 (fixed kernel, maxval not 255), 8 and 10.
+///
+/// ```
+/// use chroma::{fill, Kernel, Layout, Picture, Plane, Refusal, Scratch, Upsampling};
+///
+/// let (y, cb, cr) = ([230; 2], [3; 2], [128; 2]);
+/// let picture = Picture::new(
+///     Layout::new(2, 1, 1, 1),
+///     Plane::new(&y, 2),
+///     Plane::new(&cb, 2),
+///     Plane::new(&cr, 2),
+/// )?;
+/// let mut scratch = Scratch::new();
+/// let mut rgba = [77; 8];
+/// fill(&picture, Upsampling::Linear, Kernel::FixedPoint16, 4, &mut scratch, &mut rgba)?;
+/// assert_eq!(rgba, [230, 255, 8, 77, 230, 255, 8, 77]);
+///
+/// let short = fill(&picture, Upsampling::Linear, Kernel::Exact, 4, &mut scratch, &mut rgba[..7]);
+/// assert_eq!(short, Err(Refusal::ShortOutput));
+/// # Ok::<(), Refusal>(())
+/// ```
+pub fn fill(
+    picture: &Picture,
+    upsampling: Upsampling,
+    kernel: Kernel,
+    size: usize,
+    scratch: &mut Scratch,
+    out: &mut [u8],
+) -> Result<(), Refusal> {
+    let layout = *picture.layout();
+    Refusal::check(ffi::fill(
+        layout,
+        picture.planes(),
+        (upsampling as u32, kernel as u32),
+        size,
+        scratch.of(&layout),
+        out,
+    ))
+}
+
+/// One whole chroma plane, interpolated linearly: `w * h` values into `out`, rounded halves up
+/// and limited to `0..=maxval`. Refusals 2, 3, 4, 5, 7 and 10.
+///
+/// ```
+/// use chroma::{linear_plane, Layout, Plane, Scratch};
+///
+/// let mut out = [0; 4];
+/// linear_plane(Layout::new(4, 1, 2, 1), Plane::new(&[0, 100], 2), &mut Scratch::new(), &mut out)?;
+/// assert_eq!(out, [0, 25, 75, 100]);
+/// # Ok::<(), chroma::Refusal>(())
+/// ```
+pub fn linear_plane(
+    layout: Layout,
+    plane: Plane,
+    scratch: &mut Scratch,
+    out: &mut [u16],
+) -> Result<(), Refusal> {
+    Refusal::check(ffi::linear_plane(layout, plane, scratch.of(&layout), out))
+}
+
+/// One whole chroma plane, guided by the luma plane `y`: `w * h` values into `out`, rounded and
+/// limited as those of [`linear_plane`]. Refusals 2, 3, 4, 5, 7 and 10.
+///
+/// ```
+/// use chroma::{guided_plane, Layout, Plane, Scratch};
+///
+/// let (y, cells) = ([10, 200, 30, 90], [77, 77]);
+/// let mut out = [0; 4];
+/// let layout = Layout::new(4, 1, 2, 1);
+/// guided_plane(layout, Plane::new(&y, 4), Plane::new(&cells, 2), &mut Scratch::new(), &mut out)?;
+/// assert_eq!(out, [77; 4]);
+/// # Ok::<(), chroma::Refusal>(())
+/// ```
+pub fn guided_plane(
+    layout: Layout,
+    y: Plane,
+    plane: Plane,
+    scratch: &mut Scratch,
+    out: &mut [u16],
+) -> Result<(), Refusal> {
+    Refusal::check(ffi::guided_plane(
+        layout,
+        y,
+        plane,
+        scratch.of(&layout),
+        out,
+    ))
+}
+
+/// One whole chroma plane, triangular, in whole numbers: `w * h` values into `out`. Refusals 2, 3,
+/// 4, 5, 6, 7 and 10.
+///
+/// ```
+/// use chroma::{triangular_plane, Layout, Plane, Refusal};
+///
+/// let mut out = [0; 6];
+/// triangular_plane(Layout::new(6, 1, 2, 1), Plane::new(&[0, 100, 200], 3), &mut out)?;
+/// assert_eq!(out, [0, 25, 75, 125, 175, 200]);
+///
+/// let narrow = triangular_plane(Layout::new(4, 1, 2, 1), Plane::new(&[0, 100], 2), &mut out);
+/// assert_eq!(narrow, Err(Refusal::NoTriangular));
+/// # Ok::<(), Refusal>(())
+/// ```
+pub fn triangular_plane(layout: Layout, plane: Plane, out: &mut [u16]) -> Result<(), Refusal> {
+    Refusal::check(ffi::triangular_plane(layout, plane, out))
+}
+
+fn colour(p: ffi::RawPixel) -> Result<[u8; 3], Refusal> {
+    Refusal::check(p.refusal)?;
+    Ok([p.r, p.g, p.b])
+}
+
+/// The colour of one pixel by the exact kernel: chroma in 256ths, samples in `0..=maxval`.
+/// Refusal 13.
+///
+/// ```
+/// assert_eq!(chroma::exact_pixel(230, 3 * 256, 128 * 256, 255), Ok([230, 255, 9]));
+/// ```
+pub fn exact_pixel(y: u32, cb256: u32, cr256: u32, maxval: u32) -> Result<[u8; 3], Refusal> {
+    colour(ffi::exact_pixel(y, cb256, cr256, maxval))
+}
+
+/// The colour of one pixel by the fixed kernel, for maxval 255: whole chroma. Refusal 13.
+///
+/// ```
+/// assert_eq!(chroma::fixed_pixel(230, 3, 128), Ok([230, 255, 8]));
+/// ```
+pub fn fixed_pixel(y: u32, cb: u32, cr: u32) -> Result<[u8; 3], Refusal> {
+    colour(ffi::fixed_pixel(y, cb, cr))
+}
+
+/// Three PGM images one after another (Y, Cb, Cr; maxval 255, width at most 128, 49,152 bytes in
+/// all) as a PPM, guided and exact. Refusals 14 and 15 as they are met, then 2 and 5.
+///
+/// ```
+/// let input = b"P5 1 1 255\n\xe6P5 1 1 255\n\x03P5 1 1 255\n\x80";
+/// assert_eq!(chroma::ppm(input).unwrap(), b"P6\n1 1\n255\n\xe6\xff\x09");
+/// assert_eq!(chroma::ppm(b"P4"), Err(chroma::Refusal::BadHeader));
+/// ```
+pub fn ppm(input: &[u8]) -> Result<Vec<u8>, Refusal> {
+    // Enough for any input that is accepted: include/chroma.h.
+    const SCRATCH: usize = 9_216;
+    const OUTPUT: usize = 147_472;
+    let mut out = vec![0; OUTPUT];
+    let written = ffi::picture(input, &mut vec![0.0; SCRATCH], &mut out);
+    Refusal::check(written.refusal)?;
+    out.truncate(written.len);
+    Ok(out)
+}

@@ -1,0 +1,145 @@
+//! What the calls are lent: layouts, planes, pictures and scratch.
+
+use crate::ffi::{self, Planes, RawReader};
+use crate::{Reader, Refusal};
+
+/// A picture's numbers. Any numbers may stand here; the calls look at them.
+#[derive(Clone, Copy, Debug, PartialEq, Eq)]
+pub struct Layout {
+    /// Width in pixels.
+    pub w: usize,
+    /// Height in pixels.
+    pub h: usize,
+    /// Pixels to a chroma cell across, 1 to 4.
+    pub rh: usize,
+    /// Pixels to a chroma cell down, 1 to 4.
+    pub rv: usize,
+    /// Chroma cells across: `w / rh` rounded up.
+    pub cw: usize,
+    /// Chroma cells down: `h / rv` rounded up.
+    pub ch: usize,
+    /// Bytes of a sample, 1 or 2; two are little-endian.
+    pub sample_bytes: usize,
+    /// The largest sample.
+    pub maxval: u32,
+}
+
+impl Layout {
+    /// `w` by `h` pixels, `rh` by `rv` of them to a cell, the chroma size that belongs to that,
+    /// and samples of one byte with maxval 255. (A ratio of 0 gives no cell, and is refused.)
+    ///
+    /// ```
+    /// let l = chroma::Layout::new(5, 4, 2, 2);
+    /// assert_eq!((l.cw, l.ch), (3, 2));
+    /// ```
+    pub fn new(w: usize, h: usize, rh: usize, rv: usize) -> Layout {
+        let cells = |n: usize, r: usize| if r == 0 { 0 } else { n.div_ceil(r) };
+        Layout {
+            w,
+            h,
+            rh,
+            rv,
+            cw: cells(w, rh),
+            ch: cells(h, rv),
+            sample_bytes: 1,
+            maxval: 255,
+        }
+    }
+
+    /// How many values scratch must hold; 0 where the sides are refused anyway.
+    fn scratch_need(&self) -> usize {
+        const SIDE: usize = 8_192;
+        if self.w <= SIDE && self.cw <= SIDE {
+            64 * self.cw + 8 * self.w
+        } else {
+            0
+        }
+    }
+}
+
+/// A plane's bytes, and how many bytes apart its rows begin.
+#[derive(Clone, Copy, Debug)]
+pub struct Plane<'a> {
+    /// The bytes; there may be more than the last row needs.
+    pub data: &'a [u8],
+    /// From one row's first byte to the next one's.
+    pub stride: usize,
+}
+
+impl<'a> Plane<'a> {
+    /// A plane of these bytes and this stride.
+    pub fn new(data: &'a [u8], stride: usize) -> Plane<'a> {
+        Plane { data, stride }
+    }
+}
+
+/// Working memory that calls share. Its content never shows in a result.
+#[derive(Clone, Debug, Default)]
+pub struct Scratch(Vec<f32>);
+
+impl Scratch {
+    /// Empty scratch; the calls enlarge it as they need.
+    pub fn new() -> Scratch {
+        Scratch::default()
+    }
+
+    /// As much as the layout needs, at least.
+    pub(crate) fn of(&mut self, layout: &Layout) -> &mut [f32] {
+        let need = layout.scratch_need();
+        if self.0.len() < need {
+            self.0.resize(need, 0.0);
+        }
+        &mut self.0
+    }
+}
+
+/// Three borrowed planes with sizes that were checked: no call on it is refused 2, 3, 5, 7 or 9.
+///
+/// ```
+/// use chroma::{Layout, Picture, Plane, Refusal};
+///
+/// let layout = Layout::new(2, 2, 2, 2);
+/// let (y, c) = ([10, 20, 30, 40], [128]);
+/// assert!(Picture::new(layout, Plane::new(&y, 2), Plane::new(&c, 1), Plane::new(&c, 1)).is_ok());
+///
+/// let short = Picture::new(layout, Plane::new(&y[..3], 2), Plane::new(&c, 1), Plane::new(&c, 1));
+/// assert_eq!(short.unwrap_err(), Refusal::BadPlane);
+/// ```
+#[derive(Clone, Copy, Debug)]
+pub struct Picture<'a> {
+    layout: Layout,
+    planes: Planes<'a>,
+}
+
+impl<'a> Picture<'a> {
+    /// The picture of these numbers and planes. Refusals 2, 3, 4, 5 and 7.
+    pub fn new(
+        layout: Layout,
+        y: Plane<'a>,
+        cb: Plane<'a>,
+        cr: Plane<'a>,
+    ) -> Result<Picture<'a>, Refusal> {
+        let planes = [y, cb, cr];
+        // With no scratch an open is always refused: 9 where nothing else is wrong.
+        let reply = ffi::open(layout, &planes, &[], RawReader::default());
+        match Refusal::check(reply.refusal) {
+            Err(Refusal::ShortScratch) => Ok(Picture { layout, planes }),
+            Err(refusal) => Err(refusal),
+            Ok(()) => unreachable!("an open with no scratch is refused"),
+        }
+    }
+
+    /// The picture's numbers.
+    pub fn layout(&self) -> &Layout {
+        &self.layout
+    }
+
+    pub(crate) fn planes(&self) -> &Planes<'a> {
+        &self.planes
+    }
+
+    /// A reader of this picture's guided rows, at row 0.
+    pub fn reader(&self) -> Reader<'a> {
+        Reader::open(*self, Scratch::new())
+    }
+}

@@ -1,0 +1,108 @@
+//! The reader of guided rows.
+
+use crate::ffi::{self, RawReader};
+use crate::{Picture, Refusal, Scratch};
+
+/// Reads rows of Cb and Cr, guided by luma, from the picture it borrows.
+///
+/// It owns its state and its scratch, and the planes can't change while it lives. So the premise
+/// of the library's theorem about lists of calls holds by construction: every row it gives is
+/// that of its picture and the row number alone, whatever was read, sought or refused before.
+///
+/// ```
+/// use chroma::{Layout, Picture, Plane, Refusal};
+///
+/// let y: Vec<u8> = (0..12).map(|i| 20 * i).collect();
+/// let (cb, cr) = ([90, 90], [200, 200]);
+/// let picture = Picture::new(
+///     Layout::new(4, 3, 2, 3),
+///     Plane::new(&y, 4),
+///     Plane::new(&cb, 2),
+///     Plane::new(&cr, 2),
+/// )?;
+/// let mut reader = picture.reader();
+/// let (mut row_cb, mut row_cr) = ([0.0; 4], [0.0; 4]);
+///
+/// // Guided with constant chroma returns that constant.
+/// reader.row(2, &mut row_cb, &mut row_cr)?;
+/// assert_eq!((row_cb, row_cr), ([90.0; 4], [200.0; 4]));
+///
+/// // Back only by a seek.
+/// assert_eq!(reader.row(1, &mut row_cb, &mut row_cr), Err(Refusal::RowPassed));
+/// reader.seek(0)?;
+/// reader.row(1, &mut row_cb, &mut row_cr)?;
+/// assert_eq!(reader.place(), 1);
+/// # Ok::<(), Refusal>(())
+/// ```
+///
+/// The planes stay borrowed while the reader lives:
+///
+/// ```compile_fail,E0502
+/// use chroma::{Layout, Picture, Plane};
+///
+/// let mut y = [10, 20];
+/// let c = [128, 128];
+/// let (a, b) = (Plane::new(&c, 2), Plane::new(&c, 2));
+/// let picture = Picture::new(Layout::new(2, 1, 1, 1), Plane::new(&y, 2), a, b).unwrap();
+/// let mut reader = picture.reader();
+/// y.fill(0);
+/// reader.seek(0).unwrap();
+/// ```
+#[derive(Debug)]
+pub struct Reader<'a> {
+    picture: Picture<'a>,
+    scratch: Scratch,
+    state: RawReader,
+}
+
+impl<'a> Reader<'a> {
+    pub(crate) fn open(picture: Picture<'a>, mut scratch: Scratch) -> Reader<'a> {
+        let layout = *picture.layout();
+        let reply = ffi::open(
+            layout,
+            picture.planes(),
+            scratch.of(&layout),
+            RawReader::default(),
+        );
+        Refusal::check(reply.refusal).expect("the picture was checked, and scratch suffices");
+        Reader {
+            picture,
+            scratch,
+            state: reply.reader,
+        }
+    }
+
+    /// A reader of another picture, at its row 0, with this one's scratch.
+    pub fn reopen<'b>(self, picture: &Picture<'b>) -> Reader<'b> {
+        Reader::open(*picture, self.scratch)
+    }
+
+    /// The picture that it reads.
+    pub fn picture(&self) -> &Picture<'a> {
+        &self.picture
+    }
+
+    /// The row that it is at: the last one sought or given, 0 at first.
+    pub fn place(&self) -> usize {
+        self.state.place
+    }
+
+    /// Moves to any row, back as well. Refusal 11.
+    pub fn seek(&mut self, row: usize) -> Result<(), Refusal> {
+        let reply = ffi::seek(self.state, row);
+        Refusal::check(reply.refusal)?;
+        self.state = reply.reader;
+        Ok(())
+    }
+
+    /// Row `row` of Cb and of Cr into the first `w` values of `cb` and of `cr`. The row may be
+    /// the place or any after it. Refusals 10, 11 and 12, after which everything is as it was.
+    pub fn row(&mut self, row: usize, cb: &mut [f32], cr: &mut [f32]) -> Result<(), Refusal> {
+        let layout = *self.picture.layout();
+        let scratch = self.scratch.of(&layout);
+        let reply = ffi::row(self.state, self.picture.planes(), row, scratch, cb, cr);
+        Refusal::check(reply.refusal)?;
+        self.state = reply.reader;
+        Ok(())
+    }
+}

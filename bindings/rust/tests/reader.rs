@@ -1,0 +1,187 @@
+//! The reader against the whole planes, over many orders of calls, and over one scratch.
+
+use chroma::{guided_plane, Layout, Picture, Plane, Reader, Refusal, Scratch};
+
+/// A plane's bytes, other ones for each seed, with two bytes behind each row.
+fn bytes(seed: u32, w: usize, h: usize) -> Vec<u8> {
+    let mut x = seed.wrapping_mul(2_654_435_761).wrapping_add(1);
+    (0..(w + 2) * h)
+        .map(|_| {
+            x = x.wrapping_mul(1_664_525).wrapping_add(1_013_904_223);
+            (x >> 24) as u8
+        })
+        .collect()
+}
+
+struct Case {
+    layout: Layout,
+    planes: [Vec<u8>; 3],
+    whole: [Vec<u16>; 2],
+}
+
+impl Case {
+    fn new(seed: u32, w: usize, h: usize, rh: usize, rv: usize) -> Case {
+        let layout = Layout::new(w, h, rh, rv);
+        let (cw, ch) = (layout.cw, layout.ch);
+        let planes = [
+            bytes(seed, w, h),
+            bytes(seed + 1, cw, ch),
+            bytes(seed + 2, cw, ch),
+        ];
+        let whole = [1, 2].map(|k| {
+            let mut out = vec![0; w * h];
+            let (y, c) = (
+                Plane::new(&planes[0], w + 2),
+                Plane::new(&planes[k], cw + 2),
+            );
+            guided_plane(layout, y, c, &mut Scratch::new(), &mut out).unwrap();
+            out
+        });
+        Case {
+            layout,
+            planes,
+            whole,
+        }
+    }
+
+    fn picture(&self) -> Picture<'_> {
+        let [y, cb, cr] = &self.planes;
+        let (w, cw) = (self.layout.w + 2, self.layout.cw + 2);
+        Picture::new(
+            self.layout,
+            Plane::new(y, w),
+            Plane::new(cb, cw),
+            Plane::new(cr, cw),
+        )
+        .unwrap()
+    }
+
+    /// The row that the reader gives, rounded, is the plane's; what stands behind it is untouched.
+    fn reads(&self, reader: &mut Reader, row: usize) {
+        let w = self.layout.w;
+        let mut rows = [vec![-7.0; w + 1], vec![-7.0; w + 1]];
+        let [cb, cr] = &mut rows;
+        reader.row(row, cb, cr).unwrap();
+        assert_eq!(reader.place(), row);
+        for (row_given, whole) in rows.iter().zip(&self.whole) {
+            let rounded: Vec<u16> = row_given[..w]
+                .iter()
+                .map(|v| (v + 0.5).floor() as u16)
+                .collect();
+            assert_eq!(rounded, whole[row * w..row * w + w], "row {row}");
+            assert_eq!(row_given[w], -7.0);
+        }
+    }
+}
+
+#[test]
+fn rows_in_any_order_over_one_scratch() {
+    let first = Case::new(1, 7, 9, 2, 2);
+    let mut reader = first.picture().reader();
+    for row in [0, 0, 3, 8] {
+        first.reads(&mut reader, row);
+    }
+    let mut cases = Vec::new();
+    for (n, &(rh, rv)) in [(1, 1), (2, 1), (1, 2), (2, 2), (3, 4), (4, 3)]
+        .iter()
+        .enumerate()
+    {
+        cases.push(Case::new(10 * n as u32, 11, 13, rh, rv));
+    }
+    for case in &cases {
+        reader = reader.reopen(&case.picture());
+        for (from, row) in [(0, 5), (9, 12), (2, 2), (2, 3), (12, 12), (0, 0)] {
+            reader.seek(from).unwrap();
+            case.reads(&mut reader, row);
+        }
+    }
+}
+
+#[test]
+fn a_refused_call_changes_nothing() {
+    let case = Case::new(5, 6, 6, 2, 2);
+    let mut reader = case.picture().reader();
+    case.reads(&mut reader, 3);
+    let (mut cb, mut cr) = ([-1.0; 6], [-1.0; 6]);
+    assert_eq!(reader.row(2, &mut cb, &mut cr), Err(Refusal::RowPassed));
+    assert_eq!(reader.row(6, &mut cb, &mut cr), Err(Refusal::BadRow));
+    assert_eq!(
+        reader.row(4, &mut cb, &mut cr[..5]),
+        Err(Refusal::ShortOutput)
+    );
+    assert_eq!(reader.row(4, &mut [], &mut []), Err(Refusal::ShortOutput));
+    assert_eq!(reader.seek(6), Err(Refusal::BadRow));
+    assert_eq!(reader.seek(usize::MAX), Err(Refusal::BadRow));
+    assert_eq!((cb, cr), ([-1.0; 6], [-1.0; 6]));
+    assert_eq!(reader.place(), 3);
+    case.reads(&mut reader, 4);
+}
+
+#[test]
+fn pictures_are_checked() {
+    let data = [0u8; 64];
+    let new = |layout: Layout, stride: usize| {
+        let p = Plane::new(&data, stride);
+        Picture::new(layout, p, p, p)
+            .map(|_| ())
+            .map_err(Refusal::number)
+    };
+    let good = Layout::new(8, 8, 2, 2);
+    assert_eq!(new(good, 8), Ok(()));
+    assert_eq!(new(Layout { w: 0, ..good }, 8), Err(2));
+    assert_eq!(new(Layout { h: 8_193, ..good }, 8), Err(2));
+    assert_eq!(
+        new(
+            Layout {
+                w: usize::MAX,
+                ..good
+            },
+            8
+        ),
+        Err(2)
+    );
+    assert_eq!(new(Layout { rh: 5, ..good }, 8), Err(3));
+    assert_eq!(new(Layout::new(8, 8, 0, 2), 8), Err(3));
+    assert_eq!(
+        new(
+            Layout {
+                maxval: 256,
+                ..good
+            },
+            8
+        ),
+        Err(4)
+    );
+    assert_eq!(
+        new(
+            Layout {
+                sample_bytes: 3,
+                ..good
+            },
+            8
+        ),
+        Err(4)
+    );
+    assert_eq!(
+        new(
+            Layout {
+                cw: usize::MAX,
+                ..good
+            },
+            8
+        ),
+        Err(5)
+    );
+    assert_eq!(new(good, 7), Err(7));
+    assert_eq!(new(good, 9), Err(7));
+    assert_eq!(new(good, usize::MAX), Err(7));
+}
+
+#[test]
+fn refusals_have_words_and_numbers() {
+    let refusal = chroma::ppm(&[0; 50_000]).unwrap_err();
+    assert_eq!(
+        refusal.to_string(),
+        "refused 15: size limits passed, or rows missing"
+    );
+}

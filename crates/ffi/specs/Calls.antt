@@ -1,0 +1,103 @@
+-- What the calls for C promise: the Rattle calls' own records, of the values that C's stand for. Definitions only.
+use mathlib.Core.Path.{_≡_}
+use mathlib.Core.Bool.{Bool, true, false, _||_, cond}
+use mathlib.Core.List.{List}
+use Prim.Native.Nat.{ℕ}
+use lib.Dec.{eqb, ltb}
+use Rattle.laws.specs.declared.Answer.{Answer}
+use Rattle.laws.specs.Refusals.{accepted}
+use Rattle.image.specs.Samples.{Plane}
+use Rattle.image.specs.Picture.{Planes}
+use Rattle.guided.specs.declared.state.Reply.{Reply}
+use Rattle.convert.specs.declared.Pixel.{Pixel}
+use Rattle.convert.specs.declared.Pixel.the-variants as P
+use Rattle.colour_rows.specs.declared.YcbcrKernel.{YcbcrKernel}
+use Rattle.colour_rows.specs.declared.YcbcrKernel.the-variants.{Exact, FixedPoint16}
+use Rattle.fill.specs.declared.ChromaUpsampling.{ChromaUpsampling}
+use Rattle.fill.specs.declared.ChromaUpsampling.the-variants.{Linear, LumaGuided}
+use Rattle.picture.specs.declared.Outcome.{Outcome}
+use Rattle.picture.specs.declared.Outcome.the-variants.{Written, Refused}
+use Rattle.ffi.specs.declared.forms.ChromaStrides.{ChromaStrides}
+use Rattle.ffi.specs.declared.forms.ChromaReader.{ChromaReader}
+use Rattle.ffi.specs.declared.forms.ChromaReply.{ChromaReply}
+use Rattle.ffi.specs.declared.forms.ChromaPixel.{ChromaPixel}
+use Rattle.ffi.specs.declared.forms.ChromaWritten.{ChromaWritten}
+use Rattle.ffi.specs.Forms.{numberOf, chromaReader, strangePhases}
+
+-- ---- numbers for answers
+
+-- a number that stands for the answer of a call of which `Given` holds
+pub record Answered (Given : Answer → Type 0) (r : ℕ) : Type 0 where
+  pub answer : Answer
+  pub given : Given answer
+  pub number : r ≡ numberOf answer
+
+-- ---- the reader
+
+-- a reply in C's form: the number of its answer, and its state; a refused call hands back what it was handed
+unfoldable pub replyTo : ChromaReader → Reply → ChromaReply
+replyTo handed p = record { refusal = numberOf (p .answer); reader = cond (accepted (p .answer)) (chromaReader (p .reader)) handed }
+
+-- a reply that stands for the Rattle call's, of which `Given` holds
+pub record Replied (handed : ChromaReader) (Given : Reply → Type 0) (r : ChromaReply) : Type 0 where
+  pub reply : Reply
+  pub given : Given reply
+  pub is : r ≡ replyTo handed reply
+
+-- the same, where the state is looked at: 1 for one that stands for none, with nothing changed (`Kept`)
+pub record Checked (handed : ChromaReader) (Kept : Type 0) (Given : Reply → Type 0) (r : ChromaReply) : Type 0 where
+  pub strange : strangePhases handed ≡ true → (r ≡ record { refusal = 1; reader = handed }) × Kept
+  pub plain : strangePhases handed ≡ false → Replied handed Given r
+
+-- ---- planes
+
+-- the planes that a call is lent, and one of them
+abbrev pub lentPlane : List ℕ → ℕ → Plane
+lentPlane bytes stride = record { bytes = bytes; stride = stride }
+
+abbrev pub lentPlanes : List ℕ → List ℕ → List ℕ → ChromaStrides → Planes
+lentPlanes y cb cr strides = record { y = lentPlane y (strides .y); cb = lentPlane cb (strides .cb); cr = lentPlane cr (strides .cr) }
+
+-- ---- fill
+
+abbrev pub pickUpsampling : Bool → ChromaUpsampling → ChromaUpsampling → ChromaUpsampling
+pickUpsampling true a b = a
+pickUpsampling false a b = b
+
+abbrev pub pickKernel : Bool → YcbcrKernel → YcbcrKernel → YcbcrKernel
+pickKernel true a b = a
+pickKernel false a b = b
+
+-- 0 linear, 1 guided
+unfoldable pub asUpsampling : ℕ → ChromaUpsampling
+asUpsampling n = pickUpsampling (eqb n 1) LumaGuided Linear
+
+-- 0 exact, 1 fixed
+unfoldable pub asKernel : ℕ → YcbcrKernel
+asKernel n = pickKernel (eqb n 1) FixedPoint16 Exact
+
+-- another number than 0 and 1 stands for no way to fill
+unfoldable pub noSuchWay : ℕ → ℕ → Bool
+noSuchWay upsampling kernel = ltb 1 upsampling || ltb 1 kernel
+
+-- what `chroma_fill` promises: 255, before all else and with nothing changed, where a switch stands for none; else `fill`'s answer by its number
+pub record Filled (upsampling kernel : ℕ) (Kept : Type 0) (Given : ChromaUpsampling → YcbcrKernel → Answer → Type 0) (r : ℕ) : Type 0 where
+  pub strange : noSuchWay upsampling kernel ≡ true → (r ≡ 255) × Kept
+  pub plain : noSuchWay upsampling kernel ≡ false → Answered (Given (asUpsampling upsampling) (asKernel kernel)) r
+
+-- ---- pixels and the picture
+
+-- the paper's number and no colour, or 0 and the colour
+abbrev pub chromaPixel : Pixel → ChromaPixel
+chromaPixel (P.Rgb r g b) = record { refusal = 0; r = r; g = g; b = b }
+chromaPixel (P.Refused n) = record { refusal = n; r = 0; g = 0; b = 0 }
+
+abbrev pub chromaWritten : Outcome → ChromaWritten
+chromaWritten (Written n) = record { refusal = 0; len = n }
+chromaWritten (Refused k) = record { refusal = k; len = 0 }
+
+-- what `chroma_picture` promises
+pub record Pictured (Given : Outcome → Type 0) (r : ChromaWritten) : Type 0 where
+  pub outcome : Outcome
+  pub given : Given outcome
+  pub is : r ≡ chromaWritten outcome

@@ -1,0 +1,210 @@
+/* Chroma reconstruction and colour conversion: from Y, Cb and Cr planes to RGB.
+ *
+ * Every function here is proved to meet a contract (crates/ffi, over crates/reconstruction
+ * and crates/picture). It answers for everything it can be handed: any number, any content of
+ * a slice or of a state. It reads and writes nothing outside the slices it is lent, keeps
+ * nothing between calls, allocates nothing, and always returns. A call that is refused
+ * changes no slice.
+ *
+ * Link target/staticlib/libffi.a, which `rt staticlib ffi` writes (x86-64).
+ *
+ * What a caller must keep, since no proof can see it:
+ *   - A slice is a pointer and, right behind it, how many elements it has (not bytes). The
+ *     pointer is aligned as its type asks, and valid for that many elements throughout the call.
+ *     Nothing is read or written through the pointer of a slice of length 0; it may be NULL.
+ *   - A slice that is written (no `const`) overlaps no other slice of the call, and nothing
+ *     else reads or writes it during the call. Slices that are only read may overlap.
+ *   - Two-byte samples are little-endian.
+ *   - For rows that belong to the opened picture: hand chroma_seek and chroma_row the state
+ *     that the last accepted call gave, and chroma_row the planes that were opened and the
+ *     scratch as the last accepted chroma_row left it. Other states, scratch and planes are
+ *     safe too; the rows are then not those of the opened picture.
+ *
+ * A slice may be longer than needed; its surplus is untouched. Samples above maxval are taken
+ * as they are.
+ */
+#ifndef CHROMA_H
+#define CHROMA_H
+
+#include <stddef.h>
+#include <stdint.h>
+
+#ifdef __cplusplus
+extern "C" {
+#endif
+
+/* What a call answers. The lowest number that applies is given, except that chroma_picture
+ * has its own order and 255 comes before all else. */
+enum ChromaRefusal {
+    CHROMA_ACCEPTED = 0,
+    CHROMA_BAD_STATE = 1,     /* a state that open, seek or row never leaves; a phase whose left
+                                 is neither 0 nor 1 is one */
+    CHROMA_BAD_SIZE = 2,      /* width or height 0 or over 8192 */
+    CHROMA_BAD_RATIO = 3,     /* a ratio outside 1..4 */
+    CHROMA_BAD_SAMPLES = 4,   /* sample_bytes not 1 or 2, or maxval outside 1..255 (1..65535 for
+                                 2 bytes), or the fixed kernel with maxval not 255 */
+    CHROMA_BAD_CHROMA = 5,    /* cw not w / rh rounded up, or ch not h / rv rounded up */
+    CHROMA_NO_TRIANGULAR = 6, /* triangular with (rh, rv) not (2,1), (1,2) or (2,2), or with rh 2
+                                 and cw at most 2 */
+    CHROMA_BAD_PLANE = 7,     /* a stride below its row's bytes, or a plane that ends before its
+                                 last row does */
+    CHROMA_BAD_PIXEL_SIZE = 8, /* pixel size not 3 or 4 */
+    CHROMA_SHORT_SCRATCH = 9, /* scratch shorter than chroma_scratch_need */
+    CHROMA_SHORT_OUTPUT = 10, /* an output too short */
+    CHROMA_BAD_ROW = 11,      /* a row at or past the height */
+    CHROMA_ROW_PASSED = 12,   /* a row before the reader's place: seek first */
+    CHROMA_BAD_PIXEL = 13,    /* luma or whole chroma over 65535, chroma in 256ths over 16776960,
+                                 or maxval outside 1..65535 */
+    CHROMA_BAD_HEADER = 14,   /* a PGM header that is not one, or bytes left over */
+    CHROMA_TOO_LARGE = 15,    /* the picture call's size limits passed, or rows missing */
+    CHROMA_NO_SUCH_WAY = 255  /* chroma_fill: a switch that is neither 0 nor 1 */
+};
+
+/* A picture's numbers: w by h pixels, rh by rv of them to a chroma cell, cw by ch cells, bytes
+ * of a sample, and the largest sample. */
+typedef struct ChromaLayout {
+    size_t w, h;
+    size_t rh, rv;
+    size_t cw, ch;
+    size_t sample_bytes;
+    uint32_t maxval;
+} ChromaLayout;
+
+/* How many bytes apart the rows of each plane begin. */
+typedef struct ChromaStrides {
+    size_t y, cb, cr;
+} ChromaStrides;
+
+/* How a pixel of a cell goes across: from the left neighbour (left 1) or its own cell (0), and
+ * how far. */
+typedef struct ChromaPhase {
+    uint32_t left;
+    float f;
+} ChromaPhase;
+
+/* A reader's state. Keep it as it was given; there is nothing to free. */
+typedef struct ChromaReader {
+    size_t w, h;
+    size_t rh, rv;
+    size_t cw, ch;
+    ChromaPhase phases[4];
+    size_t sample_bytes;
+    uint32_t maxval;
+    size_t place;  /* the row that the reader is at */
+    size_t h_next; /* the next chroma row to sum across, and the next to finish */
+    size_t f_next;
+} ChromaReader;
+
+/* A refusal (CHROMA_ACCEPTED for none) and the state afterwards. A refused call gives back
+ * the state it was handed. */
+typedef struct ChromaReply {
+    uint32_t refusal;
+    ChromaReader reader;
+} ChromaReply;
+
+/* A refusal and a colour, 0, 0, 0 where the call was refused. */
+typedef struct ChromaPixel {
+    uint32_t refusal;
+    uint8_t r, g, b;
+} ChromaPixel;
+
+/* A refusal and how many bytes were written, 0 where the call was refused. */
+typedef struct ChromaWritten {
+    uint32_t refusal;
+    size_t len;
+} ChromaWritten;
+
+/* How many floats of scratch every call with a `scratch` asks for (chroma_picture too, where
+ * CHROMA_PICTURE_SCRATCH always suffices). Scratch may hold anything at first. */
+static inline size_t chroma_scratch_need(size_t cw, size_t w) {
+    return 64 * cw + 8 * w;
+}
+
+/* Enough for any input that chroma_picture accepts: bytes of input, floats, bytes of output. */
+#define CHROMA_PICTURE_INPUT 49152
+#define CHROMA_PICTURE_SCRATCH 9216
+#define CHROMA_PICTURE_OUTPUT 147472
+
+/* Opens a picture: gives its reader at row 0. `scratch` is the slice that the row calls will
+ * be lent; only its length is looked at. `reader` may hold anything, and comes back where the
+ * call is refused. Refusals 2, 3, 4, 5, 7, 9. */
+ChromaReply chroma_open(ChromaLayout layout,
+                        const uint8_t *y, size_t y_len,
+                        const uint8_t *cb, size_t cb_len,
+                        const uint8_t *cr, size_t cr_len,
+                        ChromaStrides strides,
+                        const float *scratch, size_t scratch_len,
+                        ChromaReader reader);
+
+/* Moves a reader to any row of its picture, back as well. Refusals 1, 11. */
+ChromaReply chroma_seek(ChromaReader reader, size_t row);
+
+/* Row `row` of Cb and of Cr, guided by luma: the first w values of out_cb and of out_cr. The
+ * row may be the reader's place or any after it; the place is then that row. The row follows
+ * from the picture and the row number alone, whatever was read before.
+ * Refusals 1, 7, 9, 10 (either output shorter than w), 11, 12. */
+ChromaReply chroma_row(ChromaReader reader,
+                       const uint8_t *y, size_t y_len,
+                       const uint8_t *cb, size_t cb_len,
+                       const uint8_t *cr, size_t cr_len,
+                       ChromaStrides strides,
+                       size_t row,
+                       float *scratch, size_t scratch_len,
+                       float *out_cb, size_t out_cb_len,
+                       float *out_cr, size_t out_cr_len);
+
+/* One whole chroma plane, interpolated linearly: w * h values into out, rounded halves up and
+ * limited to 0..maxval. Refusals 2, 3, 4, 5, 7, 9, 10. */
+uint32_t chroma_linear_plane(ChromaLayout layout,
+                             const uint8_t *plane, size_t plane_len, size_t stride,
+                             float *scratch, size_t scratch_len,
+                             uint16_t *out, size_t out_len);
+
+/* One whole chroma plane, guided by luma: w * h values into out, rounded and limited as above.
+ * Refusals 2, 3, 4, 5, 7, 9, 10. */
+uint32_t chroma_guided_plane(ChromaLayout layout,
+                             const uint8_t *y, size_t y_len, size_t y_stride,
+                             const uint8_t *plane, size_t plane_len, size_t stride,
+                             float *scratch, size_t scratch_len,
+                             uint16_t *out, size_t out_len);
+
+/* One whole chroma plane, triangular, in whole numbers: w * h values into out.
+ * Refusals 2, 3, 4, 5, 6, 7, 10. */
+uint32_t chroma_triangular_plane(ChromaLayout layout,
+                                 const uint8_t *plane, size_t plane_len, size_t stride,
+                                 uint16_t *out, size_t out_len);
+
+/* The picture's w * h pixels into out, row by row, `size` bytes each (3 or 4): red, green,
+ * blue; a fourth byte keeps what it held. `upsampling`: 0 linear, 1 guided. `kernel`: 0 exact,
+ * 1 fixed (maxval 255). Refusals 255 (either is another number), then 2, 3, 4, 5, 7, 8, 9,
+ * 10 (out shorter than w * h * size). */
+uint32_t chroma_fill(ChromaLayout layout,
+                     const uint8_t *y, size_t y_len,
+                     const uint8_t *cb, size_t cb_len,
+                     const uint8_t *cr, size_t cr_len,
+                     ChromaStrides strides,
+                     uint32_t upsampling,
+                     uint32_t kernel,
+                     size_t size,
+                     float *scratch, size_t scratch_len,
+                     uint8_t *out, size_t out_len);
+
+/* The colour of one pixel by the exact kernel: chroma in 256ths, samples in 0..maxval.
+ * Refusal 13. */
+ChromaPixel chroma_exact_pixel(uint32_t y, uint32_t cb256, uint32_t cr256, uint32_t maxval);
+
+/* The colour of one pixel by the fixed kernel, for maxval 255: whole chroma. Refusal 13. */
+ChromaPixel chroma_fixed_pixel(uint32_t y, uint32_t cb, uint32_t cr);
+
+/* Three PGM images one after another (Y, Cb, Cr; maxval 255, width at most 128, 49152 bytes in
+ * all) to a PPM at the front of out, guided and exact; gives the PPM's length.
+ * Refusals 14 and 15 as they are met, then 2, 5, 9 and 10, in this order. */
+ChromaWritten chroma_picture(const uint8_t *input, size_t input_len,
+                             float *scratch, size_t scratch_len,
+                             uint8_t *out, size_t out_len);
+
+#ifdef __cplusplus
+}
+#endif
+
+#endif

@@ -1,0 +1,545 @@
+/* Calls every function of include/chroma.h: document 01's examples, refusals, and what may not
+ * be touched. Compiles as C11 and as C++. Prints each check that fails; status 1 if any did. */
+#include "chroma.h"
+
+#include <stdio.h>
+#include <stdlib.h>
+#include <string.h>
+
+static int checks;
+static int failures;
+
+#define CHECK(what)                                                                   \
+    do {                                                                              \
+        checks++;                                                                     \
+        if (!(what)) {                                                                \
+            failures++;                                                               \
+            printf("%s:%d: failed: %s\n", __FILE__, __LINE__, #what);                 \
+        }                                                                             \
+    } while (0)
+
+#define SAME(found, wanted)                                                           \
+    do {                                                                              \
+        unsigned long long f_ = (unsigned long long)(found);                          \
+        unsigned long long w_ = (unsigned long long)(wanted);                         \
+        checks++;                                                                     \
+        if (f_ != w_) {                                                               \
+            failures++;                                                               \
+            printf("%s:%d: failed: %s is %llu, not %llu\n", __FILE__, __LINE__, #found, f_, w_); \
+        }                                                                             \
+    } while (0)
+
+/* ---- slices with canaries round them */
+
+enum { GUARD = 64, SLICES = 64 };
+static struct {
+    unsigned char *block;
+    size_t bytes;
+} slices[SLICES];
+static size_t slice_count;
+
+static void *lend(size_t bytes) {
+    unsigned char *block = (unsigned char *)malloc(bytes + 2 * GUARD);
+    if (block == NULL || slice_count == SLICES) {
+        printf("no room for another slice\n");
+        exit(2);
+    }
+    memset(block, 0xA5, bytes + 2 * GUARD);
+    slices[slice_count].block = block;
+    slices[slice_count].bytes = bytes;
+    slice_count++;
+    return block + GUARD;
+}
+
+static uint8_t *lend_bytes(size_t n) { return (uint8_t *)lend(n); }
+static uint16_t *lend_values(size_t n) { return (uint16_t *)lend(2 * n); }
+static float *lend_floats(size_t n) { return (float *)lend(4 * n); }
+
+/* Every canary still stands; the slices are given back. */
+static void end_slices(void) {
+    for (size_t k = 0; k < slice_count; k++) {
+        const unsigned char *front = slices[k].block;
+        const unsigned char *back = front + GUARD + slices[k].bytes;
+        int whole = 1;
+        for (size_t i = 0; i < GUARD; i++)
+            whole = whole && front[i] == 0xA5 && back[i] == 0xA5;
+        CHECK(whole);
+        free(slices[k].block);
+    }
+    slice_count = 0;
+}
+
+static int untouched(const void *p, size_t bytes) {
+    const unsigned char *b = (const unsigned char *)p;
+    for (size_t i = 0; i < bytes; i++)
+        if (b[i] != 0xA5)
+            return 0;
+    return 1;
+}
+
+/* ---- layouts and states */
+
+static ChromaLayout layout_of(size_t w, size_t h, size_t rh, size_t rv, size_t cw, size_t ch) {
+    ChromaLayout l;
+    l.w = w, l.h = h, l.rh = rh, l.rv = rv, l.cw = cw, l.ch = ch;
+    l.sample_bytes = 1;
+    l.maxval = 255;
+    return l;
+}
+
+static ChromaStrides strides_of(size_t y, size_t cb, size_t cr) {
+    ChromaStrides s;
+    s.y = y, s.cb = cb, s.cr = cr;
+    return s;
+}
+
+/* A state of any content: every byte the same. */
+static ChromaReader garbage(int byte) {
+    ChromaReader r;
+    memset(&r, byte, sizeof r);
+    return r;
+}
+
+/* The same state bit for bit, not-a-numbers too. */
+static int same_state(const ChromaReader *a, const ChromaReader *b) {
+    int same = a->w == b->w && a->h == b->h && a->rh == b->rh && a->rv == b->rv
+        && a->cw == b->cw && a->ch == b->ch && a->sample_bytes == b->sample_bytes
+        && a->maxval == b->maxval && a->place == b->place && a->h_next == b->h_next
+        && a->f_next == b->f_next;
+    for (int k = 0; k < 4; k++)
+        same = same && memcmp(&a->phases[k], &b->phases[k], sizeof(ChromaPhase)) == 0;
+    return same;
+}
+
+/* ---- single pixels */
+
+static void pixel_is(ChromaPixel p, uint32_t refusal, int r, int g, int b) {
+    SAME(p.refusal, refusal);
+    SAME(p.r, r);
+    SAME(p.g, g);
+    SAME(p.b, b);
+}
+
+static void test_pixels(void) {
+    pixel_is(chroma_exact_pixel(230, 3 * 256, 128 * 256, 255), 0, 230, 255, 9);
+    pixel_is(chroma_exact_pixel(10, 253 * 256, 128 * 256, 255), 0, 10, 0, 232);
+    pixel_is(chroma_exact_pixel(2048, 2048 * 256, 2048 * 256, 4095), 0, 128, 128, 128);
+    pixel_is(chroma_exact_pixel(0, 32768, 65545, 255), 0, 179, 0, 0);
+    pixel_is(chroma_exact_pixel(65535, 0, 0, 65535), 0, 76, 255, 29);
+    pixel_is(chroma_exact_pixel(65536, 0, 0, 255), 13, 0, 0, 0);
+    pixel_is(chroma_exact_pixel(0, 16776961, 0, 255), 13, 0, 0, 0);
+    pixel_is(chroma_exact_pixel(0, 0, 16776961, 255), 13, 0, 0, 0);
+    pixel_is(chroma_exact_pixel(0, 0, 0, 0), 13, 0, 0, 0);
+    pixel_is(chroma_exact_pixel(0, 0, 0, 65536), 13, 0, 0, 0);
+    pixel_is(chroma_exact_pixel(UINT32_MAX, UINT32_MAX, UINT32_MAX, UINT32_MAX), 13, 0, 0, 0);
+    pixel_is(chroma_fixed_pixel(230, 3, 128), 0, 230, 255, 8);
+    pixel_is(chroma_fixed_pixel(65536, 0, 0), 13, 0, 0, 0);
+    pixel_is(chroma_fixed_pixel(0, 65536, 0), 13, 0, 0, 0);
+    pixel_is(chroma_fixed_pixel(0, 0, 65536), 13, 0, 0, 0);
+}
+
+/* ---- whole planes */
+
+static void values_are(const uint16_t *found, const int *wanted, size_t n) {
+    for (size_t i = 0; i < n; i++)
+        SAME(found[i], wanted[i]);
+}
+
+static void test_linear_plane(void) {
+    static const int wanted[] = {0, 25, 75, 100};
+    ChromaLayout l = layout_of(4, 1, 2, 1, 2, 1);
+    size_t need = chroma_scratch_need(l.cw, l.w);
+    uint8_t *plane = lend_bytes(2);
+    float *scratch = lend_floats(need);
+    uint16_t *out = lend_values(5);
+    plane[0] = 0, plane[1] = 100;
+    SAME(need, 160);
+
+    SAME(chroma_linear_plane(l, plane, 2, 2, scratch, need - 1, out, 5), 9);
+    SAME(chroma_linear_plane(l, plane, 2, 2, scratch, need, out, 3), 10);
+    SAME(chroma_linear_plane(l, plane, 2, 1, scratch, need, out, 5), 7);
+    SAME(chroma_linear_plane(l, NULL, 0, 2, NULL, 0, NULL, 0), 7);
+    l.cw = 3;
+    SAME(chroma_linear_plane(l, plane, 2, 2, scratch, need, out, 5), 5);
+    l.maxval = 256;
+    SAME(chroma_linear_plane(l, plane, 2, 2, scratch, need, out, 5), 4);
+    l.rh = 5;
+    SAME(chroma_linear_plane(l, plane, 2, 2, scratch, need, out, 5), 3);
+    l.w = 0;
+    SAME(chroma_linear_plane(l, plane, 2, 2, scratch, need, out, 5), 2);
+    l = layout_of(4, 1, 2, 1, 2, 1);
+    CHECK(untouched(scratch, 4 * need));
+    CHECK(untouched(out, 10));
+
+    SAME(chroma_linear_plane(l, plane, 2, 2, scratch, need, out, 5), 0);
+    values_are(out, wanted, 4);
+    CHECK(untouched(out + 4, 2));
+    end_slices();
+}
+
+static void test_triangular_plane(void) {
+    static const int across[] = {0, 25, 75, 125, 175, 200};
+    static const int down[] = {0, 1, 1, 2};
+    ChromaLayout l = layout_of(6, 1, 2, 1, 3, 1);
+    uint8_t *plane = lend_bytes(3);
+    uint16_t *out = lend_values(7);
+    plane[0] = 0, plane[1] = 100, plane[2] = 200;
+
+    SAME(chroma_triangular_plane(layout_of(4, 1, 2, 1, 2, 1), plane, 3, 3, out, 7), 6);
+    SAME(chroma_triangular_plane(l, plane, 2, 3, out, 7), 7);
+    SAME(chroma_triangular_plane(l, plane, 3, 3, out, 5), 10);
+    SAME(chroma_triangular_plane(l, plane, 3, 3, NULL, 0), 10);
+    CHECK(untouched(out, 14));
+
+    SAME(chroma_triangular_plane(l, plane, 3, 3, out, 7), 0);
+    values_are(out, across, 6);
+    CHECK(untouched(out + 6, 2));
+
+    plane[0] = 0, plane[1] = 2;
+    SAME(chroma_triangular_plane(layout_of(1, 4, 1, 2, 1, 2), plane, 2, 1, out, 4), 0);
+    values_are(out, down, 4);
+    end_slices();
+}
+
+static void test_guided_plane(void) {
+    ChromaLayout l = layout_of(5, 3, 2, 2, 3, 2);
+    size_t need = chroma_scratch_need(l.cw, l.w);
+    uint8_t *y = lend_bytes(15);
+    uint8_t *plane = lend_bytes(6);
+    float *scratch = lend_floats(need);
+    uint16_t *out = lend_values(15);
+    for (size_t i = 0; i < 15; i++)
+        y[i] = (uint8_t)(37 * i);
+    memset(plane, 77, 6);
+
+    SAME(chroma_guided_plane(l, y, 14, 5, plane, 6, 3, scratch, need, out, 15), 7);
+    SAME(chroma_guided_plane(l, y, 15, 5, plane, 6, 3, scratch, 0, out, 15), 9);
+    SAME(chroma_guided_plane(l, y, 15, 5, plane, 6, 3, scratch, need, out, 14), 10);
+    CHECK(untouched(scratch, 4 * need));
+    CHECK(untouched(out, 30));
+
+    /* "Guided with constant chroma returns that constant." */
+    SAME(chroma_guided_plane(l, y, 15, 5, plane, 6, 3, scratch, need, out, 15), 0);
+    for (size_t i = 0; i < 15; i++)
+        SAME(out[i], 77);
+    end_slices();
+}
+
+/* ---- the reader */
+
+enum { W = 5, H = 5, CW = 3, CH = 3 };
+static uint8_t *planes[3];
+static float *scratch_of_reader;
+static float *rows[2];
+
+static ChromaReply row_at(ChromaReader r, size_t row) {
+    return chroma_row(r, planes[0], W * H, planes[1], CW * CH, planes[2], CW * CH,
+                      strides_of(W, CW, CW), row, scratch_of_reader, chroma_scratch_need(CW, W),
+                      rows[0], W + 1, rows[1], W + 1);
+}
+
+static void refused(ChromaReply p, uint32_t refusal, const ChromaReader *handed) {
+    SAME(p.refusal, refusal);
+    CHECK(same_state(&p.reader, handed));
+}
+
+/* Row `row` as the reader gave it, rounded, is the whole plane's. */
+static void row_is(size_t row, const uint16_t *whole_cb, const uint16_t *whole_cr) {
+    for (size_t x = 0; x < W; x++) {
+        SAME((unsigned)(rows[0][x] + 0.5f), whole_cb[row * W + x]);
+        SAME((unsigned)(rows[1][x] + 0.5f), whole_cr[row * W + x]);
+    }
+    CHECK(untouched(rows[0] + W, 4));
+    CHECK(untouched(rows[1] + W, 4));
+}
+
+static void test_reader(void) {
+    ChromaLayout l = layout_of(W, H, 2, 2, CW, CH);
+    ChromaStrides strides = strides_of(W, CW, CW);
+    size_t need = chroma_scratch_need(CW, W);
+    uint16_t *whole_cb = lend_values(W * H);
+    uint16_t *whole_cr = lend_values(W * H);
+    float *other = lend_floats(need);
+    ChromaReader any = garbage(0xFF);
+    ChromaReader handed;
+    ChromaReply p;
+
+    planes[0] = lend_bytes(W * H);
+    planes[1] = lend_bytes(CW * CH);
+    planes[2] = lend_bytes(CW * CH);
+    scratch_of_reader = lend_floats(need);
+    rows[0] = lend_floats(W + 1);
+    rows[1] = lend_floats(W + 1);
+    for (size_t i = 0; i < W * H; i++)
+        planes[0][i] = (uint8_t)(91 * i + 17);
+    for (size_t i = 0; i < CW * CH; i++) {
+        planes[1][i] = (uint8_t)(53 * i);
+        planes[2][i] = (uint8_t)(250 - 29 * i);
+    }
+    SAME(chroma_guided_plane(l, planes[0], W * H, W, planes[1], CW * CH, CW, other, need, whole_cb, W * H), 0);
+    SAME(chroma_guided_plane(l, planes[0], W * H, W, planes[2], CW * CH, CW, other, need, whole_cr, W * H), 0);
+
+    /* A refused open hands back what it was handed, whatever that is. */
+    p = chroma_open(l, planes[0], W * H, planes[1], CW * CH, planes[2], CW * CH, strides,
+                    scratch_of_reader, need - 1, any);
+    refused(p, 9, &any);
+    p = chroma_open(l, planes[0], W * H, planes[1], CW * CH, planes[2], CW * CH - 1, strides,
+                    scratch_of_reader, need, any);
+    refused(p, 7, &any);
+    p = chroma_open(layout_of(0, 5, 2, 2, 3, 3), NULL, 0, NULL, 0, NULL, 0, strides, NULL, 0, any);
+    refused(p, 2, &any);
+    /* So do a seek and a row of it, and they write nothing. */
+    refused(chroma_seek(any, 0), 1, &any);
+    refused(row_at(any, 0), 1, &any);
+    any = garbage(0);
+    refused(chroma_seek(any, 0), 1, &any);
+    CHECK(untouched(rows[0], 4 * (W + 1)));
+    CHECK(untouched(scratch_of_reader, 4 * need));
+
+    /* An accepted open looks at nothing that it is handed. */
+    any = garbage(0x5A);
+    p = chroma_open(l, planes[0], W * H, planes[1], CW * CH, planes[2], CW * CH, strides,
+                    scratch_of_reader, need, any);
+    SAME(p.refusal, 0);
+    SAME(p.reader.w, W);
+    SAME(p.reader.ch, CH);
+    SAME(p.reader.place, 0);
+    SAME(p.reader.phases[0].left, 1);
+    CHECK(p.reader.phases[0].f == 0.75f);
+    SAME(p.reader.phases[1].left, 0);
+    CHECK(p.reader.phases[1].f == 0.25f);
+    SAME(p.reader.phases[2].left, 0);
+    CHECK(p.reader.phases[2].f == 0.0f);
+    CHECK(untouched(scratch_of_reader, 4 * need));
+
+    p = row_at(p.reader, 0);
+    SAME(p.refusal, 0);
+    row_is(0, whole_cb, whole_cr);
+    p = row_at(p.reader, 3);
+    SAME(p.refusal, 0);
+    SAME(p.reader.place, 3);
+    row_is(3, whole_cb, whole_cr);
+    p = row_at(p.reader, 3);
+    SAME(p.refusal, 0);
+    row_is(3, whole_cb, whole_cr);
+
+    /* 12 before the place, 11 past the height; the reader goes on as if nothing was asked. */
+    handed = p.reader;
+    refused(row_at(handed, 2), 12, &handed);
+    refused(row_at(handed, H), 11, &handed);
+    refused(chroma_seek(handed, H), 11, &handed);
+    refused(chroma_seek(handed, SIZE_MAX), 11, &handed);
+    row_is(3, whole_cb, whole_cr);
+    p = row_at(handed, 4);
+    SAME(p.refusal, 0);
+    row_is(4, whole_cb, whole_cr);
+
+    /* Back by a seek. */
+    p = chroma_seek(p.reader, 1);
+    SAME(p.refusal, 0);
+    SAME(p.reader.place, 1);
+    handed = p.reader;
+    refused(row_at(handed, 0), 12, &handed);
+    p = row_at(handed, 1);
+    SAME(p.refusal, 0);
+    row_is(1, whole_cb, whole_cr);
+
+    /* Outputs too short, or none at all. */
+    handed = p.reader;
+    refused(chroma_row(handed, planes[0], W * H, planes[1], CW * CH, planes[2], CW * CH, strides,
+                       2, scratch_of_reader, need, rows[0], W, rows[1], W - 1), 10, &handed);
+    refused(chroma_row(handed, planes[0], W * H, planes[1], CW * CH, planes[2], CW * CH, strides,
+                       2, NULL, 0, NULL, 0, NULL, 0), 9, &handed);
+    row_is(1, whole_cb, whole_cr);
+
+    /* A left that is neither 0 nor 1 stands for none, at any phase; so does a fraction that
+     * open doesn't leave, a signalling not-a-number here. */
+    for (int k = 0; k < 4; k++) {
+        ChromaReader strange = handed;
+        uint32_t bits = 0x7F800001u + (uint32_t)k;
+        strange.phases[k].left = 7;
+        refused(chroma_seek(strange, 2), 1, &strange);
+        refused(row_at(strange, 2), 1, &strange);
+        refused(row_at(strange, H), 1, &strange);
+        strange.phases[k].left = 0x01000001u;
+        refused(chroma_seek(strange, 2), 1, &strange);
+        strange = handed;
+        memcpy(&strange.phases[k].f, &bits, sizeof bits);
+        refused(chroma_seek(strange, 2), 1, &strange);
+        refused(row_at(strange, 2), 1, &strange);
+    }
+    handed.h_next = CH + 1;
+    refused(chroma_seek(handed, 0), 1, &handed);
+    row_is(1, whole_cb, whole_cr);
+
+    p = row_at(p.reader, 2);
+    SAME(p.refusal, 0);
+    row_is(2, whole_cb, whole_cr);
+    end_slices();
+}
+
+/* ---- fill */
+
+static void test_fill_one(void) {
+    static const int blue[2] = {9, 8};
+    ChromaLayout l = layout_of(1, 1, 1, 1, 1, 1);
+    size_t need = chroma_scratch_need(1, 1);
+    uint8_t *y = lend_bytes(1);
+    uint8_t *cb = lend_bytes(1);
+    uint8_t *cr = lend_bytes(1);
+    y[0] = 230, cb[0] = 3, cr[0] = 128;
+    for (uint32_t up = 0; up < 2; up++)
+        for (uint32_t kernel = 0; kernel < 2; kernel++)
+            for (size_t size = 3; size < 5; size++) {
+                float *scratch = lend_floats(need + 1);
+                uint8_t *out = lend_bytes(5);
+                SAME(chroma_fill(l, y, 1, cb, 1, cr, 1, strides_of(1, 1, 1), up, kernel, size,
+                                 scratch, need + 1, out, 5), 0);
+                SAME(out[0], 230);
+                SAME(out[1], 255);
+                SAME(out[2], blue[kernel]);
+                CHECK(untouched(out + 3, 2));
+                CHECK(untouched(scratch + need, 4));
+            }
+    end_slices();
+}
+
+static void test_fill_row(void) {
+    static const uint32_t cb_there[] = {0, 25, 75, 100};
+    ChromaLayout l = layout_of(4, 1, 2, 1, 2, 1);
+    ChromaStrides strides = strides_of(4, 2, 2);
+    size_t need = chroma_scratch_need(l.cw, l.w);
+    uint8_t *y = lend_bytes(4);
+    uint8_t *cb = lend_bytes(2);
+    uint8_t *cr = lend_bytes(2);
+    float *scratch = lend_floats(need);
+    uint8_t *out = lend_bytes(12);
+    float *row_cb = lend_floats(4);
+    float *row_cr = lend_floats(4);
+    ChromaReply reply;
+    y[0] = 10, y[1] = 120, y[2] = 130, y[3] = 240;
+    cb[0] = 0, cb[1] = 100;
+    cr[0] = 200, cr[1] = 200;
+
+#define FILL(layout, up, kernel, size, scratch_len, out_len)                          \
+    chroma_fill(layout, y, 4, cb, 2, cr, 2, strides, up, kernel, size, scratch, scratch_len, out, out_len)
+    /* A switch that stands for no way, before everything else. */
+    SAME(FILL(l, 2, 0, 3, need, 12), 255);
+    SAME(FILL(l, 0, 2, 3, need, 12), 255);
+    SAME(FILL(l, UINT32_MAX, UINT32_MAX, 3, need, 12), 255);
+    SAME(chroma_fill(layout_of(0, 0, 9, 9, 0, 0), NULL, 0, NULL, 0, NULL, 0, strides, 256, 0, 0, NULL, 0, NULL, 0), 255);
+    SAME(chroma_fill(layout_of(0, 0, 9, 9, 0, 0), NULL, 0, NULL, 0, NULL, 0, strides, 1, 1, 0, NULL, 0, NULL, 0), 2);
+    SAME(FILL(l, 0, 0, 2, need, 12), 8);
+    SAME(FILL(l, 0, 0, 5, need, 12), 8);
+    SAME(FILL(l, 0, 0, 3, need - 1, 12), 9);
+    SAME(FILL(l, 0, 0, 3, need, 11), 10);
+    SAME(FILL(l, 0, 0, 4, need, 12), 10);
+    l.maxval = 254;
+    SAME(FILL(l, 0, 1, 3, need, 12), 4);
+    l.maxval = 255;
+    CHECK(untouched(scratch, 4 * need));
+    CHECK(untouched(out, 12));
+
+    SAME(FILL(l, 0, 0, 3, need, 12), 0);
+    for (size_t x = 0; x < 4; x++) {
+        ChromaPixel p = chroma_exact_pixel(y[x], cb_there[x] * 256, 200 * 256, 255);
+        SAME(out[3 * x], p.r);
+        SAME(out[3 * x + 1], p.g);
+        SAME(out[3 * x + 2], p.b);
+    }
+    SAME(FILL(l, 0, 1, 3, need, 12), 0);
+    for (size_t x = 0; x < 4; x++) {
+        ChromaPixel p = chroma_fixed_pixel(y[x], cb_there[x], 200);
+        SAME(out[3 * x], p.r);
+        SAME(out[3 * x + 1], p.g);
+        SAME(out[3 * x + 2], p.b);
+    }
+    /* Guided: the reader's row, rounded to 256ths, by the exact kernel. */
+    SAME(FILL(l, 1, 0, 3, need, 12), 0);
+    reply = chroma_open(l, y, 4, cb, 2, cr, 2, strides, scratch, need, garbage(0));
+    SAME(reply.refusal, 0);
+    reply = chroma_row(reply.reader, y, 4, cb, 2, cr, 2, strides, 0, scratch, need, row_cb, 4, row_cr, 4);
+    SAME(reply.refusal, 0);
+    CHECK(row_cb[1] != 25.0f);
+    for (size_t x = 0; x < 4; x++) {
+        ChromaPixel p = chroma_exact_pixel(y[x], (uint32_t)(row_cb[x] * 256 + 0.5f), (uint32_t)(row_cr[x] * 256 + 0.5f), 255);
+        SAME(out[3 * x], p.r);
+        SAME(out[3 * x + 1], p.g);
+        SAME(out[3 * x + 2], p.b);
+    }
+#undef FILL
+    end_slices();
+}
+
+/* ---- the picture */
+
+static void test_picture(void) {
+    static const char text[] = "P5 1 1 255\n\346P5 1 1 255\n\003P5 1 1 255\n\200";
+    static const char ppm[] = "P6\n1 1\n255\n\346\377\011";
+    size_t n = sizeof text - 1;
+    size_t len = sizeof ppm - 1;
+    uint8_t *input = lend_bytes(n);
+    float *scratch = lend_floats(72);
+    uint8_t *out = lend_bytes(len + 1);
+    ChromaWritten r;
+    memcpy(input, text, n);
+
+    r = chroma_picture(input, n - 1, scratch, 72, out, len);
+    SAME(r.refusal, 15);
+    SAME(r.len, 0);
+    r = chroma_picture(input + 1, n - 1, scratch, 72, out, len);
+    SAME(r.refusal, 14);
+    r = chroma_picture(NULL, 0, NULL, 0, NULL, 0);
+    SAME(r.refusal, 14);
+    r = chroma_picture(input, n, scratch, 71, out, len);
+    SAME(r.refusal, 9);
+    r = chroma_picture(input, n, scratch, 72, out, len - 1);
+    SAME(r.refusal, 10);
+    CHECK(untouched(out, len + 1));
+    CHECK(untouched(scratch, 4 * 72));
+
+    r = chroma_picture(input, n, scratch, 72, out, len + 1);
+    SAME(r.refusal, 0);
+    SAME(r.len, len);
+    CHECK(memcmp(out, ppm, len) == 0);
+    CHECK(untouched(out + len, 1));
+    end_slices();
+}
+
+/* The sizes that the header states suffice for the largest pictures. */
+static void test_largest_pictures(void) {
+    static const size_t pictures[][3] = {{128, 127, 1}, {1, 8192, 1}, {2, 8148, 1}, {128, 340, 4}};
+    for (int k = 0; k < 4; k++) {
+        size_t w = pictures[k][0], h = pictures[k][1], ratio = pictures[k][2];
+        uint8_t *input = lend_bytes(CHROMA_PICTURE_INPUT);
+        float *scratch = lend_floats(CHROMA_PICTURE_SCRATCH);
+        uint8_t *out = lend_bytes(CHROMA_PICTURE_OUTPUT);
+        size_t n = 0;
+        ChromaWritten r;
+        for (int image = 0; image < 3; image++) {
+            size_t iw = image == 0 ? w : w / ratio, ih = image == 0 ? h : h / ratio;
+            n += (size_t)sprintf((char *)input + n, "P5 %zu %zu 255\n", iw, ih);
+            memset(input + n, 100 + image, iw * ih);
+            n += iw * ih;
+        }
+        CHECK(n <= CHROMA_PICTURE_INPUT);
+        r = chroma_picture(input, n, scratch, CHROMA_PICTURE_SCRATCH, out, CHROMA_PICTURE_OUTPUT);
+        SAME(r.refusal, 0);
+        CHECK(r.len > 3 * w * h);
+        end_slices();
+    }
+}
+
+int main(void) {
+    test_pixels();
+    test_linear_plane();
+    test_triangular_plane();
+    test_guided_plane();
+    test_reader();
+    test_fill_one();
+    test_fill_row();
+    test_picture();
+    test_largest_pictures();
+    printf("%d checks, %d failed\n", checks, failures);
+    return failures == 0 ? 0 : 1;
+}
