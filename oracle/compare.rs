@@ -100,7 +100,7 @@ fn planes(p: &Picture, q: &oracle::Picture) -> [usize; 3] {
     let a = sources::resample::linear_plane(l, &p.cb.data, p.cb.stride, &mut s, &mut out);
     let linear = a == Answer::Accepted && agrees(&out, &oracle::linear_plane(q, Chroma::Cb));
     out = fresh();
-    let a = sources::reader::guided_plane(
+    let a = sources::planes::guided_plane(
         l, &p.y.data, p.y.stride, &p.cb.data, p.cb.stride, &mut s, &mut out,
     );
     let guided = a == Answer::Accepted && agrees(&out, &oracle::guided_plane(q, Chroma::Cb));
@@ -147,7 +147,7 @@ impl Course {
     }
 
     fn seek(&mut self, p: &Picture, y: usize) {
-        let a = sources::guided::seek(self.state, y);
+        let a = sources::state::seek(self.state, y);
         if y < p.layout.h {
             let sought = self.beside.seek(y).is_ok();
             self.expect(sought && a.answer == Answer::Accepted);
