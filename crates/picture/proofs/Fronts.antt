@@ -20,9 +20,12 @@ use Rattle.netpbm.proofs.Digits.{three-most, four-most}
 use Rattle.picture.specs.Picture.{ppmLength, inputPicture, ppmOver}
 use Rattle.picture.proofs.Readings.{to-end}
 
+-- a header fits a line
 pub header-most : (w h : ℕ) → w ≤ 128 → length (ppmHeader w h) ≤ 16
 unfolding ppmHeader
 header-most w h l = simp length-append (omega (arith, three-most w (omega arith), four-most h))
+
+-- ---- a line that holds a text, put to the front of out
 
 pub line-length : (t : List ℕ) (line : Line) → line ≡ lineOf t → line .len ≡ length t
 unfolding lineOf
@@ -47,7 +50,8 @@ module _ (t : List ℕ) (line : Line) (e : line ≡ lineOf t) (out : List ℕ) w
       ap (λ (k : ℕ). drop (length t) (put out 0 k f)) (line-length t line e)
       ∙ ext-getD 0 (drop (length t) (put out 0 (length t) f)) (drop (length t) out) (simp (length-drop, length-put)) (λ i h. getD-drop (length t) (put out 0 (length t) f) i 0 ∙ put-after out 0 (length t) f (length t + i) 0 (omega arith) ∙ sym (getD-drop (length t) out i 0))
 
--- header and pixels
+-- ---- header and pixels
+
 pub ppm-length : (l : Layout) (line : Line) → line ≡ lineOf (ppmHeader (l .w) (l .h)) → line .len + l .w * l .h * 3 ≡ ppmLength l
 unfolding ppmLength
 ppm-length l line e = ap (λ (k : ℕ). k + l .w * l .h * 3) (line-length _ line e)
@@ -63,8 +67,8 @@ module _ (p : Picture) (l : Layout) (q : p .layout ≡ l) (line : Line) (e : lin
   ppm-is front ys f h =
       let t = ppmHeader (l .w) (l .h) in
       let n = line-length t line e in
-      let a : take (line .len) front ≡ t = rw (f) (ap (λ (k : ℕ). take k (put out 0 (line .len) (λ i. getD (line .bytes) i 0))) n ∙ front-is t line e out g) in
-      let b : drop (line .len) front ≡ drop (length t) out = rw (f) (ap (λ (k : ℕ). drop k (put out 0 (line .len) (λ i. getD (line .bytes) i 0))) n ∙ behind-is t line e out) in
+      let a : take (line .len) front ≡ t = rw f (ap (λ (k : ℕ). take k (put out 0 (line .len) (λ i. getD (line .bytes) i 0))) n ∙ front-is t line e out g) in
+      let b : drop (line .len) front ≡ drop (length t) out = rw f (ap (λ (k : ℕ). drop k (put out 0 (line .len) (λ i. getD (line .bytes) i 0))) n ∙ behind-is t line e out) in
       let c : drop (length front - line .len) (drop (line .len) front) ≡ [] = let m : length (drop (line .len) front) ≤ length front - line .len = let k = length-drop (line .len) front in omega arith in drop-of-length-le (drop (line .len) front) m in
       let d : ys ≡ pixelRows (l .w) 3 (fillColour LumaGuided Exact p) 0 (l .h) (drop (length t) out) = h ∙ ap (pixelRows (l .w) 3 (fillColour LumaGuided Exact p) 0 (l .h)) (to-end front (line .len) ∙ b) in
       ap (λ (x : List ℕ). take (line .len) front ++ (ys ++ x)) c

@@ -12,7 +12,7 @@ const INPUT: usize = 49_153;
 // The most scratch that a picture of 128 columns asks for, 64 · 128 + 8 · 128.
 const SCRATCH: usize = 9_216;
 
-// The longest header, and three bytes for each byte of the longest input.
+// The longest header, and three bytes for each byte of the longest input. With as much, 9 and 10 are never given: `room-enough` of picture's proofs.
 const OUT: usize = 147_472;
 
 // The picture at the front of out, or the refusal's line; whether all of it was written.
