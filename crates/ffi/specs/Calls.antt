@@ -51,7 +51,7 @@ pub record Checked (handed : ChromaReader) (Kept : Type 0) (Given : Reply → Ty
 
 -- ---- planes
 
--- the planes that a call is lent, and one of them
+-- a plane that a call is lent, and the three of a picture
 abbrev pub lentPlane : List ℕ → ℕ → Plane
 lentPlane bytes stride = record { bytes = bytes; stride = stride }
 

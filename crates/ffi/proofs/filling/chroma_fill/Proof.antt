@@ -10,7 +10,9 @@ either-requires c κs = search needs
 
 returns : tie.Need-returns
 unfolding noSuchWay
-returns c = let e = sym (c .before .either .ensures) ∙ c .if1 .taken in record { strange = λ _. (refl, (refl, refl)); plain = λ f. absurd (true≢false (sym e ∙ f)) }
+returns c =
+    let e = sym (c .before .either .ensures) ∙ c .if1 .taken in
+    record { strange = λ _. (refl, (refl, refl)); plain = λ f. absurd (true≢false (sym e ∙ f)) }
 
 to-layout-requires : tie.Need-to-layout-requires
 to-layout-requires c κs = search needs
@@ -35,7 +37,15 @@ same-length-2 c = search needs
 
 returns-2 : tie.Need-returns-2
 unfolding noSuchWay
-returns-2 c = let e = sym (c .before .before .before .before .before .before .before .before .before .before .before .before .either .ensures) ∙ c .before .before .before .before .before .before .before .before .before .before .before .if1 .left in record { strange = λ f. absurd (true≢false (sym f ∙ e)); plain = λ _. record { answer = c .before .before .before .before .before .fill .result; given = rw (sym (c .before .before .before .before .before .before .before .before .before .before .to-layout .ensures), sym (c .before .before .before .before .before .before .before .before .before .to-upsampling .ensures), sym (c .before .before .before .before .before .before .before .before .to-kernel .ensures)) (c .before .before .before .before .before .fill .ensures); number = c .number-of .ensures } }
+returns-2 c =
+    let k = c .before .before .before .before .before in
+    let t = k .before .before .before in
+    let l = t .before .before in
+    let e = sym (l .before .before .either .ensures) ∙ l .before .if1 .left in
+    record {
+      strange = λ f. absurd (true≢false (sym f ∙ e));
+      plain = λ _. record { answer = k .fill .result; given = rw (sym (l .to-layout .ensures), sym (t .before .to-upsampling .ensures), sym (t .to-kernel .ensures)) (k .fill .ensures); number = c .number-of .ensures };
+    }
 
 pub chroma-fill-spec : {M : Type 1} → statement M
 chroma-fill-spec =

@@ -8,7 +8,9 @@ strange-phases-requires : tie.Need-strange-phases-requires
 strange-phases-requires c κs = search needs
 
 returns : tie.Need-returns
-returns c = let e = sym (c .before .strange-phases .ensures) ∙ c .if1 .taken in record { strange = λ _. (refl, (refl, refl, refl)); plain = λ f. absurd (true≢false (sym e ∙ f)) }
+returns c =
+    let e = sym (c .before .strange-phases .ensures) ∙ c .if1 .taken in
+    record { strange = λ _. (refl, (refl, refl, refl)); plain = λ f. absurd (true≢false (sym e ∙ f)) }
 
 to-reader-requires : tie.Need-to-reader-requires
 to-reader-requires c κs = search needs
@@ -29,7 +31,14 @@ same-length-3 : tie.Need-same-length-3
 same-length-3 c = search needs
 
 returns-2 : tie.Need-returns-2
-returns-2 c = let e = sym (c .before .before .before .before .before .before .before .before .before .before .before .before .before .strange-phases .ensures) ∙ c .before .before .before .before .before .before .before .before .before .before .before .before .if1 .left in record { strange = λ f. absurd (true≢false (sym f ∙ e)); plain = λ _. record { reply = c .before .before .before .before .before .before .before .row .result; given = rw (sym (c .before .before .before .before .before .before .before .before .before .before .before .to-reader .ensures)) (c .before .before .before .before .before .before .before .row .ensures); is = c .reply-to .ensures } }
+returns-2 c =
+    let k = c .before .before .before .before .before .before .before in
+    let t = k .before .before .before .before in
+    let e = sym (t .before .before .strange-phases .ensures) ∙ t .before .if1 .left in
+    record {
+      strange = λ f. absurd (true≢false (sym f ∙ e));
+      plain = λ _. record { reply = k .row .result; given = rw (sym (t .to-reader .ensures)) (k .row .ensures); is = c .reply-to .ensures };
+    }
 
 pub chroma-row-spec : {M : Type 1} → statement M
 chroma-row-spec =

@@ -8,7 +8,9 @@ strange-phases-requires : tie.Need-strange-phases-requires
 strange-phases-requires c κs = search needs
 
 returns : tie.Need-returns
-returns c = let e = sym (c .before .strange-phases .ensures) ∙ c .if1 .taken in record { strange = λ _. (refl, tt); plain = λ f. absurd (true≢false (sym e ∙ f)) }
+returns c =
+    let e = sym (c .before .strange-phases .ensures) ∙ c .if1 .taken in
+    record { strange = λ _. (refl, tt); plain = λ f. absurd (true≢false (sym e ∙ f)) }
 
 to-reader-requires : tie.Need-to-reader-requires
 to-reader-requires c κs = search needs
@@ -20,7 +22,14 @@ reply-to-requires : tie.Need-reply-to-requires
 reply-to-requires c κs = search needs
 
 returns-2 : tie.Need-returns-2
-returns-2 c = let e = sym (c .before .before .before .before .strange-phases .ensures) ∙ c .before .before .before .if1 .left in record { strange = λ f. absurd (true≢false (sym f ∙ e)); plain = λ _. record { reply = c .before .seek .result; given = rw (sym (c .before .before .to-reader .ensures)) (c .before .seek .ensures); is = c .reply-to .ensures } }
+returns-2 c =
+    let k = c .before in
+    let t = k .before in
+    let e = sym (t .before .before .strange-phases .ensures) ∙ t .before .if1 .left in
+    record {
+      strange = λ f. absurd (true≢false (sym f ∙ e));
+      plain = λ _. record { reply = k .seek .result; given = rw (sym (t .to-reader .ensures)) (k .seek .ensures); is = c .reply-to .ensures };
+    }
 
 pub chroma-seek-spec : {M : Type 1} → statement M
 chroma-seek-spec =
