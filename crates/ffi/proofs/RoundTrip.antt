@@ -1,4 +1,4 @@
--- A state that went to C and came back is the state it was, and C's form of it is never a strange one. So a list of calls through C is a list of the Rattle calls, and what is shown of those holds of it.
+-- A state that went to C and came back is the state it was, and C's form of it is never a strange one. This is what carries laws about lists of the Rattle calls over to calls through C.
 use mathlib.Core.Path.{_≡_, refl}
 use mathlib.Core.Bool.{Bool, true, false, cond}
 use mathlib.Core.List.{List, [], _∷_}
