@@ -1,0 +1,291 @@
+//! Speed beside the original: the static library through include/chroma.h's calls and the
+//! original's functions, same input, one thread, turn by turn in one process; thread CPU time,
+//! the best of several turns. A ratio above 1 says that the library is ahead.
+//! Usage: bench [TURNS [CELL...]]; a CELL is a part of a cell's name.
+use oracle::{Bytes, Chroma, GuidedReader, Kernel, Numbers, Picture, Upsampling};
+
+#[repr(C)]
+#[derive(Clone, Copy)]
+struct Layout {
+    w: usize,
+    h: usize,
+    rh: usize,
+    rv: usize,
+    cw: usize,
+    ch: usize,
+    sample_bytes: usize,
+    maxval: u32,
+}
+
+#[repr(C)]
+#[derive(Clone, Copy)]
+struct Strides {
+    y: usize,
+    cb: usize,
+    cr: usize,
+}
+
+/// A reader's state, which is handed on and not looked at.
+#[repr(C)]
+#[derive(Clone, Copy, Default)]
+struct Reader {
+    sides: [usize; 6],
+    phases: [(u32, f32); 4],
+    sample_bytes: usize,
+    maxval: u32,
+    place: [usize; 3],
+}
+
+#[repr(C)]
+struct Reply {
+    refusal: u32,
+    reader: Reader,
+}
+
+#[repr(C)]
+struct Timespec {
+    sec: i64,
+    nsec: i64,
+}
+
+extern "C" {
+    fn chroma_fill(
+        layout: Layout, y: *const u8, y_len: usize, cb: *const u8, cb_len: usize,
+        cr: *const u8, cr_len: usize, strides: Strides, upsampling: u32, kernel: u32, size: usize,
+        s: *mut f32, s_len: usize, out: *mut u8, out_len: usize,
+    ) -> u32;
+    fn chroma_open(
+        layout: Layout, y: *const u8, y_len: usize, cb: *const u8, cb_len: usize,
+        cr: *const u8, cr_len: usize, strides: Strides, s: *const f32, s_len: usize, reader: Reader,
+    ) -> Reply;
+    fn chroma_seek(reader: Reader, row: usize) -> Reply;
+    fn chroma_row(
+        reader: Reader, y: *const u8, y_len: usize, cb: *const u8, cb_len: usize,
+        cr: *const u8, cr_len: usize, strides: Strides, row: usize, s: *mut f32, s_len: usize,
+        out_cb: *mut f32, out_cb_len: usize, out_cr: *mut f32, out_cr_len: usize,
+    ) -> Reply;
+    fn chroma_linear_plane(
+        layout: Layout, plane: *const u8, plane_len: usize, stride: usize,
+        s: *mut f32, s_len: usize, out: *mut u16, out_len: usize,
+    ) -> u32;
+    fn chroma_guided_plane(
+        layout: Layout, y: *const u8, y_len: usize, y_stride: usize,
+        c: *const u8, c_len: usize, c_stride: usize,
+        s: *mut f32, s_len: usize, out: *mut u16, out_len: usize,
+    ) -> u32;
+    fn chroma_triangular_plane(
+        layout: Layout, plane: *const u8, plane_len: usize, stride: usize,
+        out: *mut u16, out_len: usize,
+    ) -> u32;
+    fn clock_gettime(clock: i32, time: *mut Timespec) -> i32;
+}
+
+/// This thread's CPU time in seconds.
+fn now() -> f64 {
+    let mut t = Timespec { sec: 0, nsec: 0 };
+    // SAFETY: clock 3 is Linux's CLOCK_THREAD_CPUTIME_ID, and t outlives the call.
+    unsafe { clock_gettime(3, &mut t) };
+    t.sec as f64 + t.nsec as f64 * 1e-9
+}
+
+struct Input {
+    layout: Layout,
+    planes: [Vec<u8>; 3],
+    strides: Strides,
+    beside: Picture,
+    scratch: Vec<f32>,
+}
+
+/// Noise that is the same at every run, without padding.
+fn input(w: usize, h: usize, rh: usize, rv: usize, sample_bytes: usize, maxval: u32) -> Input {
+    let (cw, ch) = (w.div_ceil(rh), h.div_ceil(rv));
+    let mut state = 88_172_645_463_325_252u64;
+    let mut plane = |w: usize, h: usize| {
+        let mut data = Vec::with_capacity(w * h * sample_bytes);
+        for _ in 0..w * h {
+            state ^= state << 13;
+            state ^= state >> 7;
+            state ^= state << 17;
+            let v = state % (maxval as u64 + 1);
+            data.extend_from_slice(&v.to_le_bytes()[..sample_bytes]);
+        }
+        data
+    };
+    let planes = [plane(w, h), plane(cw, ch), plane(cw, ch)];
+    let strides = Strides { y: w * sample_bytes, cb: cw * sample_bytes, cr: cw * sample_bytes };
+    let all = [strides.y, strides.cb, strides.cr];
+    let bytes = [0, 1, 2].map(|k| Bytes { data: &planes[k], stride: all[k] });
+    let beside = Picture::new(Numbers { w, h, rh, rv, bps: sample_bytes, maxval }, bytes).expect("a picture");
+    let layout = Layout { w, h, rh, rv, cw, ch, sample_bytes, maxval };
+    Input { layout, planes, strides, beside, scratch: vec![0.0; 64 * cw + 8 * w] }
+}
+
+/// Best times of both, and whether both gave the same.
+struct Cell {
+    turns: usize,
+    wanted: Vec<String>,
+}
+
+impl Cell {
+    fn run(&self, name: &str, pixels: usize, mut ours: impl FnMut(), mut theirs: impl FnMut(), same: impl Fn() -> bool) {
+        if !self.wanted.is_empty() && !self.wanted.iter().any(|w| name.contains(w.as_str())) {
+            return;
+        }
+        let (mut a, mut b) = (f64::MAX, f64::MAX);
+        for _ in 0..self.turns {
+            let t = now();
+            ours();
+            a = a.min(now() - t);
+            let t = now();
+            theirs();
+            b = b.min(now() - t);
+        }
+        let ns = 1e9 / pixels as f64;
+        let word = if same() { "same" } else { "DIFFERENT" };
+        println!("| {name} | {:.2} | {:.2} | {:.2} | {word} |", a * ns, b * ns, b / a);
+    }
+
+    fn fill(&self, i: &Input, linear: bool, fixed: bool, size: usize, name: &str) {
+        let l = i.layout;
+        let mut s = i.scratch.clone();
+        let out = std::cell::RefCell::new(vec![7u8; l.w * l.h * size]);
+        let want = std::cell::RefCell::new(vec![7u8; l.w * l.h * size]);
+        let [y, cb, cr] = &i.planes;
+        let up = if linear { Upsampling::Linear } else { Upsampling::Guided };
+        let kernel = if fixed { Kernel::Fixed } else { Kernel::Exact };
+        self.run(
+            name, l.w * l.h,
+            || {
+                let mut out = out.borrow_mut();
+                // SAFETY: each pointer and length are one slice's.
+                let n = unsafe {
+                    chroma_fill(
+                        l, y.as_ptr(), y.len(), cb.as_ptr(), cb.len(), cr.as_ptr(), cr.len(), i.strides,
+                        !linear as u32, fixed as u32, size, s.as_mut_ptr(), s.len(), out.as_mut_ptr(), out.len(),
+                    )
+                };
+                assert!(n == 0);
+            },
+            || oracle::fill(&i.beside, size, up, kernel, &mut want.borrow_mut()).expect("a fill"),
+            || *out.borrow() == *want.borrow(),
+        );
+    }
+
+    /// Rows in the order given; a row before the last one is sought first.
+    fn rows(&self, i: &Input, order: &[usize], name: &str) {
+        let l = i.layout;
+        let [y, cb, cr] = &i.planes;
+        let mut s = i.scratch.clone();
+        let last = std::cell::RefCell::new((vec![0f32; l.w], vec![0f32; l.w]));
+        let want = std::cell::RefCell::new((vec![], vec![]));
+        self.run(
+            name, l.w * order.len(),
+            || {
+                let (b, r) = &mut *last.borrow_mut();
+                // SAFETY: each pointer and length are one slice's.
+                unsafe {
+                    let mut at = chroma_open(
+                        l, y.as_ptr(), y.len(), cb.as_ptr(), cb.len(), cr.as_ptr(), cr.len(), i.strides,
+                        s.as_ptr(), s.len(), Reader::default(),
+                    );
+                    let mut before = 0;
+                    for &row in order {
+                        if row < before || before + 8 < row {
+                            at = chroma_seek(at.reader, row);
+                        }
+                        at = chroma_row(
+                            at.reader, y.as_ptr(), y.len(), cb.as_ptr(), cb.len(), cr.as_ptr(), cr.len(),
+                            i.strides, row, s.as_mut_ptr(), s.len(),
+                            b.as_mut_ptr(), b.len(), r.as_mut_ptr(), r.len(),
+                        );
+                        assert!(at.refusal == 0);
+                        before = row;
+                    }
+                }
+            },
+            || {
+                let mut g = GuidedReader::new();
+                g.open(&i.beside);
+                let mut before = 0;
+                for &row in order {
+                    if row < before || before + 8 < row {
+                        g.seek(row).ok().expect("a seek");
+                    }
+                    *want.borrow_mut() = g.row(row).ok().expect("a row");
+                    before = row;
+                }
+            },
+            || *last.borrow() == *want.borrow(),
+        );
+    }
+
+    fn plane(&self, i: &Input, kind: usize, name: &str) {
+        let l = i.layout;
+        let [y, cb, _] = &i.planes;
+        let mut s = i.scratch.clone();
+        let out = std::cell::RefCell::new(vec![0u16; l.w * l.h]);
+        let want = std::cell::RefCell::new(vec![]);
+        self.run(
+            name, l.w * l.h,
+            || {
+                let mut out = out.borrow_mut();
+                let (o, n) = (out.as_mut_ptr(), out.len());
+                // SAFETY: each pointer and length are one slice's.
+                let refusal = unsafe {
+                    match kind {
+                        0 => chroma_linear_plane(l, cb.as_ptr(), cb.len(), i.strides.cb, s.as_mut_ptr(), s.len(), o, n),
+                        1 => chroma_guided_plane(
+                            l, y.as_ptr(), y.len(), i.strides.y, cb.as_ptr(), cb.len(), i.strides.cb,
+                            s.as_mut_ptr(), s.len(), o, n,
+                        ),
+                        _ => chroma_triangular_plane(l, cb.as_ptr(), cb.len(), i.strides.cb, o, n),
+                    }
+                };
+                assert!(refusal == 0);
+            },
+            || {
+                *want.borrow_mut() = match kind {
+                    0 => oracle::linear_plane(&i.beside, Chroma::Cb),
+                    1 => oracle::guided_plane(&i.beside, Chroma::Cb),
+                    _ => oracle::triangular_plane(&i.beside, Chroma::Cb).expect("a plane"),
+                }
+            },
+            || out.borrow().iter().zip(want.borrow().iter()).all(|(a, b)| *a as u32 == *b),
+        );
+    }
+}
+
+fn main() {
+    let mut args = std::env::args().skip(1);
+    let turns = args.next().map_or(7, |n| n.parse().expect("a number"));
+    let cell = Cell { turns, wanted: args.collect() };
+    println!("| cell | ns a pixel | the original's | ratio | output |\n|---|---|---|---|---|");
+    for side in [128, 1_024, 4_096] {
+        let i = input(side, side, 2, 2, 1, 255);
+        for (linear, up) in [(false, "guided"), (true, "linear")] {
+            for (fixed, kernel) in [(false, "exact"), (true, "fixed")] {
+                for size in [3, 4] {
+                    cell.fill(&i, linear, fixed, size, &format!("fill {up} {kernel}, {size} bytes, 2:2, {side} by {side}"));
+                }
+            }
+        }
+    }
+    for (rh, rv) in (1..5).flat_map(|rh| (1..5).map(move |rv| (rh, rv))).filter(|p| *p != (2, 2)) {
+        let i = input(1_024, 1_024, rh, rv, 1, 255);
+        cell.fill(&i, false, false, 3, &format!("fill guided exact, 3 bytes, {rh}:{rv}, 1024 by 1024"));
+        cell.fill(&i, true, false, 3, &format!("fill linear exact, 3 bytes, {rh}:{rv}, 1024 by 1024"));
+    }
+    let i = input(1_024, 1_024, 2, 2, 2, 4_095);
+    cell.fill(&i, false, false, 3, "fill guided exact, 3 bytes, 2:2, two-byte samples, maxval 4095");
+    cell.fill(&i, true, false, 3, "fill linear exact, 3 bytes, 2:2, two-byte samples, maxval 4095");
+    let i = input(1_024, 1_024, 2, 2, 1, 255);
+    let down: Vec<usize> = (0..1_024).collect();
+    cell.rows(&i, &down, "rows, Cb and Cr, top to bottom, 2:2");
+    let mixed: Vec<usize> = (0..1_024).map(|k| k * 389 % 1_024).collect();
+    cell.rows(&i, &mixed, "rows, Cb and Cr, a seek before each, 2:2");
+    cell.plane(&i, 0, "linear plane, 2:2");
+    cell.plane(&i, 1, "guided plane, 2:2");
+    cell.plane(&i, 2, "triangular plane, 2:2");
+    let i = input(8_192, 64, 2, 2, 1, 255);
+    cell.fill(&i, false, false, 3, "fill guided exact, 3 bytes, 2:2, 8192 by 64");
+}

@@ -1,0 +1,413 @@
+//! The calls that compare.rs makes, under the same names, through include/chroma.h: the static
+//! library beside the original. Every slice that a call writes is lent out of a longer one, and
+//! what stands round it must be as it was afterwards.
+#![allow(improper_ctypes_definitions)]
+
+const ROUND: usize = 64;
+
+/// Calls `f` with a copy of `slice` that has canaries round it, and takes over what it wrote.
+fn guarded<T: Copy + PartialEq, R>(slice: &mut [T], canary: T, f: impl FnOnce(&mut [T]) -> R) -> R {
+    let n = slice.len();
+    let mut longer = vec![canary; n + 2 * ROUND];
+    longer[ROUND..ROUND + n].copy_from_slice(slice);
+    let given = f(&mut longer[ROUND..ROUND + n]);
+    let round = longer[..ROUND].iter().chain(&longer[ROUND + n..]);
+    assert!(round.copied().all(|v| v == canary), "written outside what was lent");
+    slice.copy_from_slice(&longer[ROUND..ROUND + n]);
+    given
+}
+
+/// The same of floats, which may be not-a-numbers: their bits are compared.
+fn guarded_floats<R>(slice: &mut [f32], f: impl FnOnce(&mut [f32]) -> R) -> R {
+    let n = slice.len();
+    let mut longer = vec![-7.5e9f32; n + 2 * ROUND];
+    longer[ROUND..ROUND + n].copy_from_slice(slice);
+    let given = f(&mut longer[ROUND..ROUND + n]);
+    let round = longer[..ROUND].iter().chain(&longer[ROUND + n..]);
+    assert!(round.copied().all(|v| v == -7.5e9), "written outside what was lent");
+    slice.copy_from_slice(&longer[ROUND..ROUND + n]);
+    given
+}
+
+pub mod laws {
+    #[derive(Clone, Copy, Debug, PartialEq)]
+    pub enum Answer {
+        Accepted,
+        Refused(u8),
+    }
+
+    pub(crate) fn answer(refusal: u32) -> Answer {
+        match refusal {
+            0 => Answer::Accepted,
+            n => Answer::Refused(n as u8),
+        }
+    }
+}
+
+pub mod image {
+    #[repr(C)]
+    #[derive(Clone, Copy, Debug, PartialEq)]
+    pub struct Layout {
+        pub w: usize,
+        pub h: usize,
+        pub rh: usize,
+        pub rv: usize,
+        pub cw: usize,
+        pub ch: usize,
+        pub sample_bytes: usize,
+        pub maxval: u32,
+    }
+}
+
+#[repr(C)]
+#[derive(Clone, Copy)]
+struct Strides {
+    y: usize,
+    cb: usize,
+    cr: usize,
+}
+
+pub mod resample {
+    use crate::image::Layout;
+    use crate::laws::{answer, Answer};
+
+    #[derive(Clone, Copy, Debug, PartialEq)]
+    pub struct Phase {
+        pub left: bool,
+        pub f: f32,
+    }
+
+    extern "C" {
+        fn chroma_linear_plane(
+            layout: Layout, plane: *const u8, plane_len: usize, stride: usize,
+            s: *mut f32, s_len: usize, out: *mut u16, out_len: usize,
+        ) -> u32;
+    }
+
+    pub fn linear_plane(layout: Layout, plane: &[u8], stride: usize, s: &mut [f32], out: &mut [u16]) -> Answer {
+        crate::guarded_floats(s, |s| {
+            crate::guarded(out, 4_660, |out| {
+                // SAFETY: each pointer and length are one slice's.
+                answer(unsafe {
+                    chroma_linear_plane(
+                        layout, plane.as_ptr(), plane.len(), stride,
+                        s.as_mut_ptr(), s.len(), out.as_mut_ptr(), out.len(),
+                    )
+                })
+            })
+        })
+    }
+}
+
+pub mod upsample {
+    use crate::image::Layout;
+    use crate::laws::{answer, Answer};
+
+    extern "C" {
+        fn chroma_triangular_plane(
+            layout: Layout, plane: *const u8, plane_len: usize, stride: usize,
+            out: *mut u16, out_len: usize,
+        ) -> u32;
+    }
+
+    pub fn triangular_plane(layout: Layout, plane: &[u8], stride: usize, out: &mut [u16]) -> Answer {
+        crate::guarded(out, 4_660, |out| {
+            // SAFETY: each pointer and length are one slice's.
+            answer(unsafe {
+                chroma_triangular_plane(layout, plane.as_ptr(), plane.len(), stride, out.as_mut_ptr(), out.len())
+            })
+        })
+    }
+}
+
+pub mod planes {
+    use crate::image::Layout;
+    use crate::laws::{answer, Answer};
+
+    extern "C" {
+        fn chroma_guided_plane(
+            layout: Layout, y: *const u8, y_len: usize, y_stride: usize,
+            c: *const u8, c_len: usize, c_stride: usize,
+            s: *mut f32, s_len: usize, out: *mut u16, out_len: usize,
+        ) -> u32;
+    }
+
+    pub fn guided_plane(
+        layout: Layout, y: &[u8], y_stride: usize, c: &[u8], c_stride: usize, s: &mut [f32], out: &mut [u16],
+    ) -> Answer {
+        crate::guarded_floats(s, |s| {
+            crate::guarded(out, 4_660, |out| {
+                // SAFETY: each pointer and length are one slice's.
+                answer(unsafe {
+                    chroma_guided_plane(
+                        layout, y.as_ptr(), y.len(), y_stride, c.as_ptr(), c.len(), c_stride,
+                        s.as_mut_ptr(), s.len(), out.as_mut_ptr(), out.len(),
+                    )
+                })
+            })
+        })
+    }
+}
+
+pub mod guided {
+    use crate::laws::Answer;
+    use crate::resample::Phase;
+
+    #[derive(Clone, Copy, Debug, PartialEq)]
+    pub struct Geometry {
+        pub w: usize,
+        pub h: usize,
+        pub rh: usize,
+        pub rv: usize,
+        pub cw: usize,
+        pub ch: usize,
+        pub phases: [Phase; 4],
+    }
+
+    #[derive(Clone, Copy, Debug, PartialEq)]
+    pub struct Reader {
+        pub geometry: Geometry,
+        pub sample_bytes: usize,
+        pub maxval: u32,
+        pub place: usize,
+        pub h_next: usize,
+        pub f_next: usize,
+    }
+
+    pub struct Reply {
+        pub answer: Answer,
+        pub reader: Reader,
+    }
+}
+
+/// The state as C has it.
+mod states {
+    use crate::guided::{Geometry, Reader, Reply};
+    use crate::laws::answer;
+    use crate::resample::Phase;
+
+    #[repr(C)]
+    #[derive(Clone, Copy)]
+    struct RawPhase {
+        left: u32,
+        f: f32,
+    }
+
+    #[repr(C)]
+    #[derive(Clone, Copy)]
+    pub struct RawReader {
+        w: usize,
+        h: usize,
+        rh: usize,
+        rv: usize,
+        cw: usize,
+        ch: usize,
+        phases: [RawPhase; 4],
+        sample_bytes: usize,
+        maxval: u32,
+        place: usize,
+        h_next: usize,
+        f_next: usize,
+    }
+
+    #[repr(C)]
+    #[derive(Clone, Copy)]
+    pub struct RawReply {
+        refusal: u32,
+        reader: RawReader,
+    }
+
+    pub fn raw(r: Reader) -> RawReader {
+        let g = r.geometry;
+        RawReader {
+            w: g.w,
+            h: g.h,
+            rh: g.rh,
+            rv: g.rv,
+            cw: g.cw,
+            ch: g.ch,
+            phases: g.phases.map(|p| RawPhase { left: p.left as u32, f: p.f }),
+            sample_bytes: r.sample_bytes,
+            maxval: r.maxval,
+            place: r.place,
+            h_next: r.h_next,
+            f_next: r.f_next,
+        }
+    }
+
+    pub fn reply(r: RawReply) -> Reply {
+        let s = r.reader;
+        let phases = s.phases.map(|p| {
+            assert!(p.left < 2, "a phase that is neither");
+            Phase { left: p.left == 1, f: p.f }
+        });
+        let geometry = Geometry { w: s.w, h: s.h, rh: s.rh, rv: s.rv, cw: s.cw, ch: s.ch, phases };
+        let reader = Reader {
+            geometry,
+            sample_bytes: s.sample_bytes,
+            maxval: s.maxval,
+            place: s.place,
+            h_next: s.h_next,
+            f_next: s.f_next,
+        };
+        Reply { answer: answer(r.refusal), reader }
+    }
+}
+
+pub mod state {
+    use crate::guided::{Reader, Reply};
+    use crate::states::{raw, reply, RawReader, RawReply};
+
+    extern "C" {
+        fn chroma_seek(reader: RawReader, row: usize) -> RawReply;
+    }
+
+    pub fn seek(reader: Reader, y: usize) -> Reply {
+        // SAFETY: no pointer is passed.
+        reply(unsafe { chroma_seek(raw(reader), y) })
+    }
+}
+
+pub mod reader {
+    use crate::guided::{Reader, Reply};
+    use crate::image::Layout;
+    use crate::states::{raw, reply, RawReader, RawReply};
+    use crate::Strides;
+
+    extern "C" {
+        fn chroma_open(
+            layout: Layout, y: *const u8, y_len: usize, cb: *const u8, cb_len: usize,
+            cr: *const u8, cr_len: usize, strides: Strides, s: *const f32, s_len: usize,
+            reader: RawReader,
+        ) -> RawReply;
+        fn chroma_row(
+            reader: RawReader, y: *const u8, y_len: usize, cb: *const u8, cb_len: usize,
+            cr: *const u8, cr_len: usize, strides: Strides, row: usize, s: *mut f32, s_len: usize,
+            out_cb: *mut f32, out_cb_len: usize, out_cr: *mut f32, out_cr_len: usize,
+        ) -> RawReply;
+    }
+
+    #[allow(clippy::too_many_arguments)]
+    pub fn open(
+        layout: Layout, y: &[u8], y_stride: usize, cb: &[u8], cb_stride: usize, cr: &[u8], cr_stride: usize,
+        s: &[f32], reader: Reader,
+    ) -> Reply {
+        let strides = Strides { y: y_stride, cb: cb_stride, cr: cr_stride };
+        // SAFETY: each pointer and length are one slice's, and nothing is written.
+        reply(unsafe {
+            chroma_open(
+                layout, y.as_ptr(), y.len(), cb.as_ptr(), cb.len(), cr.as_ptr(), cr.len(), strides,
+                s.as_ptr(), s.len(), raw(reader),
+            )
+        })
+    }
+
+    #[allow(clippy::too_many_arguments)]
+    pub fn row(
+        reader: Reader, y: &[u8], y_stride: usize, cb: &[u8], cb_stride: usize, cr: &[u8], cr_stride: usize,
+        row: usize, s: &mut [f32], out_cb: &mut [f32], out_cr: &mut [f32],
+    ) -> Reply {
+        let strides = Strides { y: y_stride, cb: cb_stride, cr: cr_stride };
+        crate::guarded_floats(s, |s| {
+            crate::guarded_floats(out_cb, |b| {
+                crate::guarded_floats(out_cr, |r| {
+                    // SAFETY: each pointer and length are one slice's; the copies overlap nothing.
+                    reply(unsafe {
+                        chroma_row(
+                            raw(reader), y.as_ptr(), y.len(), cb.as_ptr(), cb.len(), cr.as_ptr(), cr.len(),
+                            strides, row, s.as_mut_ptr(), s.len(),
+                            b.as_mut_ptr(), b.len(), r.as_mut_ptr(), r.len(),
+                        )
+                    })
+                })
+            })
+        })
+    }
+}
+
+pub mod convert {
+    #[derive(Clone, Copy, Debug, PartialEq)]
+    pub enum Pixel {
+        Rgb(u8, u8, u8),
+        Refused(u8),
+    }
+
+    #[repr(C)]
+    struct RawPixel {
+        refusal: u32,
+        r: u8,
+        g: u8,
+        b: u8,
+    }
+
+    extern "C" {
+        fn chroma_exact_pixel(y: u32, cb256: u32, cr256: u32, maxval: u32) -> RawPixel;
+        fn chroma_fixed_pixel(y: u32, cb: u32, cr: u32) -> RawPixel;
+    }
+
+    fn pixel(p: RawPixel) -> Pixel {
+        match p.refusal {
+            0 => Pixel::Rgb(p.r, p.g, p.b),
+            n => Pixel::Refused(n as u8),
+        }
+    }
+
+    pub fn ycbcr_frac_to_rgb8(y: u32, cb256: u32, cr256: u32, maxval: u32) -> Pixel {
+        // SAFETY: no pointer is passed.
+        pixel(unsafe { chroma_exact_pixel(y, cb256, cr256, maxval) })
+    }
+
+    pub fn ycbcr_to_rgb8_fixed16(y: u32, cb: u32, cr: u32) -> Pixel {
+        // SAFETY: no pointer is passed.
+        pixel(unsafe { chroma_fixed_pixel(y, cb, cr) })
+    }
+}
+
+pub mod colour_rows {
+    #[derive(Clone, Copy)]
+    pub enum YcbcrKernel {
+        Exact = 0,
+        FixedPoint16 = 1,
+    }
+}
+
+pub mod fill {
+    use crate::colour_rows::YcbcrKernel;
+    use crate::image::Layout;
+    use crate::laws::{answer, Answer};
+    use crate::Strides;
+
+    #[derive(Clone, Copy)]
+    pub enum ChromaUpsampling {
+        Linear = 0,
+        LumaGuided = 1,
+    }
+
+    extern "C" {
+        fn chroma_fill(
+            layout: Layout, y: *const u8, y_len: usize, cb: *const u8, cb_len: usize,
+            cr: *const u8, cr_len: usize, strides: Strides, upsampling: u32, kernel: u32, size: usize,
+            s: *mut f32, s_len: usize, out: *mut u8, out_len: usize,
+        ) -> u32;
+    }
+
+    #[allow(clippy::too_many_arguments)]
+    pub fn fill(
+        layout: Layout, y: &[u8], y_stride: usize, cb: &[u8], cb_stride: usize, cr: &[u8], cr_stride: usize,
+        upsampling: ChromaUpsampling, kernel: YcbcrKernel, size: usize, s: &mut [f32], out: &mut [u8],
+    ) -> Answer {
+        let strides = Strides { y: y_stride, cb: cb_stride, cr: cr_stride };
+        crate::guarded_floats(s, |s| {
+            crate::guarded(out, 165, |out| {
+                // SAFETY: each pointer and length are one slice's; the copies overlap nothing.
+                answer(unsafe {
+                    chroma_fill(
+                        layout, y.as_ptr(), y.len(), cb.as_ptr(), cb.len(), cr.as_ptr(), cr.len(), strides,
+                        upsampling as u32, kernel as u32, size,
+                        s.as_mut_ptr(), s.len(), out.as_mut_ptr(), out.len(),
+                    )
+                })
+            })
+        })
+    }
+}
