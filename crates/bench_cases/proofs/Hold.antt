@@ -6,7 +6,7 @@ use Rattle.laws.specs.Lists.{table}
 use Rattle.laws.specs.Differences.{floorDiv, limit, within}
 use Rattle.fround.specs.Rounding.{roundClamped}
 use Rattle.upsample.specs.Triangular.{triangularSample, oneAxis, weighed, far}
-use Rattle.resample.specs.Taps.{spotAt, spotOf, tapOf, phaseOf}
+use Rattle.taps.specs.Taps.{spotAt, spotOf, tapOf, phaseOf}
 use Rattle.resample.specs.Linear.{linearSample, linearDown}
 use Rattle.guided.specs.Calls.{phasesOf, phaseAt}
 use Rattle.convert.specs.T871.{rnd}

@@ -10,7 +10,7 @@ use Rattle.laws.specs.Lists.{table}
 use Rattle.image.specs.declared.layout.Layout.{Layout}
 use Rattle.fround.specs.Rounding.{roundClamped}
 use Rattle.upsample.specs.Triangular.{triangularSample}
-use Rattle.resample.specs.declared.taps.Phase.{Phase}
+use Rattle.taps.specs.declared.taps.Phase.{Phase}
 use Rattle.resample.specs.Linear.{linearSample}
 use Rattle.guided.specs.Calls.{phasesOf}
 use Rattle.convert.specs.Kernels.{Colour, fixed255}

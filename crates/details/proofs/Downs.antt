@@ -6,8 +6,8 @@ use native.Mathlib.Omega.{arith}
 use lib.Ieee.{Float}
 use Rattle.laws.specs.Lists.{put}
 use Rattle.image.specs.declared.layout.Layout.{Layout}
-use Rattle.resample.specs.declared.taps.Tap.{Tap}
-use Rattle.resample.specs.Taps.{lerpOf, tapOf}
+use Rattle.taps.specs.declared.taps.Tap.{Tap}
+use Rattle.taps.specs.Taps.{lerpOf, tapOf}
 use Rattle.resample.specs.Rows.{cellAt}
 use Rattle.guided.specs.Guided.{downTo}
 use Rattle.guided.specs.Scratch.{slotAt, columnAt}

@@ -10,8 +10,8 @@ use Rattle.laws.proofs.Lists.{put-same}
 use Rattle.image.specs.declared.layout.Layout.{Layout}
 use Rattle.image.specs.Tests.{Sound}
 use Rattle.image.specs.Samples.{Plane, sampleAt}
-use Rattle.resample.specs.declared.taps.Phase.{Phase}
-use Rattle.resample.specs.Taps.{phaseOf}
+use Rattle.taps.specs.declared.taps.Phase.{Phase}
+use Rattle.taps.specs.Taps.{phaseOf}
 use Rattle.resample.specs.Rows.{cellAt}
 use Rattle.resample.specs.Linear.{scratchNeed}
 use Rattle.guided.specs.Guided.{acrossTo, detailOf}

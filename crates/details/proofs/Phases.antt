@@ -13,11 +13,11 @@ use Rattle.laws.specs.Floats.{f32}
 use Rattle.laws.proofs.Rows.{next-row, row-fits}
 use Rattle.image.specs.declared.layout.Layout.{Layout}
 use Rattle.image.specs.Tests.{Sound}
-use Rattle.resample.specs.declared.taps.Phase.{Phase}
-use Rattle.resample.specs.Taps.{lerpOf, phaseOf}
+use Rattle.taps.specs.declared.taps.Phase.{Phase}
+use Rattle.taps.specs.Taps.{lerpOf, phaseOf}
 use Rattle.guided.specs.Guided.{acrossTo}
 use Rattle.guided.specs.Calls.{phaseAt, phasesOf}
-use Rattle.sums.proofs.Cells.{begins}
+use Rattle.luma.proofs.Areas.{begins}
 use Rattle.laws.proofs.Counts.{none-plus, part-rest}
 use Rattle.details.specs.Pixels.{phased}
 

@@ -13,7 +13,7 @@ use Rattle.image.specs.declared.layout.Layout.{Layout}
 use Rattle.image.specs.Tests.{Sound}
 use Rattle.image.specs.Samples.{Plane, sampleAt}
 use Rattle.resample.specs.Rows.{cellAt}
-use Rattle.resample.specs.Taps.{lerpOf, fractionOf, phaseOf}
+use Rattle.taps.specs.Taps.{lerpOf, fractionOf, phaseOf}
 use Rattle.guided.specs.Guided.{acrossTo, detailOf}
 use Rattle.details.specs.declared.pairs.Pair.{Pair}
 use Rattle.details.specs.Pixels.{pairOf, detailRun, detailIn, detailPair}

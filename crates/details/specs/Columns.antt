@@ -5,7 +5,7 @@ use Prim.Native.Nat.{ℕ, _+_, _≤_}
 use lib.Ieee.{Float}
 use Rattle.laws.specs.Lists.{put}
 use Rattle.image.specs.declared.layout.Layout.{Layout}
-use Rattle.resample.specs.Taps.{lerpOf}
+use Rattle.taps.specs.Taps.{lerpOf}
 use Rattle.resample.specs.Linear.{scratchNeed}
 use Rattle.resample.specs.Rows.{cellAt}
 use Rattle.guided.specs.Guided.{downTo}

@@ -3,7 +3,7 @@ ghost use mathlib.Core.Path.{_≡_};
 ghost use Prim.Native.Nat.{ℕ, _+_, _*_, _≤_, _<_};
 ghost use lib.Ieee.{nan};
 ghost use lib.ListN.{length, getD};
-ghost use Rattle.sums.specs.Luma.{Cells};
+ghost use Rattle.luma.specs.Luma.{Cells};
 ghost use Rattle.details.specs.Pixels.{detailIn, detailPair, detailRun};
 use super::pairs::Lanes;
 use super::pairs::Pair;

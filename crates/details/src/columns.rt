@@ -14,7 +14,7 @@ fn lerp_row(s: &mut [f32], a: usize, b: usize, f: f32, n: usize, dst: usize)
 {
     let mut i = 0;
     while i < n {
-        s[dst + i] = resample::lerp(s[a + i], s[b + i], f);
+        s[dst + i] = taps::lerp(s[a + i], s[b + i], f);
         i += 1;
     }
 }
@@ -32,7 +32,7 @@ pub fn down_column(layout: Layout, n: usize, m: usize, y: usize, s: &mut [f32])
     requires { ⌜ Sound layout × (n < 11) × (m < 9) × (y < layout .h) × (scratchNeed layout ≤ length (now s)) ⌝ }
     ensures { λ _. ⌜ now (s .exit) ≡ downColumn layout n m y (now (s .entry)) ⌝ }
 {
-    let t = resample::tap_at(layout.rv, layout.ch, y);
+    let t = taps::tap_at(layout.rv, layout.ch, y);
     let a = sums::slot_at(layout, n, t.i0);
     let b = sums::slot_at(layout, n, t.i1);
     let dst = column_at(layout, m);

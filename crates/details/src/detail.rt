@@ -4,7 +4,7 @@ ghost use Prim.Native.Nat.{_+_, _*_, _≤_, _<_};
 ghost use lib.ListN.{length};
 ghost use Rattle.resample.specs.Linear.{scratchNeed};
 ghost use Rattle.guided.specs.Calls.{phasesOf};
-ghost use Rattle.sums.specs.Luma.{Cells};
+ghost use Rattle.luma.specs.Luma.{Cells};
 ghost use Rattle.details.specs.Pixels.{detailRun, detailLine};
 use super::blocks::detail_twos;
 use super::columns::column_at;
@@ -12,7 +12,7 @@ use super::pairs::across_pixel;
 use super::pairs::cell_at;
 use extremes::sample_at;
 use image::Layout;
-use resample::Phase;
+use taps::Phase;
 
 // The detail of n columns of row y, from column `from` on: luma less the cells at src lerped across.
 fn detail_run(
@@ -113,7 +113,7 @@ fn detail_ones(
     let mut i = 0;
     while i < n {
         let x = 1 + i;
-        let v = resample::lerp(s[src + x], s[src + (x + 1)], 0.0);
+        let v = taps::lerp(s[src + x], s[src + (x + 1)], 0.0);
         s[dst + 1 + i] = sample_at(layout, plane, stride, w, h, x, y) - v;
         i += 1;
     }

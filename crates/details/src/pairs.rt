@@ -11,7 +11,7 @@ ghost use Rattle.guided.specs.Guided.{acrossTo};
 ghost use Rattle.guided.specs.Calls.{phasesOf};
 ghost use Rattle.details.specs.Pixels.{phased, pairOf};
 use image::Layout;
-use resample::Phase;
+use taps::Phase;
 
 // Cell i of the cw cells at src, lerped across by a phase.
 fn across_at(s: &[f32], src: usize, cw: usize, p: Phase, i: usize) -> f32
@@ -20,10 +20,10 @@ fn across_at(s: &[f32], src: usize, cw: usize, p: Phase, i: usize) -> f32
 {
     if p.left {
         let l = sums::prev(i);
-        return resample::lerp(s[src + l], s[src + i], p.f);
+        return taps::lerp(s[src + l], s[src + i], p.f);
     }
     let r = sums::next(i, cw);
-    resample::lerp(s[src + i], s[src + r], p.f)
+    taps::lerp(s[src + i], s[src + r], p.f)
 }
 
 // Inner: the cells at src, lerped across at column x.
@@ -31,7 +31,7 @@ pub fn across_pixel(layout: Layout, s: &[f32], src: usize, x: usize) -> f32
     requires { ⌜ Sound layout × (x < layout .w) × (src + layout .cw ≤ length (now s)) ⌝ }
     ensures { λ r. ⌜ r ≡ acrossTo layout (cellAt (now (s .entry)) src) x ⌝ }
 {
-    let p = resample::phase_of(layout.rh, x % layout.rh);
+    let p = taps::phase_of(layout.rh, x % layout.rh);
     across_at(s, src, layout.cw, p, x / layout.rh)
 }
 
@@ -52,7 +52,7 @@ fn between(s: &[f32], src: usize, p: Phase, i: usize) -> f32
     ensures { λ r. ⌜ ((n : ℕ) → i + 1 < n → r ≡ phased (cellAt (now (s .entry)) src) n p i) ⌝ }
 {
     let a = start_of(p, i);
-    resample::lerp(s[src + a], s[src + (a + 1)], p.f)
+    taps::lerp(s[src + a], s[src + (a + 1)], p.f)
 }
 
 // Inner: cell i of the cells at src, lerped across in each of its pixels: no edge is met. What stands past the ratio is no pixel's.
@@ -99,7 +99,7 @@ pub fn pair_at(s: &[f32], src: usize, i: usize) -> Pair
 {
     let b = s[src + (i + 1)];
     Pair {
-        left: resample::lerp(s[src + i], b, 3.0 / 4.0),
-        right: resample::lerp(b, s[src + (i + 2)], 1.0 / 4.0),
+        left: taps::lerp(s[src + i], b, 3.0 / 4.0),
+        right: taps::lerp(b, s[src + (i + 2)], 1.0 / 4.0),
     }
 }

@@ -7,7 +7,7 @@ use native.Mathlib.Omega.{arith}
 use lib.Dec.{eqb, ltb}
 use lib.ListN.{length, getD}
 use lib.Ieee.{nan}
-use Rattle.resample.specs.declared.taps.Phase.{Phase}
+use Rattle.taps.specs.declared.taps.Phase.{Phase}
 use Rattle.guided.specs.declared.state.Reader.{Reader}
 use Rattle.guided.specs.Calls.{phaseIn}
 use Rattle.ffi.specs.Forms.{asPhase, chromaPhase, strangePhases, asReader, chromaReader}

@@ -8,7 +8,7 @@ use lib.Ieee.{nan}
 use Rattle.laws.specs.declared.Answer.{Answer}
 use Rattle.laws.specs.declared.Answer.the-variants.{Accepted, Refused}
 use Rattle.image.specs.declared.layout.Layout.{Layout}
-use Rattle.resample.specs.declared.taps.Phase.{Phase}
+use Rattle.taps.specs.declared.taps.Phase.{Phase}
 use Rattle.guided.specs.declared.state.Reader.{Reader}
 use Rattle.guided.specs.Calls.{phaseIn}
 use Rattle.ffi.specs.declared.forms.ChromaLayout.{ChromaLayout}

@@ -6,7 +6,7 @@ use guided::Reader;
 use image::Layout;
 use image::either;
 use laws::Answer;
-use resample::Phase;
+use taps::Phase;
 
 // A picture's numbers.
 #[repr(C)]

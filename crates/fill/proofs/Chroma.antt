@@ -13,10 +13,10 @@ use Rattle.image.specs.Tests.{Sound}
 use Rattle.image.specs.Samples.{sampleAt}
 use Rattle.image.specs.Picture.{Chroma, Cb, Cr, Planes, chromaPlane, inside, pictureOf}
 use Rattle.image.proofs.Pictures.{inside-is}
-use Rattle.resample.specs.Taps.{tapOf, TapGiven}
+use Rattle.taps.specs.Taps.{tapOf, TapGiven}
 use Rattle.resample.specs.Linear.{scratchNeed, linearDown, linearSample, linearRow}
 use Rattle.resample.specs.Rows.{cellAt}
-use Rattle.resample.proofs.Spots.{tap-given}
+use Rattle.taps.proofs.Spots.{tap-given}
 use Rattle.resample.proofs.LinearRows.{length-row, row-read}
 use Rattle.guided.specs.Scratch.{finishedAt}
 use Rattle.guided.proofs.Held.{Has}

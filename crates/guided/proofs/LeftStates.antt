@@ -18,8 +18,8 @@ use Rattle.image.specs.Tests.{layoutTests}
 use Rattle.image.proofs.Layouts.{sound}
 use Rattle.fround.specs.Rounding.{sameFloat}
 use Rattle.fround.proofs.Laws.{same-float}
-use Rattle.resample.specs.declared.taps.Phase.{Phase}
-use Rattle.resample.specs.Taps.{fractionOf, phaseOf, pickPhase}
+use Rattle.taps.specs.declared.taps.Phase.{Phase}
+use Rattle.taps.specs.Taps.{fractionOf, phaseOf, pickPhase}
 use Rattle.guided.specs.declared.geometry.Geometry.{Geometry}
 use Rattle.guided.specs.declared.state.Reader.{Reader}
 use Rattle.guided.specs.Calls.{phaseAt, phasesOf, geometryOf, layoutOf, freshH, freshF, doneH, doneF, readerAt, opened, sought, rowed, samePhase, phaseIn, badPhases, badCounters, badState}

@@ -7,8 +7,8 @@ use lib.Ieee.Nearest.{div-mono}
 use Rattle.image.specs.declared.layout.Layout.{Layout}
 use Rattle.image.specs.Tests.{Sound}
 use Rattle.image.proofs.Quotients.{cell-inside}
-use Rattle.resample.specs.Taps.{tapOf}
-use Rattle.resample.proofs.Spots.{spot-around, spot-beside, spot-inside, spot-ordered}
+use Rattle.taps.specs.Taps.{tapOf}
+use Rattle.taps.proofs.Spots.{spot-around, spot-beside, spot-inside, spot-ordered}
 use Rattle.guided.specs.Calls.{topOf, lastOf}
 
 -- a row of the picture has its cell inside the plane

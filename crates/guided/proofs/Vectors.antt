@@ -7,7 +7,7 @@ use lib.Count.{trailingZeros}
 use Rattle.laws.specs.Lists.{table}
 use Rattle.image.specs.Samples.{sampleOf, sampleAt}
 use Rattle.image.specs.Picture.{Cb, Picture, inside, pictureOf}
-use Rattle.resample.specs.Taps.{spotAt, spotOf, tapOf, phaseOf}
+use Rattle.taps.specs.Taps.{spotAt, spotOf, tapOf, phaseOf}
 use Rattle.guided.specs.Guided.{sumTo, three, lumaOf, extremeOf, cellLuma, cellOf, acrossVal, extreme, epsilon, mean, slopeOf, downTo, acrossTo, detailOf, valueOf, slope, guidedSample, guidedRow}
 
 -- a picture of two bytes at ratio r both ways, of cw by ch cells whose chroma is c twice

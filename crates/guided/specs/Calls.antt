@@ -15,8 +15,8 @@ use Rattle.image.specs.Tests.{layoutTests}
 use Rattle.image.specs.Samples.{Plane}
 use Rattle.image.specs.Picture.{Chroma, Cb, Cr, Picture, Planes, chromaPlane, pictureOf, badPlanes}
 use Rattle.fround.specs.Rounding.{sameFloat}
-use Rattle.resample.specs.declared.taps.Phase.{Phase}
-use Rattle.resample.specs.Taps.{tapOf, phaseOf, pickPhase}
+use Rattle.taps.specs.declared.taps.Phase.{Phase}
+use Rattle.taps.specs.Taps.{tapOf, phaseOf, pickPhase}
 use Rattle.resample.specs.Linear.{scratchNeed}
 use Rattle.resample.specs.Rows.{cellAt}
 use Rattle.guided.specs.declared.geometry.Geometry.{Geometry}

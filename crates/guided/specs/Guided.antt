@@ -8,9 +8,9 @@ use Rattle.laws.specs.Lists.{table}
 use Rattle.image.specs.declared.layout.Layout.{Layout}
 use Rattle.image.specs.Picture.{Chroma, Picture}
 use Rattle.fround.specs.Rounding.{fmin, fmax}
-use Rattle.resample.specs.declared.taps.Tap.{Tap}
-use Rattle.resample.specs.declared.taps.Phase.{Phase}
-use Rattle.resample.specs.Taps.{lerpOf, tapOf, phaseOf}
+use Rattle.taps.specs.declared.taps.Tap.{Tap}
+use Rattle.taps.specs.declared.taps.Phase.{Phase}
+use Rattle.taps.specs.Taps.{lerpOf, tapOf, phaseOf}
 
 -- f 0 + .. + f (n - 1)
 unfoldable pub sumTo : ℕ → (ℕ → ℕ) → ℕ

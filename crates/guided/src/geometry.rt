@@ -1,5 +1,5 @@
 // The geometry of a guided reconstruction.
-use resample::Phase;
+use taps::Phase;
 
 // Sizes, ratios, chroma size, and the phase of each pixel of a cell; the phases past the ratio are not left, 0.
 pub struct Geometry {

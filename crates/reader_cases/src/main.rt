@@ -8,7 +8,7 @@ use guided::Reader;
 use guided::Reply;
 use libc::STDIN_FILENO;
 use libc::STDOUT_FILENO;
-use resample::Phase;
+use taps::Phase;
 
 // What the outputs hold before a row call.
 const UNWRITTEN: f32 = 1.5;

@@ -13,7 +13,7 @@ pub use laws::Answer;
 pub use planes::guided_plane;
 pub use reader::open;
 pub use reader::row;
-pub use resample::Phase;
 pub use resample::linear_plane;
 pub use state::seek;
+pub use taps::Phase;
 pub use upsample::triangular_plane;

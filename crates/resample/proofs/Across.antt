@@ -9,7 +9,7 @@ use lib.Ieee.{Float, nan}
 use borrow.Author.Tests.{ne-eqb, le-ltb, lt-leb}
 use Rattle.laws.specs.Lists.{put}
 use Rattle.laws.proofs.Lists.{put-same, put-after, put-chain}
-use Rattle.resample.specs.Taps.{lerpOf, fractionOf, Spot, spotAt, spotOf, tapOn, tapOf}
+use Rattle.taps.specs.Taps.{lerpOf, fractionOf, Spot, spotAt, spotOf, tapOn, tapOf}
 use Rattle.resample.specs.Linear.{acrossBy}
 use Rattle.resample.specs.Rows.{cellAt, betweenAt, betweenRun, acrossRun}
 

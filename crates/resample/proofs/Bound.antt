@@ -7,11 +7,11 @@ use lib.Dec.{lit≤}
 use lib.Ieee.{Float, binary32, sub, mul}
 use Rattle.laws.specs.Floats.{f32, Near}
 use Rattle.laws.proofs.Nearness.{Mild, Part, Step, mild-step, add-near, sub-near, mul-near, whole-near, near-widen, near-aim}
-use Rattle.resample.specs.Taps.{Spot, lerpOf, fractionOf, tapOn}
+use Rattle.taps.specs.Taps.{Spot, lerpOf, fractionOf, tapOn}
 use Rattle.resample.specs.Linear.{downBy, acrossBy}
 use Rattle.resample.specs.Bound.{mix, exactNum, exactDen}
-use Rattle.resample.proofs.Spots.{Valid}
-use Rattle.resample.proofs.Table.{tap-fraction}
+use Rattle.taps.proofs.Spots.{Valid}
+use Rattle.taps.proofs.Table.{tap-fraction}
 
 -- ---- lerp
 

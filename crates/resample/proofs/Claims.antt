@@ -1,8 +1,8 @@
 -- What is claimed of linear floats, at every layout: within 1 / 16 of the exact value, and between its cells.
-use Rattle.resample.specs.Taps.{tapOf}
+use Rattle.taps.specs.Taps.{tapOf}
 use Rattle.resample.specs.Linear.{linearSample, linearDown}
 use Rattle.resample.specs.Bound.{LinearClaims, rowSpot, columnSpot}
-use Rattle.resample.proofs.Spots.{spot-valid}
+use Rattle.taps.proofs.Spots.{spot-valid}
 use Rattle.resample.proofs.Bound.{bilinear-near}
 use Rattle.resample.proofs.Span.{bilinear-between}
 

@@ -20,11 +20,11 @@ use Rattle.image.specs.Picture.{shortPlane}
 use Rattle.image.proofs.Layouts.{sound}
 use Rattle.image.specs.Samples.{Plane, sampleAt}
 use Rattle.fround.specs.Rounding.{roundClamped}
-use Rattle.resample.specs.declared.taps.Tap.{Tap}
-use Rattle.resample.specs.Taps.{tapOf, TapGiven}
+use Rattle.taps.specs.declared.taps.Tap.{Tap}
+use Rattle.taps.specs.Taps.{tapOf, TapGiven}
 use Rattle.resample.specs.Linear.{downBy, acrossBy, linearDown, linearSample, linearRow, linearScratch, columnAt, scratchNeed, linearTests, Ready}
 use Rattle.resample.specs.Rows.{cellAt, downRun, acrossRun, storeRun}
-use Rattle.resample.proofs.Spots.{tap-given}
+use Rattle.taps.proofs.Spots.{tap-given}
 use Rattle.laws.proofs.Counts.{none-plus, plus-none}
 
 -- down by the row's tap

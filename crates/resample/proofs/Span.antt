@@ -14,11 +14,11 @@ use lib.Ieee.Order.{le-of-values}
 use lib.Ieee.Scale.{grid}
 use Rattle.laws.specs.Floats.{f32}
 use Rattle.laws.proofs.Values.{whole-value}
-use Rattle.resample.specs.Taps.{Spot, lerpOf, fractionOf, tapOn}
+use Rattle.taps.specs.Taps.{Spot, lerpOf, fractionOf, tapOn}
 use Rattle.resample.specs.Linear.{downBy, acrossBy}
 use Rattle.resample.specs.Bound.{Spanned}
-use Rattle.resample.proofs.Spots.{Valid}
-use Rattle.resample.proofs.Table.{Fraction, tap-fraction}
+use Rattle.taps.proofs.Spots.{Valid}
+use Rattle.taps.proofs.Table.{Fraction, tap-fraction}
 use Rattle.laws.proofs.Units.{Kept, round-over, round-value, under-kept, round-most, round-least, kept-float}
 use Rattle.laws.proofs.Operators.{sub-up, sub-down, add-up, add-down, mul-by}
 

@@ -5,7 +5,7 @@ use lib.Dec.{T}
 use lib.Ieee.{Float, le}
 use Rattle.laws.specs.Floats.{f32, Near}
 use Rattle.image.specs.declared.layout.Layout.{Layout}
-use Rattle.resample.specs.Taps.{Spot, spotOf}
+use Rattle.taps.specs.Taps.{Spot, spotOf}
 use Rattle.resample.specs.Linear.{linearSample}
 
 -- p and q in the parts d - k and k: (p * (d - k) + q * k) / d is the exact value between them, k / d of the way

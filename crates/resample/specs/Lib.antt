@@ -1,4 +1,3 @@
-pub mod Taps
 pub mod Linear
 pub mod Rows
 pub mod Bound

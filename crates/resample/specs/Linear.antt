@@ -15,8 +15,8 @@ use Rattle.image.specs.Tests.{layoutTests, Sound}
 use Rattle.image.specs.Samples.{Plane, sampleAt}
 use Rattle.image.specs.Picture.{shortPlane}
 use Rattle.fround.specs.Rounding.{roundClamped}
-use Rattle.resample.specs.declared.taps.Tap.{Tap}
-use Rattle.resample.specs.Taps.{lerpOf, tapOf}
+use Rattle.taps.specs.declared.taps.Tap.{Tap}
+use Rattle.taps.specs.Taps.{lerpOf, tapOf}
 
 -- the cells of a column lerped down by a tap
 abbrev pub downBy : Tap → (ℕ → ℕ → ℕ) → ℕ → Float

@@ -7,7 +7,7 @@ use Rattle.laws.specs.Floats.{f32}
 use Rattle.laws.specs.Lists.{put}
 use Rattle.image.specs.Samples.{sampleOf}
 use Rattle.fround.specs.Rounding.{roundClamped}
-use Rattle.resample.specs.Taps.{lerpOf, fractionOf, tapOf}
+use Rattle.taps.specs.Taps.{lerpOf, fractionOf, tapOf}
 use Rattle.resample.specs.Linear.{acrossBy}
 
 -- cell i of the row that lies at src

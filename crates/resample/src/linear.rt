@@ -9,9 +9,9 @@ ghost use Rattle.resample.specs.Linear.{scratchNeed, linearTests, linear
 use super::rows::across_row;
 use super::rows::down_row;
 use super::rows::store_row;
-use super::taps::tap_at;
 use image::Layout;
 use laws::Answer;
+use taps::tap_at;
 
 // Inner: how many values of scratch every call over a picture asks for.
 pub fn scratch_need(layout: Layout) -> usize

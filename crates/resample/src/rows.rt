@@ -3,9 +3,9 @@ ghost use mathlib.Core.Path.{_≡_};
 ghost use Prim.Native.Nat.{_+_, _*_, _≤_, _<_};
 ghost use lib.ListN.{length};
 ghost use Rattle.resample.specs.Rows.{downRun, acrossRun, betweenRun, storeRun};
-use super::taps::fraction;
-use super::taps::lerp;
-use super::taps::tap_at;
+use taps::fraction;
+use taps::lerp;
+use taps::tap_at;
 
 // Inner: n samples of the two rows of a plane that begin at a and b, lerped by f, to s from dst on.
 pub fn down_row(

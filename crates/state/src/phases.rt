@@ -4,7 +4,7 @@ ghost use Prim.Native.Nat.{_≤_, _<_};
 ghost use Rattle.guided.specs.Calls.{phaseAt, phasesOf, geometryOf, samePhase, badPhases};
 use guided::Geometry;
 use image::Layout;
-use resample::Phase;
+use taps::Phase;
 
 // Phase k of a geometry at ratio r.
 fn phase_at(r: usize, k: usize) -> Phase
@@ -17,7 +17,7 @@ fn phase_at(r: usize, k: usize) -> Phase
             f: 0.0,
         };
     }
-    resample::phase_of(r, k)
+    taps::phase_of(r, k)
 }
 
 // Inner: the four phases of a ratio.

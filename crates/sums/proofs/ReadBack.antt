@@ -19,12 +19,12 @@ use Rattle.resample.specs.Rows.{cellAt}
 use Rattle.guided.specs.Guided.{three, lumaOf, cellLuma, cellOf, acrossVal}
 use Rattle.guided.specs.Scratch.{slotAt, firstOf, chromaParts, parts, acrossOver, slopesOver, horizontal, finish}
 use Rattle.sums.specs.Rows.{loadRun, cellsAt, productsAt, threeRow}
-use Rattle.sums.specs.Luma.{lumaRow}
+use Rattle.luma.specs.Luma.{lumaRow}
 use Rattle.sums.specs.Slopes.{slopeRow}
 use Rattle.sums.specs.declared.across.Slots.{Slots}
 use Rattle.sums.specs.Parts.{SlotsGiven, components, statRows, lumaPart, chromaPart}
 use Rattle.sums.proofs.Threes.{three-same}
-use Rattle.sums.proofs.Cells.{luma-inside}
+use Rattle.luma.proofs.Areas.{luma-inside}
 use Rattle.guided.proofs.Places.{slot-fits, slot-order}
 
 -- ---- a row that scratch holds

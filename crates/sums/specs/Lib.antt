@@ -1,5 +1,4 @@
 pub mod Rows
-pub mod Luma
 pub mod Buffers
 pub mod Slopes
 pub mod Parts

@@ -1,6 +1,5 @@
 // The statistics of a chroma row for luma-guided reconstruction: the original's GuidedRows::horizontal and GuidedRows::finish.
 mod across;
-mod luma;
 mod places;
 mod rows;
 mod slopes;
@@ -8,7 +7,6 @@ mod slopes;
 pub use across::Slots;
 pub use across::finish;
 pub use across::horizontal;
-pub use luma::luma_row;
 pub use places::Window;
 pub use places::pitch_of;
 pub use places::slot_at;

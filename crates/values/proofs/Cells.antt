@@ -7,7 +7,7 @@ use lib.Ieee.{Float}
 use Rattle.laws.specs.Floats.{f32, _⊕_, _⊗_}
 use Rattle.image.specs.declared.layout.Layout.{Layout}
 use Rattle.fround.specs.Rounding.{fmin, fmax}
-use Rattle.resample.specs.Taps.{lerpOf}
+use Rattle.taps.specs.Taps.{lerpOf}
 use Rattle.guided.specs.Guided.{acrossTo, valueOf}
 use Rattle.details.proofs.Phases.{one-is}
 

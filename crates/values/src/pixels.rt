@@ -15,7 +15,7 @@ use super::blocks::value_twos;
 use details::across_pixel;
 use details::cell_at;
 use image::Layout;
-use resample::Phase;
+use taps::Phase;
 
 // A component's value in column x: its cells and slopes lerped across, the detail between them, raised to the least and lowered to the greatest of its cell.
 fn value_at(layout: Layout, s: &[f32], t: Bands, x: usize) -> f32
@@ -91,8 +91,8 @@ fn value_one(layout: Layout, s: &[f32], t: Bands, x: usize) -> f32
     let slopes = t.slopes;
     let lo = t.least;
     let hi = t.greatest;
-    let c = resample::lerp(s[cells + x], s[cells + (x + 1)], 0.0);
-    let a = resample::lerp(s[slopes + x], s[slopes + (x + 1)], 0.0);
+    let c = taps::lerp(s[cells + x], s[cells + (x + 1)], 0.0);
+    let a = taps::lerp(s[slopes + x], s[slopes + (x + 1)], 0.0);
     limited(c + a * s[2 * layout.w + x], s[lo + x], s[hi + x])
 }
 

@@ -1,5 +1,5 @@
 use Rattle.resample.specs.Rows.{cellAt}
-use Rattle.resample.specs.Taps.{lerpOf}
+use Rattle.taps.specs.Taps.{lerpOf}
 use Rattle.details.specs.Columns.{lerpRun}
 use borrow.Author.Needs.{needs}
 use mathlib.Core.Path.{refl, _∙_}

@@ -2,7 +2,7 @@ use borrow.Author.Needs.{needs}
 use mathlib.Core.Path.{refl, _∙_}
 use Prim.Native.Nat.{_+_, _-_, _≤_}
 use lib.Ieee.{nan}
-use Rattle.resample.specs.Taps.{tapOf}
+use Rattle.taps.specs.Taps.{tapOf}
 use Rattle.resample.specs.Linear.{acrossBy}
 use Rattle.resample.specs.Rows.{cellAt, acrossRun}
 use Rattle.laws.proofs.Lists.{Run, run-none, run-more, run-end, run-after}

@@ -1,4 +1,4 @@
-use Rattle.resample.specs.declared.taps.Tap.{Tap}
+use Rattle.taps.specs.declared.taps.Tap.{Tap}
 use Rattle.image.proofs.Quotients.{cell-inside}
 use Rattle.guided.specs.Calls.{lastOf}
 use mathlib.Core.Path.{sym, ap}

@@ -1,4 +1,4 @@
-use Rattle.resample.specs.declared.taps.Tap.{Tap}
+use Rattle.taps.specs.declared.taps.Tap.{Tap}
 use Rattle.guided.specs.Calls.{topOf}
 use mathlib.Core.Path.{ap}
 use borrow.Author.Needs.{needs}

@@ -1,0 +1,229 @@
+// The luma of a chroma row's cells: the mean of each cell's pixels inside the picture.
+ghost use mathlib.Core.Path.{_≡_};
+ghost use Prim.Native.Nat.{_+_, _*_, _≤_, _<_};
+ghost use lib.ListN.{length};
+ghost use Rattle.laws.specs.Floats.{f32, _⊘_};
+ghost use Rattle.image.specs.Samples.{sampleAt};
+ghost use Rattle.guided.specs.Guided.{lumaOf};
+ghost use Rattle.luma.specs.Luma.{Cells, rowSum, cellSum, quadRun, pairRun, lumaRun, lumaRow};
+use image::Layout;
+
+// The sum of the n samples of row y from column x on.
+fn row_sum(layout: Layout, plane: &[u8], stride: usize, x: usize, y: usize, n: usize) -> u32
+    requires { ⌜ Cells layout (record { bytes = now plane; stride = stride }) ⌝ }
+    requires { ⌜ (x + n ≤ layout .w) × (y < layout .h) × (n ≤ 4) ⌝ }
+    ensures { λ r. ⌜ (r ≡ rowSum layout (record { bytes = now (plane .entry); stride = stride }) x y n) × (r ≤ 65535 * n) ⌝ }
+{
+    let bytes = layout.sample_bytes;
+    let mut t: u32 = 0;
+    let mut i = 0;
+    while i < n {
+        t += image::sample(plane, bytes, y * stride + (x + i) * bytes) as u32;
+        i += 1;
+    }
+    t
+}
+
+// The sum of m such rows, from row y on.
+fn cell_sum(
+    layout: Layout,
+    plane: &[u8],
+    stride: usize,
+    x: usize,
+    y: usize,
+    n: usize,
+    m: usize,
+) -> u32
+    requires { ⌜ Cells layout (record { bytes = now plane; stride = stride }) ⌝ }
+    requires { ⌜ (x + n ≤ layout .w) × (y + m ≤ layout .h) × (n ≤ 4) × (m ≤ 4) ⌝ }
+    ensures { λ r. ⌜ (r ≡ cellSum layout (record { bytes = now (plane .entry); stride = stride }) x y n m) × (r ≤ 262140 * m) ⌝ }
+{
+    let mut t: u32 = 0;
+    let mut i = 0;
+    while i < m {
+        t += row_sum(layout, plane, stride, x, y + i, n);
+        i += 1;
+    }
+    t
+}
+
+// A sum divided by the number of its pixels.
+fn mean_of(sum: u32, n: usize) -> f32
+    requires { ⌜ (sum ≤ 1048560) × (n ≤ 16) ⌝ }
+    ensures { λ r. ⌜ r ≡ f32 sum ⊘ f32 n ⌝ }
+{
+    sum as f32 / n as f32
+}
+
+// The luma of cell i of chroma row j, by the pixels that it has inside the picture.
+fn cell_luma(layout: Layout, plane: &[u8], stride: usize, j: usize, i: usize) -> f32
+    requires { ⌜ Cells layout (record { bytes = now plane; stride = stride }) ⌝ }
+    requires { ⌜ (j < layout .ch) × (i < layout .cw) ⌝ }
+    ensures { λ r. ⌜ r ≡ lumaOf layout (sampleAt (layout .«sample_bytes») (record { bytes = now (plane .entry); stride = stride })) j i ⌝ }
+{
+    let rh = layout.rh;
+    let rv = layout.rv;
+    let x = i * rh;
+    let y = j * rv;
+    let nx = image::least(rh, layout.w - x);
+    let ny = image::least(rv, layout.h - y);
+    mean_of(cell_sum(layout, plane, stride, x, y, nx, ny), nx * ny)
+}
+
+// The luma of n cells of chroma row j, from cell `from` on.
+fn luma_cells(
+    layout: Layout,
+    plane: &[u8],
+    stride: usize,
+    j: usize,
+    s: &mut [f32],
+    dst: usize,
+    from: usize,
+    n: usize,
+)
+    requires { ⌜ Cells layout (record { bytes = now plane; stride = stride }) ⌝ }
+    requires { ⌜ (j < layout .ch) × (from + n ≤ layout .cw) × (dst + from + n ≤ length (now s)) ⌝ }
+    ensures { λ _. ⌜ now (s .exit) ≡ lumaRun layout (record { bytes = now (plane .entry); stride = stride }) j dst from n (now (s .entry)) ⌝ }
+{
+    let mut i = 0;
+    while i < n {
+        s[dst + from + i] = cell_luma(layout, plane, stride, j, from + i);
+        i += 1;
+    }
+}
+
+fn wide(x: u8) -> u16
+    ensures { λ r. ⌜ (r ≡ x) × (r < 256) ⌝ }
+{
+    x as u16
+}
+
+// A sum of four bytes divided by 4.
+fn quarter(sum: u16) -> f32
+    ensures { λ r. ⌜ r ≡ f32 sum ⊘ f32 4 ⌝ }
+{
+    sum as f32 / 4.0
+}
+
+// The means of n quads, two by two bytes each, of the rows of a plane that begin at top and bottom.
+fn quads(plane: &[u8], top: usize, bottom: usize, n: usize, s: &mut [f32], dst: usize)
+    requires { ⌜ (top + 2 * n ≤ length (now plane)) × (bottom + 2 * n ≤ length (now plane)) × (dst + n ≤ length (now s)) ⌝ }
+    ensures { λ _. ⌜ now (s .exit) ≡ quadRun (now (plane .entry)) top bottom n dst (now (s .entry)) ⌝ }
+{
+    let mut i = 0;
+    while i < n {
+        let a = wide(plane[top + 2 * i]) + wide(plane[top + (2 * i + 1)]);
+        let b = wide(plane[bottom + 2 * i]) + wide(plane[bottom + (2 * i + 1)]);
+        s[dst + i] = quarter(a + b);
+        i += 1;
+    }
+}
+
+// The cells at the row's beginning that are quads of bytes inside the picture, and how many: none at other ratios or sample bytes.
+fn luma_quads(
+    layout: Layout,
+    plane: &[u8],
+    stride: usize,
+    j: usize,
+    s: &mut [f32],
+    dst: usize,
+) -> usize
+    requires { ⌜ Cells layout (record { bytes = now plane; stride = stride }) ⌝ }
+    requires { ⌜ (j < layout .ch) × (dst + layout .cw ≤ length (now s)) ⌝ }
+    ensures { λ r. ⌜ (r ≤ layout .cw) × (now (s .exit) ≡ lumaRun layout (record { bytes = now (plane .entry); stride = stride }) j dst 0 r (now (s .entry))) ⌝ }
+{
+    let y = j * 2;
+    if layout.h < y + 2 {
+        return 0;
+    }
+    if layout.rh != 2 {
+        return 0;
+    }
+    if layout.rv != 2 {
+        return 0;
+    }
+    if layout.sample_bytes != 1 {
+        return 0;
+    }
+    let n = layout.w / 2;
+    quads(plane, y * stride, (y + 1) * stride, n, s, dst);
+    n
+}
+
+// A sum of two bytes divided by 2.
+fn half(sum: u16) -> f32
+    ensures { λ r. ⌜ r ≡ f32 sum ⊘ f32 2 ⌝ }
+{
+    sum as f32 / 2.0
+}
+
+// The means of n pairs of bytes of the row of a plane that begins at top.
+fn pairs(plane: &[u8], top: usize, n: usize, s: &mut [f32], dst: usize)
+    requires { ⌜ (top + 2 * n ≤ length (now plane)) × (dst + n ≤ length (now s)) ⌝ }
+    ensures { λ _. ⌜ now (s .exit) ≡ pairRun (now (plane .entry)) top n dst (now (s .entry)) ⌝ }
+{
+    let mut i = 0;
+    while i < n {
+        s[dst + i] = half(wide(plane[top + 2 * i]) + wide(plane[top + (2 * i + 1)]));
+        i += 1;
+    }
+}
+
+// Likewise the cells that are pairs of bytes: at vertical ratio 1, and in a last row of one pixel row.
+fn luma_pairs(
+    layout: Layout,
+    plane: &[u8],
+    stride: usize,
+    j: usize,
+    s: &mut [f32],
+    dst: usize,
+) -> usize
+    requires { ⌜ Cells layout (record { bytes = now plane; stride = stride }) ⌝ }
+    requires { ⌜ (j < layout .ch) × (dst + layout .cw ≤ length (now s)) ⌝ }
+    ensures { λ r. ⌜ (r ≤ layout .cw) × (now (s .exit) ≡ lumaRun layout (record { bytes = now (plane .entry); stride = stride }) j dst 0 r (now (s .entry))) ⌝ }
+{
+    let rv = layout.rv;
+    let y = j * rv;
+    if layout.rh != 2 {
+        return 0;
+    }
+    if layout.sample_bytes != 1 {
+        return 0;
+    }
+    if image::least(rv, layout.h - y) != 1 {
+        return 0;
+    }
+    let m = layout.w / 2;
+    pairs(plane, y * stride, m, s, dst);
+    m
+}
+
+// The cells at the row's beginning by whichever of the two fits, and how many.
+fn luma_head(
+    layout: Layout,
+    plane: &[u8],
+    stride: usize,
+    j: usize,
+    s: &mut [f32],
+    dst: usize,
+) -> usize
+    requires { ⌜ Cells layout (record { bytes = now plane; stride = stride }) ⌝ }
+    requires { ⌜ (j < layout .ch) × (dst + layout .cw ≤ length (now s)) ⌝ }
+    ensures { λ r. ⌜ (r ≤ layout .cw) × (now (s .exit) ≡ lumaRun layout (record { bytes = now (plane .entry); stride = stride }) j dst 0 r (now (s .entry))) ⌝ }
+{
+    let n = luma_quads(layout, plane, stride, j, s, dst);
+    if n != 0 {
+        return n;
+    }
+    luma_pairs(layout, plane, stride, j, s, dst)
+}
+
+// Inner: the luma of the cells of chroma row j, to s from dst on.
+pub fn luma_row(layout: Layout, plane: &[u8], stride: usize, j: usize, s: &mut [f32], dst: usize)
+    requires { ⌜ Cells layout (record { bytes = now plane; stride = stride }) ⌝ }
+    requires { ⌜ (j < layout .ch) × (dst + layout .cw ≤ length (now s)) ⌝ }
+    ensures { λ _. ⌜ now (s .exit) ≡ lumaRow layout (record { bytes = now (plane .entry); stride = stride }) j dst (now (s .entry)) ⌝ }
+{
+    let n = luma_head(layout, plane, stride, j, s, dst);
+    luma_cells(layout, plane, stride, j, s, dst, n, layout.cw - n);
+}

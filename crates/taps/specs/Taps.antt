@@ -1,0 +1,67 @@
+-- 'Geometry' of document 01's chroma row: where an output sits among the cells, its tap, a pixel's phase, and lerp. Definitions only.
+use mathlib.Core.Path.{_≡_}
+use mathlib.Core.Bool.{Bool, true, false}
+use Prim.Native.Nat.{ℕ, _+_, _-_, _*_, _/_, _%_, _<_}
+use lib.Dec.{ltb, leb, eqb}
+use lib.Ieee.{Float, binary32, add, sub, mul, div}
+use Rattle.laws.specs.Floats.{f32}
+use Rattle.taps.specs.declared.taps.Tap.{Tap}
+use Rattle.taps.specs.declared.taps.Phase.{Phase}
+
+-- "lerp(a,b,f) = a + f·(b−a), three roundings"
+abbrev pub lerpOf : Float → Float → Float → Float
+lerpOf a b f = add binary32 a (mul binary32 f (sub binary32 b a))
+
+-- "as f32 (numerator over denominator, one division)"
+abbrev pub fractionOf : ℕ → ℕ → Float
+fractionOf k d = div binary32 (f32 k) (f32 d)
+
+-- a place between the cells near and far, k / d of the way, in whole numbers
+pub record Spot : Type 0 where
+  pub near : ℕ
+  pub far : ℕ
+  pub k : ℕ
+  pub d : ℕ
+
+abbrev pub pickSpot : Bool → Spot → Spot → Spot
+pickSpot true a b = a
+pickSpot false a b = b
+
+-- cell i itself, fraction 0
+abbrev pub onCell : ℕ → Spot
+onCell i = record { near = i; far = i; k = 0; d = 1 }
+
+-- u = m / d: "at or past the last cell it takes the last, fraction 0. Otherwise it takes floor(u), the next cell, and the rest of u"
+unfoldable pub spotAt : ℕ → ℕ → ℕ → Spot
+spotAt m d len = pickSpot (leb (len - 1) (m / d)) (onCell (len - 1)) (record { near = m / d; far = m / d + 1; k = m % d; d = d })
+
+-- output o over len cells, num cells to den outputs (ratio r is 1 to r): "Ratio 1 gives cell o"; else u = ((2o+1)·num − den)/(2·den), and "Below 0 it takes cell 0"
+unfoldable pub spotOf : ℕ → ℕ → ℕ → ℕ → Spot
+spotOf num den len o =
+    pickSpot (eqb num den) (onCell o)
+    (pickSpot (ltb ((2 * o + 1) * num) den) (onCell 0)
+    (spotAt ((2 * o + 1) * num - den) (2 * den) len))
+
+-- "A tap is two indices and a fraction"
+abbrev pub tapOn : Spot → Tap
+tapOn s = record { i0 = s .near; i1 = s .far; f = fractionOf (s .k) (s .d) }
+
+-- the tap of output o over len cells at ratio r
+unfoldable pub tapOf : ℕ → ℕ → ℕ → Tap
+tapOf r len o = tapOn (spotOf 1 r len o)
+
+-- what `tap_at` promises: the tap, and that its cells are among the len
+pub record TapGiven (r len o : ℕ) (t : Tap) : Type 0 where
+  pub is : t ≡ tapOf r len o
+  pub i0-inside : t .i0 < len
+  pub i1-inside : t .i1 < len
+
+abbrev pub pickPhase : Bool → Phase → Phase → Phase
+pickPhase true a b = a
+pickPhase false a b = b
+
+-- "Within a cell, pixel k has n = 2k+1−r over 2r. For n below 0 it goes from the left neighbour with fraction (n+2r)/(2r), otherwise from its own cell to the right one with n/(2r)."
+unfoldable pub phaseOf : ℕ → ℕ → Phase
+phaseOf r k =
+    pickPhase (ltb (2 * k + 1) r) (record { left = true; f = fractionOf (2 * k + 1 + r) (2 * r) })
+    (record { left = false; f = fractionOf (2 * k + 1 - r) (2 * r) })

@@ -1,0 +1,91 @@
+// Where an output sits among the chroma cells, and how far between two of them.
+ghost use mathlib.Core.Path.{_≡_};
+ghost use Prim.Native.Nat.{_*_, _≤_, _<_};
+ghost use Rattle.taps.specs.Taps.{lerpOf, fractionOf, onCell, spotAt, tapOn, phaseOf, TapGiven};
+
+// Two cells and how far between them.
+pub struct Tap {
+    pub i0: usize,
+    pub i1: usize,
+    pub f: f32,
+}
+
+// How a pixel of a cell goes across: from the left neighbour to its own cell, or from its own to the right one, and how far.
+pub struct Phase {
+    pub left: bool,
+    pub f: f32,
+}
+
+// Inner: a + f * (b - a).
+pub fn lerp(a: f32, b: f32, f: f32) -> f32
+    ensures { λ r. ⌜ r ≡ lerpOf a b f ⌝ }
+{
+    a + f * (b - a)
+}
+
+// Inner: k / d, one division.
+pub fn fraction(k: usize, d: usize) -> f32
+    requires { ⌜ (k < 65536) × (d < 65536) ⌝ }
+    ensures { λ r. ⌜ r ≡ fractionOf k d ⌝ }
+{
+    (k as u16) as f32 / (d as u16) as f32
+}
+
+fn on_cell(i: usize) -> Tap
+    ensures { λ t. ⌜ t ≡ tapOn (onCell i) ⌝ }
+{
+    Tap {
+        i0: i,
+        i1: i,
+        f: 0.0,
+    }
+}
+
+// m / d cells past the first of len.
+fn spot_at(m: usize, d: usize, len: usize) -> Tap
+    requires { ⌜ (0 < d) × (d < 65536) × (0 < len) ⌝ }
+    ensures { λ t. ⌜ t ≡ tapOn (spotAt m d len) ⌝ }
+{
+    let cell = m / d;
+    if len - 1 <= cell {
+        return on_cell(len - 1);
+    }
+    Tap {
+        i0: cell,
+        i1: cell + 1,
+        f: fraction(m % d, d),
+    }
+}
+
+// Inner: the tap of output o over len cells at ratio r.
+pub fn tap_at(r: usize, len: usize, o: usize) -> Tap
+    requires { ⌜ (0 < r) × (r ≤ 4) × (0 < len) × (o ≤ 8192) × (o < len * r) ⌝ }
+    ensures { λ t. ⌜ TapGiven r len o t ⌝ }
+{
+    if r == 1 {
+        return on_cell(o);
+    }
+    let n = 2 * o + 1;
+    if n < r {
+        return on_cell(0);
+    }
+    spot_at(n - r, 2 * r, len)
+}
+
+// Inner: the phase of pixel k of a cell at ratio r.
+pub fn phase_of(r: usize, k: usize) -> Phase
+    requires { ⌜ (r ≤ 4) × (k < 4) ⌝ }
+    ensures { λ p. ⌜ p ≡ phaseOf r k ⌝ }
+{
+    let n = 2 * k + 1;
+    if n < r {
+        return Phase {
+            left: true,
+            f: fraction(n + r, 2 * r),
+        };
+    }
+    Phase {
+        left: false,
+        f: fraction(n - r, 2 * r),
+    }
+}
