@@ -4,7 +4,7 @@ use oracle::{Bytes, Chroma, GuidedReader, Numbers};
 use sources::guided::{Geometry, Reader};
 use sources::image::Layout;
 use sources::laws::Answer;
-use sources::resample::Phase;
+use sources::taps::Phase;
 
 /// Marsaglia's 64-bit xorshift with the shifts 13, 7, 17.
 struct Random(u64);

@@ -67,15 +67,17 @@ struct Strides {
     cr: usize,
 }
 
-pub mod resample {
-    use crate::image::Layout;
-    use crate::laws::{answer, Answer};
-
+pub mod taps {
     #[derive(Clone, Copy, Debug, PartialEq)]
     pub struct Phase {
         pub left: bool,
         pub f: f32,
     }
+}
+
+pub mod resample {
+    use crate::image::Layout;
+    use crate::laws::{answer, Answer};
 
     extern "C" {
         fn chroma_linear_plane(
@@ -151,7 +153,7 @@ pub mod planes {
 
 pub mod guided {
     use crate::laws::Answer;
-    use crate::resample::Phase;
+    use crate::taps::Phase;
 
     #[derive(Clone, Copy, Debug, PartialEq)]
     pub struct Geometry {
@@ -184,7 +186,7 @@ pub mod guided {
 mod states {
     use crate::guided::{Geometry, Reader, Reply};
     use crate::laws::answer;
-    use crate::resample::Phase;
+    use crate::taps::Phase;
 
     #[repr(C)]
     #[derive(Clone, Copy)]
