@@ -1,16 +1,22 @@
-use borrow.Author.Needs.{needs}
 use mathlib.Core.Path.{_≡_}
 use Prim.Native.Nat.{_-_, _≤_}
 use native.Mathlib.Omega.{arith}
 use lib.ListN.{length}
 use Rattle.plane_cases.proofs.main.Statement.{statement}
+use borrow.Author.Needs.{needs}
 use Rattle.plane_cases.proofs.main.Tie as tie
 
 abbrev Inv-loop : tie.InvT-loop
-Inv-loop ran₀ differ₀ text₀ plane₀ s₀ out₀ t7 t8 counter₀ ran differ text plane s out counter = (ran ≤ counter) × (differ ≤ counter) × (counter ≤ 65536) × (length text ≡ 92) × (length plane ≡ 20000) × (length s ≡ 200000) × (length out ≡ 20000)
+Inv-loop ran₀ differ₀ text₀ luma plane₀ s₀ out₀ t8 t9 counter₀ ran differ text plane s out counter = (ran ≤ counter) × (differ ≤ counter) × (counter ≤ 65536) × (length text ≡ 92) × (length plane ≡ 20000) × (length s ≡ 200000) × (length out ≡ 20000)
 
 abbrev μ-loop : tie.MeasureT-loop
-μ-loop ran₀ differ₀ text₀ plane₀ s₀ out₀ t7 t8 counter₀ ran differ text plane s out counter = 65536 - counter
+μ-loop ran₀ differ₀ text₀ luma plane₀ s₀ out₀ t8 t9 counter₀ ran differ text plane s out counter = 65536 - counter
+
+slice-aggregate-grow : tie.Need-slice-aggregate-grow Inv-loop μ-loop
+slice-aggregate-grow c = omega arith
+
+grow-requires : tie.Need-grow-requires Inv-loop μ-loop
+grow-requires c κs = search needs
 
 loop-holds : tie.Need-loop-holds Inv-loop μ-loop
 loop-holds c = omega arith
@@ -35,6 +41,9 @@ slice-aggregate-right-3 c = omega arith
 
 slice-aggregate-right-4 : tie.Need-slice-aggregate-right-4 Inv-loop μ-loop
 slice-aggregate-right-4 c = omega arith
+
+slice-aggregate-right-5 : tie.Need-slice-aggregate-right-5 Inv-loop μ-loop
+slice-aggregate-right-5 c = omega arith
 
 right-requires : tie.Need-right-requires Inv-loop μ-loop
 right-requires c κs = search needs
@@ -81,6 +90,8 @@ main-spec =
     (tie.spec
     Inv-loop
     μ-loop
+    slice-aggregate-grow
+    grow-requires
     loop-holds
     slice-aggregate-read-full
     read-full-requires
@@ -89,6 +100,7 @@ main-spec =
     slice-aggregate-right-2
     slice-aggregate-right-3
     slice-aggregate-right-4
+    slice-aggregate-right-5
     right-requires
     more-requires
     add-differ
