@@ -1,0 +1,221 @@
+/* Every call of chroma.h with arbitrary numbers, states, lengths, strides and contents: what a
+ * fuzzer finds must be a crash, a byte touched outside what was lent, or a refused call that
+ * changed something. */
+#include <stdint.h>
+#include <stdio.h>
+#include <stdlib.h>
+#include <string.h>
+
+#include "chroma.h"
+
+enum { ROUND = 32, MOST = 4096 };
+
+static const uint8_t *next;
+static size_t left;
+
+static void check(int good, const char *what) {
+    if (!good) {
+        fprintf(stderr, "%s\n", what);
+        abort();
+    }
+}
+
+/* The next n bytes of the input, 0 past its end. */
+static uint64_t take(size_t n) {
+    uint64_t v = 0;
+    for (size_t i = 0; i < n; i++) {
+        v = v << 8 | (left > 0 ? *next : 0);
+        if (left > 0) {
+            next++;
+            left--;
+        }
+    }
+    return v;
+}
+
+/* Mostly small, at times any number. */
+static size_t number(void) {
+    uint8_t kind = (uint8_t)take(1);
+    if (kind < 200) {
+        return kind % 24;
+    }
+    if (kind < 230) {
+        return take(2) % 9000;
+    }
+    return take(8);
+}
+
+/* A lent slice with canaries round it, and what it held before. */
+typedef struct Slice {
+    uint8_t *all;
+    uint8_t *before;
+    size_t bytes;
+} Slice;
+
+static Slice lend(size_t count, size_t each) {
+    Slice s;
+    s.bytes = count * each;
+    s.all = malloc(s.bytes + 2 * ROUND);
+    s.before = malloc(s.bytes + 2 * ROUND);
+    check(s.all && s.before, "no memory");
+    memset(s.all, 0xA5, s.bytes + 2 * ROUND);
+    for (size_t i = 0; i < s.bytes; i++) {
+        s.all[ROUND + i] = (uint8_t)(left > 0 ? take(1) : i * 37 + 11);
+    }
+    memcpy(s.before, s.all, s.bytes + 2 * ROUND);
+    return s;
+}
+
+static void *at(Slice s) {
+    return s.all + ROUND;
+}
+
+static void done(Slice s, int may_change) {
+    check(memcmp(s.all, s.before, ROUND) == 0, "written before a slice");
+    check(memcmp(s.all + ROUND + s.bytes, s.before + ROUND + s.bytes, ROUND) == 0, "written behind a slice");
+    check(may_change || memcmp(s.all, s.before, s.bytes + 2 * ROUND) == 0, "a slice changed that should not");
+    free(s.all);
+    free(s.before);
+}
+
+static ChromaLayout layout(void) {
+    ChromaLayout l;
+    l.w = number();
+    l.h = number();
+    l.rh = number() % 6;
+    l.rv = number() % 6;
+    l.cw = l.rh ? (l.w + (l.rh - 1)) / l.rh : number();
+    l.ch = l.rv ? (l.h + (l.rv - 1)) / l.rv : number();
+    if (take(1) % 8 == 0) {
+        l.cw = number();
+    }
+    l.sample_bytes = 1 + take(1) % 3;
+    l.maxval = l.sample_bytes == 1 ? 255 : (uint32_t)take(3);
+    return l;
+}
+
+static ChromaReader state(void) {
+    ChromaReader r;
+    uint8_t *bytes = (uint8_t *)&r;
+    for (size_t i = 0; i < sizeof r; i++) {
+        bytes[i] = (uint8_t)take(1);
+    }
+    return r;
+}
+
+/* All but the padding between the fields. */
+static int same(const ChromaReader *a, const ChromaReader *b) {
+    return a->w == b->w && a->h == b->h && a->rh == b->rh && a->rv == b->rv && a->cw == b->cw && a->ch == b->ch
+        && memcmp(a->phases, b->phases, sizeof a->phases) == 0 && a->sample_bytes == b->sample_bytes
+        && a->maxval == b->maxval && a->place == b->place && a->h_next == b->h_next && a->f_next == b->f_next;
+}
+
+static size_t room(size_t need) {
+    size_t n = take(1) % 16 == 0 ? number() : need + take(1) % 3;
+    return n > MOST ? MOST : n;
+}
+
+static void reader(void) {
+    ChromaLayout l = layout();
+    ChromaStrides strides = {number(), number(), number()};
+    Slice y = lend(room(l.w * l.h * l.sample_bytes), 1);
+    Slice cb = lend(room(l.cw * l.ch * l.sample_bytes), 1);
+    Slice cr = lend(room(l.cw * l.ch * l.sample_bytes), 1);
+    if (take(1) % 4) {
+        strides.y = l.w * l.sample_bytes;
+        strides.cb = strides.cr = l.cw * l.sample_bytes;
+    }
+    Slice s = lend(room(chroma_scratch_need(l.cw, l.w)), sizeof(float));
+    ChromaReader strange = state();
+    ChromaReply at_row = chroma_open(l, at(y), y.bytes, at(cb), cb.bytes, at(cr), cr.bytes, strides, at(s), s.bytes / 4, strange);
+    check(at_row.refusal == 0 || same(&at_row.reader, &strange), "a refused open gave another state");
+    for (int k = 0; k < 6; k++) {
+        ChromaReader now = take(1) % 8 == 0 ? state() : at_row.reader;
+        if (take(1) % 3 == 0) {
+            at_row = chroma_seek(now, number());
+            check(at_row.refusal == 0 || same(&at_row.reader, &now), "a refused seek gave another state");
+            continue;
+        }
+        Slice b = lend(room(l.w), sizeof(float));
+        Slice r = lend(room(l.w), sizeof(float));
+        memcpy(s.before, s.all, s.bytes + 2 * ROUND);
+        at_row = chroma_row(now, at(y), y.bytes, at(cb), cb.bytes, at(cr), cr.bytes, strides, number(), at(s), s.bytes / 4, at(b), b.bytes / 4, at(r), r.bytes / 4);
+        check(at_row.refusal == 0 || same(&at_row.reader, &now), "a refused row gave another state");
+        check(at_row.refusal == 0 || memcmp(s.all, s.before, s.bytes + 2 * ROUND) == 0, "a refused row changed scratch");
+        done(b, at_row.refusal == 0);
+        done(r, at_row.refusal == 0);
+    }
+    done(s, 1);
+    done(y, 0);
+    done(cb, 0);
+    done(cr, 0);
+}
+
+static void whole(void) {
+    ChromaLayout l = layout();
+    size_t size = take(1) % 6;
+    ChromaStrides strides = {number(), number(), number()};
+    Slice y = lend(room(l.w * l.h * l.sample_bytes), 1);
+    Slice cb = lend(room(l.cw * l.ch * l.sample_bytes), 1);
+    Slice cr = lend(room(l.cw * l.ch * l.sample_bytes), 1);
+    if (take(1) % 4) {
+        strides.y = l.w * l.sample_bytes;
+        strides.cb = strides.cr = l.cw * l.sample_bytes;
+    }
+    Slice s = lend(room(chroma_scratch_need(l.cw, l.w)), sizeof(float));
+    Slice values = lend(room(l.w * l.h), sizeof(uint16_t));
+    Slice out = lend(room(l.w * l.h * size), 1);
+    uint32_t refusal = 0;
+    int kind = take(1) % 4;
+    if (kind == 0) {
+        refusal = chroma_fill(l, at(y), y.bytes, at(cb), cb.bytes, at(cr), cr.bytes, strides, (uint32_t)take(1) % 3, (uint32_t)take(1) % 3, size, at(s), s.bytes / 4, at(out), out.bytes);
+    } else if (kind == 1) {
+        refusal = chroma_linear_plane(l, at(cb), cb.bytes, strides.cb, at(s), s.bytes / 4, at(values), values.bytes / 2);
+    } else if (kind == 2) {
+        refusal = chroma_guided_plane(l, at(y), y.bytes, strides.y, at(cb), cb.bytes, strides.cb, at(s), s.bytes / 4, at(values), values.bytes / 2);
+    } else {
+        refusal = chroma_triangular_plane(l, at(cb), cb.bytes, strides.cb, at(values), values.bytes / 2);
+    }
+    done(s, refusal == 0 && kind != 3);
+    done(values, refusal == 0 && kind != 0);
+    done(out, refusal == 0 && kind == 0);
+    done(y, 0);
+    done(cb, 0);
+    done(cr, 0);
+}
+
+static void program(void) {
+    static float scratch[CHROMA_PICTURE_SCRATCH];
+    static uint8_t out[CHROMA_PICTURE_OUTPUT + ROUND];
+    size_t n = left;
+    uint8_t *input = malloc(n + 1);
+    check(input != NULL, "no memory");
+    memcpy(input, next, n);
+    memset(out, 0xA5, sizeof out);
+    ChromaWritten w = chroma_picture(input, n, scratch, CHROMA_PICTURE_SCRATCH, out, CHROMA_PICTURE_OUTPUT);
+    check(w.refusal == 0 || w.len == 0, "a refused picture with a length");
+    for (size_t i = w.len; i < sizeof out; i++) {
+        check(out[i] == 0xA5, "written behind the picture");
+    }
+    free(input);
+}
+
+int LLVMFuzzerTestOneInput(const uint8_t *data, size_t size) {
+    next = data;
+    left = size;
+    switch (take(1) % 4) {
+    case 0:
+        reader();
+        break;
+    case 1:
+        whole();
+        break;
+    case 2:
+        chroma_exact_pixel((uint32_t)take(4), (uint32_t)take(4), (uint32_t)take(4), (uint32_t)take(4));
+        chroma_fixed_pixel((uint32_t)take(4), (uint32_t)take(4), (uint32_t)take(4));
+        break;
+    default:
+        program();
+    }
+    return 0;
+}
