@@ -5,7 +5,7 @@ fn added(sum: u32, value: u32) -> u32 {
     ((sum as u64 * 1_103_515_245 + value as u64) % 4_294_967_296) as u32
 }
 
-// The sum so far with these bytes.
+// Inner: the sum so far with these bytes.
 pub fn sum_bytes(sum: u32, out: &[u8]) -> u32 {
     let mut sum = sum;
     let mut i = 0;
@@ -16,7 +16,7 @@ pub fn sum_bytes(sum: u32, out: &[u8]) -> u32 {
     sum
 }
 
-// The sum so far with these values.
+// Inner: the sum so far with these values.
 pub fn sum_values(sum: u32, out: &[u16]) -> u32 {
     let mut sum = sum;
     let mut i = 0;
@@ -27,7 +27,7 @@ pub fn sum_values(sum: u32, out: &[u16]) -> u32 {
     sum
 }
 
-// The sum so far with the bits of these floats.
+// Inner: the sum so far with the bits of these floats.
 pub fn sum_floats(sum: u32, out: &[f32]) -> u32 {
     let mut sum = sum;
     let mut i = 0;

@@ -26,7 +26,7 @@ pub use text::scratch_part;
 pub use text::size;
 pub use text::word;
 
-// An answer as a line says it: 0, or the refusal's number.
+// Inner: an answer as a line says it: 0, or the refusal's number.
 pub fn number(answer: Answer) -> usize {
     match answer {
         Answer::Accepted => 0,
@@ -34,7 +34,7 @@ pub fn number(answer: Answer) -> usize {
     }
 }
 
-// One more, where a call was wrong.
+// Inner: one more, where a call was wrong.
 pub fn more(right: bool) -> u64
     ensures { λ r. ⌜ r ≤ 1 ⌝ }
 {

@@ -19,7 +19,7 @@ fn shaped(state: u32, shape: usize) -> u8 {
     (shape % 256) as u8
 }
 
-// The bytes of a plane, from a number that stands for it: the generator's top bits.
+// Inner: the bytes of a plane, from a number that stands for it: the generator's top bits.
 pub fn grow(plane: &mut [u8], seed: usize, shape: usize) {
     let mut state = (seed % 4_294_967_296) as u32;
     let mut i = 0;
@@ -30,6 +30,7 @@ pub fn grow(plane: &mut [u8], seed: usize, shape: usize) {
     }
 }
 
+// Inner: every byte marked with a value.
 pub fn mark_bytes(out: &mut [u8], value: u8) {
     let mut i = 0;
     while i < out.len() {
@@ -38,6 +39,7 @@ pub fn mark_bytes(out: &mut [u8], value: u8) {
     }
 }
 
+// Inner: every value marked.
 pub fn mark_values(out: &mut [u16], value: u16) {
     let mut i = 0;
     while i < out.len() {
@@ -46,6 +48,7 @@ pub fn mark_values(out: &mut [u16], value: u16) {
     }
 }
 
+// Inner: every float marked.
 pub fn mark_floats(out: &mut [f32], value: f32) {
     let mut i = 0;
     while i < out.len() {
@@ -54,7 +57,7 @@ pub fn mark_floats(out: &mut [f32], value: f32) {
     }
 }
 
-// Whether a float at or past a place no longer holds the number it was marked with.
+// Inner: whether a float at or past a place no longer holds the number it was marked with.
 pub fn touched(s: &[f32], from: usize, value: f32) -> bool {
     let mut touched = false;
     let mut i = from;

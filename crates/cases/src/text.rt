@@ -3,7 +3,7 @@
 ghost use Prim.Native.Nat.{_<_};
 use image::Layout;
 
-// The byte at a place.
+// Inner: the byte at a place.
 pub fn byte(text: &[u8], at: usize) -> u8 {
     if at < text.len() {
         return text[at];
@@ -11,7 +11,7 @@ pub fn byte(text: &[u8], at: usize) -> u8 {
     0
 }
 
-// Whether a text ends as a line does.
+// Inner: whether a text ends as a line does.
 pub fn is_line(text: &[u8]) -> bool {
     let n = text.len();
     if n == 0 {
@@ -53,7 +53,7 @@ fn four(text: &[u8], at: usize) -> usize
     two(text, at) * 256 + two(text, at + 2)
 }
 
-// The number of the eight digits at a place.
+// Inner: the number of the eight digits at a place.
 pub fn eight(text: &[u8], at: usize) -> usize
     requires { ⌜ at < 65530 ⌝ }
     ensures { λ r. ⌜ r < 4294967296 ⌝ }
@@ -61,7 +61,7 @@ pub fn eight(text: &[u8], at: usize) -> usize
     four(text, at) * 65_536 + four(text, at + 4)
 }
 
-// Word k of a line.
+// Inner: word k of a line.
 pub fn word(text: &[u8], k: usize) -> usize
     requires { ⌜ k < 1000 ⌝ }
     ensures { λ r. ⌜ r < 65536 ⌝ }
@@ -69,7 +69,7 @@ pub fn word(text: &[u8], k: usize) -> usize
     four(text, 2 + 5 * k)
 }
 
-// Words k and k+1 as one number.
+// Inner: words k and k+1 as one number.
 pub fn long(text: &[u8], k: usize) -> usize
     requires { ⌜ k < 999 ⌝ }
     ensures { λ r. ⌜ r < 4294967296 ⌝ }
@@ -77,7 +77,7 @@ pub fn long(text: &[u8], k: usize) -> usize
     word(text, k) * 65_536 + word(text, k + 1)
 }
 
-// A size, stride or row: ffff stands for the largest usize.
+// Inner: a size, stride or row: ffff stands for the largest usize.
 pub fn size(text: &[u8], k: usize) -> usize
     requires { ⌜ k < 1000 ⌝ }
 {
@@ -88,7 +88,7 @@ pub fn size(text: &[u8], k: usize) -> usize
     n
 }
 
-// The layout that a line begins with: its first nine words.
+// Inner: the layout that a line begins with: its first nine words.
 pub fn layout(text: &[u8]) -> Layout {
     Layout {
         w: size(text, 0),
@@ -102,7 +102,7 @@ pub fn layout(text: &[u8]) -> Layout {
     }
 }
 
-// How much of its scratch a line's call may touch: the 64·cw + 8·w floats that it needs, or none where its answer is a refusal.
+// Inner: how much of its scratch a line's call may touch: the 64·cw + 8·w floats that it needs, or none where its answer is a refusal.
 pub fn scratch_part(text: &[u8], answer: usize) -> usize {
     if answer != 0 {
         return 0;
