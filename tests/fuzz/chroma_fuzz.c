@@ -115,16 +115,30 @@ static size_t room(size_t need) {
     return n > MOST ? MOST : n;
 }
 
+/* The planes of a picture: mostly as long as it asks for, with strides that fit. */
+typedef struct Planes {
+    Slice y, cb, cr;
+    ChromaStrides strides;
+} Planes;
+
+static Planes planes(ChromaLayout l) {
+    Planes p;
+    p.strides = (ChromaStrides){number(), number(), number()};
+    p.y = lend(room(l.w * l.h * l.sample_bytes), 1);
+    p.cb = lend(room(l.cw * l.ch * l.sample_bytes), 1);
+    p.cr = lend(room(l.cw * l.ch * l.sample_bytes), 1);
+    if (take(1) % 4) {
+        p.strides.y = l.w * l.sample_bytes;
+        p.strides.cb = p.strides.cr = l.cw * l.sample_bytes;
+    }
+    return p;
+}
+
 static void reader(void) {
     ChromaLayout l = layout();
-    ChromaStrides strides = {number(), number(), number()};
-    Slice y = lend(room(l.w * l.h * l.sample_bytes), 1);
-    Slice cb = lend(room(l.cw * l.ch * l.sample_bytes), 1);
-    Slice cr = lend(room(l.cw * l.ch * l.sample_bytes), 1);
-    if (take(1) % 4) {
-        strides.y = l.w * l.sample_bytes;
-        strides.cb = strides.cr = l.cw * l.sample_bytes;
-    }
+    Planes p = planes(l);
+    Slice y = p.y, cb = p.cb, cr = p.cr;
+    ChromaStrides strides = p.strides;
     Slice s = lend(room(chroma_scratch_need(l.cw, l.w)), sizeof(float));
     ChromaReader strange = state();
     ChromaReply at_row = chroma_open(l, at(y), y.bytes, at(cb), cb.bytes, at(cr), cr.bytes, strides, at(s), s.bytes / 4, strange);
@@ -154,14 +168,9 @@ static void reader(void) {
 static void whole(void) {
     ChromaLayout l = layout();
     size_t size = take(1) % 6;
-    ChromaStrides strides = {number(), number(), number()};
-    Slice y = lend(room(l.w * l.h * l.sample_bytes), 1);
-    Slice cb = lend(room(l.cw * l.ch * l.sample_bytes), 1);
-    Slice cr = lend(room(l.cw * l.ch * l.sample_bytes), 1);
-    if (take(1) % 4) {
-        strides.y = l.w * l.sample_bytes;
-        strides.cb = strides.cr = l.cw * l.sample_bytes;
-    }
+    Planes p = planes(l);
+    Slice y = p.y, cb = p.cb, cr = p.cr;
+    ChromaStrides strides = p.strides;
     Slice s = lend(room(chroma_scratch_need(l.cw, l.w)), sizeof(float));
     Slice values = lend(room(l.w * l.h), sizeof(uint16_t));
     Slice out = lend(room(l.w * l.h * size), 1);
