@@ -13,7 +13,7 @@ use Rattle.laws.specs.Floats.{f32, _⊗_}
 use Rattle.image.specs.declared.layout.Layout.{Layout}
 use Rattle.image.specs.Samples.{Plane, sampleAt}
 use Rattle.fround.specs.Rounding.{roundClamped}
-use Rattle.resample.specs.Rows.{cellAt}
+use Rattle.image.specs.Scratch.{cellAt}
 use Rattle.convert.specs.Kernels.{exact255, exactAt, fixed255}
 use Rattle.convert.specs.Pixels.{exactColour}
 use Rattle.colour_rows.specs.Colours.{limit256, chroma256, wholeChroma, colourBy, rowColour}

@@ -8,7 +8,7 @@ use Rattle.laws.specs.Floats.{f32, _⊗_}
 use Rattle.image.specs.declared.layout.Layout.{Layout}
 use Rattle.image.specs.Samples.{Plane, sampleAt}
 use Rattle.fround.specs.Rounding.{roundClamped}
-use Rattle.resample.specs.Rows.{cellAt}
+use Rattle.image.specs.Scratch.{cellAt}
 use Rattle.convert.specs.Kernels.{Colour, fixed255}
 use Rattle.convert.specs.Pixels.{exactColour}
 use Rattle.convert.specs.Stores.{pixels}

@@ -5,7 +5,7 @@ ghost use lib.ListN.{length};
 ghost use Rattle.laws.specs.Floats.{f32, _⊗_};
 ghost use Rattle.image.specs.Samples.{sampleAt};
 ghost use Rattle.fround.specs.Rounding.{roundClamped, Rounded};
-ghost use Rattle.resample.specs.Rows.{cellAt};
+ghost use Rattle.image.specs.Scratch.{cellAt};
 ghost use Rattle.colour_rows.specs.Lent.{LumaRow, Sixteen};
 use convert::Block;
 use image::Layout;

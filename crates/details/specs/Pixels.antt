@@ -9,18 +9,10 @@ use Rattle.image.specs.declared.layout.Layout.{Layout}
 use Rattle.image.specs.Samples.{Plane, sampleAt}
 use Rattle.taps.specs.declared.taps.Phase.{Phase}
 use Rattle.taps.specs.Taps.{lerpOf, fractionOf}
-use Rattle.resample.specs.Rows.{cellAt}
+use Rattle.image.specs.Scratch.{cellAt}
 use Rattle.guided.specs.Guided.{detailOf}
 use Rattle.guided.specs.Scratch.{detailAt, columnAt}
-use Rattle.details.specs.declared.pairs.Pair.{Pair}
-
--- cell i of the n cells g, lerped across by a phase
-unfoldable pub phased : (ℕ → Float) → ℕ → Phase → ℕ → Float
-phased g n p i = cond (p .left) (lerpOf (g (i - 1)) (g i) (p .f)) (lerpOf (g i) (g (min (i + 1) (n - 1))) (p .f))
-
--- the two pixels of cell i + 1 at ratio 2, where no edge is met
-unfoldable pub pairOf : (ℕ → Float) → ℕ → Pair
-pairOf g i = record { left = lerpOf (g i) (g (i + 1)) (fractionOf 3 4); right = lerpOf (g (i + 1)) (g (i + 2)) (fractionOf 1 4) }
+use Rattle.lerps.specs.declared.pairs.Pair.{Pair}
 
 -- the detail of column x of row y by the cells at src
 abbrev pub detailIn : Layout → Plane → ℕ → List Float → ℕ → ℕ → Float

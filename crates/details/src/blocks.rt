@@ -5,12 +5,12 @@ ghost use lib.Ieee.{nan};
 ghost use lib.ListN.{length, getD};
 ghost use Rattle.luma.specs.Luma.{Cells};
 ghost use Rattle.details.specs.Pixels.{detailIn, detailPair, detailRun};
-use super::pairs::Lanes;
-use super::pairs::Pair;
-use super::pairs::pair_at;
-use super::pairs::put_block;
-use extremes::sample_at;
 use image::Layout;
+use lerps::Lanes;
+use lerps::Pair;
+use lerps::pair_at;
+use lerps::put_block;
+use places::sample_at;
 
 // The detail of the pixels of cell i + 1 at ratio 2: no phase and no edge is looked at.
 fn detail_pair(

@@ -2,16 +2,16 @@
 ghost use mathlib.Core.Path.{_≡_};
 ghost use Prim.Native.Nat.{_+_, _*_, _≤_, _<_};
 ghost use lib.ListN.{length};
-ghost use Rattle.resample.specs.Linear.{scratchNeed};
+ghost use Rattle.image.specs.Scratch.{scratchNeed};
 ghost use Rattle.guided.specs.Calls.{phasesOf};
 ghost use Rattle.luma.specs.Luma.{Cells};
 ghost use Rattle.details.specs.Pixels.{detailRun, detailLine};
 use super::blocks::detail_twos;
-use super::columns::column_at;
-use super::pairs::across_pixel;
-use super::pairs::cell_at;
-use extremes::sample_at;
 use image::Layout;
+use lerps::across_pixel;
+use lerps::cell_at;
+use lerps::column_at;
+use places::sample_at;
 use taps::Phase;
 
 // The detail of n columns of row y, from column `from` on: luma less the cells at src lerped across.

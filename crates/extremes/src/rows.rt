@@ -5,12 +5,12 @@ ghost use lib.ListN.{length};
 ghost use Rattle.laws.specs.Floats.{f32};
 ghost use Rattle.image.specs.Samples.{Plane, sampleAt};
 ghost use Rattle.guided.specs.Guided.{three, extremeOf};
-ghost use Rattle.sums.specs.Parts.{ChromaCells};
+ghost use Rattle.places.specs.Lent.{ChromaCells};
 ghost use Rattle.extremes.specs.Extremes.{opOf, extremeRun, extremeRow};
-use super::cells::sample_at;
 use super::inner::byte_run;
 use super::inner::word_run;
 use image::Layout;
+use places::sample_at;
 
 // The greater or the smaller of two.
 fn pick(greatest: bool, a: f32, b: f32) -> f32
@@ -29,9 +29,9 @@ fn across(layout: Layout, plane: &[u8], stride: usize, greatest: bool, r: usize,
 {
     let w = layout.cw;
     let h = layout.ch;
-    let a = sample_at(layout, plane, stride, w, h, sums::prev(i), r);
+    let a = sample_at(layout, plane, stride, w, h, places::prev(i), r);
     let b = sample_at(layout, plane, stride, w, h, i, r);
-    let c = sample_at(layout, plane, stride, w, h, sums::next(i, w), r);
+    let c = sample_at(layout, plane, stride, w, h, places::next(i, w), r);
     pick(greatest, pick(greatest, a, b), c)
 }
 
@@ -47,9 +47,16 @@ fn extreme_at(
     requires { ⌜ ChromaCells layout (record { bytes = now plane; stride = stride }) × (i < layout .cw) × (j < layout .ch) ⌝ }
     ensures { λ v. ⌜ v ≡ extremeOf layout (opOf greatest) (sampleAt (layout .«sample_bytes») (record { bytes = now (plane .entry); stride = stride })) j i ⌝ }
 {
-    let a = across(layout, plane, stride, greatest, sums::prev(j), i);
+    let a = across(layout, plane, stride, greatest, places::prev(j), i);
     let b = across(layout, plane, stride, greatest, j, i);
-    let c = across(layout, plane, stride, greatest, sums::next(j, layout.ch), i);
+    let c = across(
+        layout,
+        plane,
+        stride,
+        greatest,
+        places::next(j, layout.ch),
+        i,
+    );
     pick(greatest, pick(greatest, a, b), c)
 }
 
@@ -90,9 +97,9 @@ fn extreme_inner(
     ensures { λ _. ⌜ now (s .exit) ≡ extremeRun layout (record { bytes = now (plane .entry); stride = stride }) greatest j dst 1 (layout .cw - 2) (now (s .entry)) ⌝ }
 {
     let n = layout.cw - 2;
-    let u = sums::prev(j) * stride;
+    let u = places::prev(j) * stride;
     let m = j * stride;
-    let d = sums::next(j, layout.ch) * stride;
+    let d = places::next(j, layout.ch) * stride;
     if layout.sample_bytes == 1 {
         byte_run(plane, greatest, u, m, d, n, s, dst + 1);
         return;

@@ -12,7 +12,7 @@ use Rattle.laws.proofs.Refusals.{accepted-failed, failed-both}
 use Rattle.image.specs.Tests.{outsideOf, layoutTests}
 use Rattle.image.specs.Picture.{shortPlane, badPlanes}
 use Rattle.image.proofs.Layouts.{neither, sound}
-use Rattle.resample.specs.Linear.{scratchNeed}
+use Rattle.image.specs.Scratch.{scratchNeed}
 use Rattle.fill.specs.Fill.{FillCall, isFixed, fillTests}
 use Rattle.fill.specs.Steps.{FillLent}
 

@@ -14,8 +14,8 @@ use Rattle.image.specs.Samples.{sampleAt}
 use Rattle.image.specs.Picture.{Chroma, Cb, Cr, Planes, chromaPlane, inside, pictureOf}
 use Rattle.image.proofs.Pictures.{inside-is}
 use Rattle.taps.specs.Taps.{tapOf, TapGiven}
-use Rattle.resample.specs.Linear.{scratchNeed, linearDown, linearSample, linearRow}
-use Rattle.resample.specs.Rows.{cellAt}
+use Rattle.resample.specs.Linear.{linearDown, linearSample, linearRow}
+use Rattle.image.specs.Scratch.{scratchNeed, cellAt}
 use Rattle.taps.proofs.Spots.{tap-given}
 use Rattle.resample.proofs.LinearRows.{length-row, row-read}
 use Rattle.guided.specs.Scratch.{finishedAt}

@@ -13,7 +13,7 @@ use Rattle.image.specs.Tests.{Sound}
 use Rattle.image.specs.Samples.{sampleAt}
 use Rattle.image.specs.Picture.{Cb, Cr, Planes, pictureOf}
 use Rattle.image.proofs.Pictures.{inside-is}
-use Rattle.resample.specs.Linear.{scratchNeed}
+use Rattle.image.specs.Scratch.{scratchNeed}
 use Rattle.guided.specs.Scratch.{finishedAt}
 use Rattle.convert.specs.Kernels.{Colour}
 use Rattle.convert.specs.Stores.{pixels}

@@ -11,7 +11,8 @@ use Rattle.laws.specs.declared.Answer.{Answer}
 use Rattle.image.specs.declared.layout.Layout.{Layout}
 use Rattle.image.specs.Tests.{outsideOf, layoutTests}
 use Rattle.image.specs.Picture.{Chroma, Cb, Cr, Picture, Planes, pictureOf, badPlanes}
-use Rattle.resample.specs.Linear.{scratchNeed, linearSample, linearRow}
+use Rattle.resample.specs.Linear.{linearSample, linearRow}
+use Rattle.image.specs.Scratch.{scratchNeed}
 use Rattle.guided.specs.Guided.{guidedSample}
 use Rattle.guided_rows.specs.Rows.{guidedRows}
 use Rattle.convert.specs.Kernels.{Colour}

@@ -5,8 +5,8 @@ use Prim.Native.Nat.{ℕ, _+_, _*_, _≤_}
 use lib.Ieee.{Float}
 use Rattle.image.specs.declared.layout.Layout.{Layout}
 use Rattle.image.specs.Picture.{Cb, Cr, Planes, pictureOf}
-use Rattle.resample.specs.Linear.{scratchNeed}
-use Rattle.sums.specs.Parts.{Lent}
+use Rattle.image.specs.Scratch.{scratchNeed}
+use Rattle.places.specs.Lent.{Lent}
 use Rattle.guided_rows.specs.Rows.{guidedStep}
 use Rattle.fill.specs.declared.ChromaUpsampling.{ChromaUpsampling}
 use Rattle.fill.specs.declared.ChromaUpsampling.the-variants.{Linear, LumaGuided}

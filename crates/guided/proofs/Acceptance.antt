@@ -14,7 +14,7 @@ use Rattle.laws.proofs.Refusals.{Failed, accepted-failed, accepted-is, failed-b
 use Rattle.image.specs.Tests.{layoutTests, Sound}
 use Rattle.image.specs.Picture.{badPlanes}
 use Rattle.image.proofs.Layouts.{neither, sound, sound-answer}
-use Rattle.resample.specs.Linear.{scratchNeed}
+use Rattle.image.specs.Scratch.{scratchNeed}
 use Rattle.guided.specs.declared.state.Reader.{Reader}
 use Rattle.guided.specs.Calls.{layoutOf, freshH, freshF, doneH, doneF, badPhases, badCounters, badState, OpenCall, SeekCall, RowCall, openTests, seekTests, rowTests}
 use Rattle.guided.proofs.Window.{Counters}

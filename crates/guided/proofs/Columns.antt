@@ -11,8 +11,7 @@ use Rattle.laws.proofs.Lists.{length-put, put-inside}
 use Rattle.image.specs.Tests.{Sound}
 use Rattle.image.specs.Picture.{Chroma, Cb, Cr, Picture}
 use Rattle.fround.specs.Rounding.{fmin, fmax}
-use Rattle.resample.specs.Linear.{scratchNeed}
-use Rattle.resample.specs.Rows.{cellAt}
+use Rattle.image.specs.Scratch.{scratchNeed, cellAt}
 use Rattle.guided.specs.Guided.{Across, Luma, Cell, acrossVal, extreme, downTo, detailOf, slope, guidedSample}
 use Rattle.guided.specs.Scratch.{finishedAt, detailAt, slotAt, columnAt, columnOf, numAcross, numSlope, readAcross, readSlope, lumaColumn, detailRow, componentColumns}
 use Rattle.guided.specs.Calls.{topOf, doneH, doneF}

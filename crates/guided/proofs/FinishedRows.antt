@@ -11,7 +11,7 @@ use Rattle.laws.proofs.Lists.{length-put, put-inside}
 use Rattle.image.specs.Tests.{Sound}
 use Rattle.image.specs.Picture.{Chroma, Picture}
 use Rattle.fround.specs.Rounding.{fmin, fmax}
-use Rattle.resample.specs.Rows.{cellAt}
+use Rattle.image.specs.Scratch.{cellAt}
 use Rattle.guided.specs.Guided.{Luma, Cell, acrossVal, extreme, downTo, detailOf, valueOf, slope, guidedSample}
 use Rattle.guided.specs.Scratch.{finishedAt, detailAt, columnAt, columnOf, fsteps, lumaColumn, detailRow, componentColumns, finishedRow, componentsOver, rowSteps}
 use Rattle.guided.specs.Calls.{topOf, doneH, doneF}

@@ -16,7 +16,7 @@ use Rattle.image.specs.declared.layout.Layout.{Layout}
 use Rattle.image.specs.Tests.{layoutTests, badPlane}
 use Rattle.image.specs.Samples.{Plane}
 use Rattle.image.specs.Picture.{Planes, shortPlane, badPlanes}
-use Rattle.resample.specs.Linear.{scratchNeed}
+use Rattle.image.specs.Scratch.{scratchNeed}
 use Rattle.guided.specs.declared.state.Reader.{Reader}
 use Rattle.guided.specs.Calls.{layoutOf, geometryOf, readerAt, opened, sought, rowed, badState, OpenCall, SeekCall, RowCall, openTests, seekTests, rowTests}
 use Rattle.guided.proofs.Acceptance.{state-tests, open-handed, seek-handed, row-handed}

@@ -15,8 +15,7 @@ use Rattle.laws.proofs.Lists.{length-put, put-before, put-inside, put-after}
 use Rattle.laws.proofs.Rows.{row-fits}
 use Rattle.image.specs.declared.layout.Layout.{Layout}
 use Rattle.image.specs.Picture.{Chroma, Cb, Cr}
-use Rattle.resample.specs.Linear.{scratchNeed}
-use Rattle.resample.specs.Rows.{cellAt}
+use Rattle.image.specs.Scratch.{scratchNeed, cellAt}
 use Rattle.guided.specs.Scratch.{finishedAt, detailAt, pitch, bufferAt, slotAt, columnAt}
 
 -- ---- the places

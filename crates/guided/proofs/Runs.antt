@@ -15,7 +15,7 @@ use Rattle.image.specs.Tests.{Sound}
 use Rattle.image.specs.Samples.{sampleAt}
 use Rattle.image.specs.Picture.{Chroma, Cb, Cr, Planes, chromaPlane, inside, pictureOf, badPlanes}
 use Rattle.image.proofs.Pictures.{inside-is, padding-unseen}
-use Rattle.resample.specs.Rows.{cellAt}
+use Rattle.image.specs.Scratch.{cellAt}
 use Rattle.guided.specs.declared.state.Reader.{Reader}
 use Rattle.guided.specs.Guided.{guidedSample, guidedRow}
 use Rattle.guided.specs.Scratch.{finishedAt, rowSteps}

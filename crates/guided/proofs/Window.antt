@@ -10,7 +10,7 @@ use lib.Ieee.{Float}
 use Rattle.image.specs.declared.layout.Layout.{Layout}
 use Rattle.image.specs.Tests.{Sound}
 use Rattle.image.specs.Picture.{Chroma, Picture}
-use Rattle.resample.specs.Linear.{scratchNeed}
+use Rattle.image.specs.Scratch.{scratchNeed}
 use Rattle.guided.specs.Scratch.{horizontal, finish, hsteps, hAt, fsteps}
 use Rattle.guided.specs.Calls.{topOf, lastOf, freshH, freshF, doneH, doneF}
 use Rattle.guided.proofs.Taken.{taken, top-later, last-later}

@@ -17,7 +17,7 @@ use Rattle.image.specs.Tests.{badSize, badRatio, badSamples, divCeil, badChroma
 use Rattle.image.specs.Samples.{sampleOf, sampleAt}
 use Rattle.image.specs.Picture.{Cb, Cr, Planes, inside, pictureOf, shortPlane, badPlanes}
 use Rattle.taps.specs.Taps.{spotAt, spotOf, tapOf, phaseOf}
-use Rattle.resample.specs.Linear.{scratchNeed}
+use Rattle.image.specs.Scratch.{scratchNeed}
 use Rattle.guided.specs.declared.state.Reader.{Reader}
 use Rattle.guided.specs.Guided.{sumTo, three, lumaOf, extremeOf, cellLuma, cellOf, acrossVal, extreme, epsilon, mean, slopeOf, downTo, acrossTo, detailOf, valueOf, slope, guidedSample, guidedRow}
 use Rattle.guided.specs.Calls.{geometryOf, layoutOf, readerAt, opened, sought, rowed, badState, OpenCall, SeekCall, RowCall, openTests, seekTests, rowTests, rowScratch, rowOut, Bytes}

@@ -17,8 +17,7 @@ use Rattle.image.specs.Picture.{Chroma, Cb, Cr, Picture, Planes, chromaPlane, p
 use Rattle.fround.specs.Rounding.{sameFloat}
 use Rattle.taps.specs.declared.taps.Phase.{Phase}
 use Rattle.taps.specs.Taps.{tapOf, phaseOf, pickPhase}
-use Rattle.resample.specs.Linear.{scratchNeed}
-use Rattle.resample.specs.Rows.{cellAt}
+use Rattle.image.specs.Scratch.{scratchNeed, cellAt}
 use Rattle.guided.specs.declared.geometry.Geometry.{Geometry}
 use Rattle.guided.specs.declared.state.Reader.{Reader}
 use Rattle.guided.specs.declared.state.Reply.{Reply}

@@ -9,8 +9,7 @@ use lib.ListN.{length}
 use lib.Ieee.{Float}
 use Rattle.image.specs.Tests.{Sound}
 use Rattle.image.specs.Picture.{Chroma, Picture}
-use Rattle.resample.specs.Linear.{scratchNeed}
-use Rattle.resample.specs.Rows.{cellAt}
+use Rattle.image.specs.Scratch.{scratchNeed, cellAt}
 use Rattle.guided.specs.Guided.{guidedSample}
 use Rattle.guided.specs.Scratch.{finishedAt}
 use Rattle.guided.specs.Calls.{topOf, freshH, freshF, doneH, doneF}

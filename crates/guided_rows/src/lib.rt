@@ -1,5 +1,6 @@
 // Guided rows over scratch: the chroma rows that a picture row needs, caught up with, and the row itself.
 mod lent;
+mod row;
 mod steps;
 
 pub use lent::bad_planes;

@@ -4,10 +4,10 @@ ghost use Prim.Native.Nat.{_+_, _-_, _≤_, _<_, max};
 ghost use lib.ListN.{length};
 ghost use Rattle.image.specs.Tests.{Sound};
 ghost use Rattle.image.specs.Picture.{pictureOf};
-ghost use Rattle.resample.specs.Linear.{scratchNeed};
+ghost use Rattle.image.specs.Scratch.{scratchNeed};
 ghost use Rattle.guided.specs.Calls.{doneF};
 ghost use Rattle.guided.specs.Scratch.{hsteps, fsteps, rowSteps};
-ghost use Rattle.sums.specs.Parts.{Lent, components};
+ghost use Rattle.places.specs.Lent.{Lent, components};
 ghost use Rattle.guided_rows.specs.Rows.{beforeH, beforeF, guidedStep};
 use image::Layout;
 use state::Counters;
@@ -131,7 +131,7 @@ pub fn row_steps(
         done.f_next,
         s,
     );
-    values::guided_row(
+    crate::row::guided_row(
         layout,
         y,
         y_stride,

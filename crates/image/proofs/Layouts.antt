@@ -1,8 +1,8 @@
 -- What a layout is whose tests all failed.
 use mathlib.Core.Path.{_≡_, refl}
 use mathlib.Core.Bool.{Bool, true, false, _&&_, _||_, not, cond}
-use Prim.Native.Nat.{ℕ, _*_, _≤_}
-use native.Mathlib.Nat.{mul-le-mul}
+use Prim.Native.Nat.{ℕ, suc, _+_, _-_, _*_, _≤_, _<_}
+use native.Mathlib.Nat.{mul-le-mul, le-div-iff-mul-le, suc-mul}
 use native.Mathlib.Omega.{arith}
 use lib.Dec.{ltb, eqb}
 use borrow.Author.Tests.{ltb-false, eqb-true, not-false}
@@ -90,3 +90,20 @@ sound-answer fixed l e = sound fixed l (accepted-failed (layoutTests fixed l) (a
 -- the number of pixels is no product that wraps
 pub area : {l : Layout} → Sound l → l .w * l .h ≤ 67108864
 area s = mul-le-mul (s .w-most) (s .h-most)
+
+-- a cell begins inside the picture
+cell-begins : (n r i : ℕ) → 0 < r → i < divCeil n r → i * r < n
+unfolding divCeil
+cell-begins n r i p h = let k : suc i * r ≤ n + (r - 1) = le-div-iff-mul-le p .0 h in omega (arith, suc-mul i r)
+
+-- cell i of chroma row j begins inside the picture
+pub record Begins (l : Layout) (j i : ℕ) : Type 0 where
+  pub across : i * l .rh < l .w
+  pub down : j * l .rv < l .h
+
+pub begins : (l : Layout) → Sound l → (j i : ℕ) → j < l .ch → i < l .cw → Begins l j i
+begins l o j i h k =
+    record {
+      across = cell-begins (l .w) (l .rh) i (o .rh-some) (rw (o .cw-is) at k);
+      down = cell-begins (l .h) (l .rv) j (o .rv-some) (rw (o .ch-is) at h);
+    }

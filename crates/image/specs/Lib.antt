@@ -1,3 +1,4 @@
 pub mod Tests
 pub mod Samples
 pub mod Picture
+pub mod Scratch

@@ -2,7 +2,6 @@
 use mathlib.Core.Path.{_≡_, refl, sym, ap, _∙_}
 use mathlib.Core.List.{List}
 use Prim.Native.Nat.{ℕ, zero, suc, _+_, _-_, _*_, _/_, _≤_, _<_, min}
-use native.Mathlib.Nat.{le-div-iff-mul-le, suc-mul}
 use native.Mathlib.Numerals.{add-one}
 use native.Mathlib.Omega.{arith}
 use lib.ListN.{length, getD}
@@ -11,7 +10,6 @@ use Rattle.laws.specs.Floats.{f32, _⊘_}
 use Rattle.laws.specs.Lists.{put}
 use Rattle.laws.proofs.Lists.{put-same, put-chain}
 use Rattle.image.specs.declared.layout.Layout.{Layout}
-use Rattle.image.specs.Tests.{divCeil, Sound}
 use Rattle.image.specs.Samples.{Plane, sampleOf, sampleAt, place}
 use Rattle.image.specs.Picture.{inside}
 use Rattle.image.proofs.Planes.{short-holds, sample-inside}
@@ -48,23 +46,6 @@ sum-same (suc n) f g e = rw (sum-same n f g (λ i l. e i (omega arith)), e n (om
 -- a sample inside the picture lies inside the plane
 pub within-plane : (l : Layout) (p : Plane) → Cells l p → (x y : ℕ) → x < l .w → y < l .h → place (l .«sample_bytes») (p .stride) x y + l .«sample_bytes» ≤ length (p .bytes)
 within-plane l p o x y h k = sample-inside (short-holds l (l .w) (l .h) p (o .plane)) x y h k
-
--- a cell begins inside the picture
-cell-begins : (n r i : ℕ) → 0 < r → i < divCeil n r → i * r < n
-unfolding divCeil
-cell-begins n r i p h = let k : suc i * r ≤ n + (r - 1) = le-div-iff-mul-le p .0 h in omega (arith, suc-mul i r)
-
--- cell i of chroma row j begins inside the picture
-pub record Begins (l : Layout) (j i : ℕ) : Type 0 where
-  pub across : i * l .rh < l .w
-  pub down : j * l .rv < l .h
-
-pub begins : (l : Layout) → Sound l → (j i : ℕ) → j < l .ch → i < l .cw → Begins l j i
-begins l o j i h k =
-    record {
-      across = cell-begins (l .w) (l .rh) i (o .rh-some) (rw (o .cw-is) at k);
-      down = cell-begins (l .h) (l .rv) j (o .rv-some) (rw (o .ch-is) at h);
-    }
 
 -- a cell's luma from its sum and the number of its pixels
 pub cell-is : (l : Layout) (p : Plane) (j i nx ny sum : ℕ) (v : Float) → nx ≡ min (l .rh) (l .w - i * l .rh) → ny ≡ min (l .rv) (l .h - j * l .rv)

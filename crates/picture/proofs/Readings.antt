@@ -17,7 +17,7 @@ use Rattle.image.specs.declared.layout.Layout.{Layout}
 use Rattle.image.specs.Picture.{Planes, shortPlane, badPlanes, Picture, pictureOf}
 use Rattle.image.specs.Tests.{badPlane, layoutTests, Sound}
 use Rattle.image.proofs.Layouts.{sound}
-use Rattle.resample.specs.Linear.{scratchNeed}
+use Rattle.image.specs.Scratch.{scratchNeed}
 use Rattle.colour_rows.specs.declared.YcbcrKernel.the-variants.{Exact}
 use Rattle.fill.specs.declared.ChromaUpsampling.the-variants.{LumaGuided}
 use Rattle.fill.specs.Fill.{fillTests, FillGiven, fillColour, fillScratch, pixelRows}

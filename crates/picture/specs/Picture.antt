@@ -11,7 +11,7 @@ use Rattle.laws.specs.declared.Answer.the-variants.{Accepted, Refused as Turned
 use Rattle.laws.specs.Refusals.{Test, first}
 use Rattle.image.specs.declared.layout.Layout.{Layout}
 use Rattle.image.specs.Picture.{Picture, Planes, pictureOf}
-use Rattle.resample.specs.Linear.{scratchNeed}
+use Rattle.image.specs.Scratch.{scratchNeed}
 use Rattle.colour_rows.specs.declared.YcbcrKernel.the-variants.{Exact}
 use Rattle.fill.specs.declared.ChromaUpsampling.the-variants.{LumaGuided}
 use Rattle.fill.specs.Fill.{fillColour, pixelRows, fillScratch}

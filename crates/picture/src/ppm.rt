@@ -3,7 +3,7 @@ ghost use mathlib.Core.Path.{_≡_};
 ghost use Prim.Native.Nat.{_*_, _≤_};
 ghost use lib.ListN.{length, getD};
 ghost use Rattle.laws.specs.Lists.{put};
-ghost use Rattle.resample.specs.Linear.{scratchNeed};
+ghost use Rattle.image.specs.Scratch.{scratchNeed};
 ghost use Rattle.fill.specs.Fill.{fillColour, pixelRows, fillScratch};
 ghost use Rattle.netpbm.specs.Reading.{readingOf};
 ghost use Rattle.netpbm.specs.Lines.{ppmHeader};

@@ -20,11 +20,11 @@ use Rattle.image.specs.Samples.{Plane}
 use Rattle.image.specs.Picture.{Cb, Picture, shortPlane}
 use Rattle.image.proofs.Layouts.{neither, sound}
 use Rattle.fround.specs.Rounding.{roundClamped}
-use Rattle.resample.specs.Linear.{scratchNeed}
+use Rattle.image.specs.Scratch.{scratchNeed}
 use Rattle.resample.specs.Rows.{storeRun}
 use Rattle.guided.specs.Guided.{guidedSample}
 use Rattle.guided.specs.Scratch.{finishedAt}
-use Rattle.sums.specs.Parts.{Lent}
+use Rattle.places.specs.Lent.{Lent}
 use Rattle.planes.specs.Plane.{planesWith, shortPair, guidedTests}
 use Rattle.guided_rows.proofs.GuidedRows.{Advanced, advanced-row}
 use Rattle.guided.proofs.Runs.{after}

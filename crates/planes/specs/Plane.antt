@@ -14,7 +14,7 @@ use Rattle.image.specs.Tests.{layoutTests}
 use Rattle.image.specs.Samples.{Plane}
 use Rattle.image.specs.Picture.{Cb, Picture, Planes, pictureOf, shortPlane}
 use Rattle.fround.specs.Rounding.{roundClamped}
-use Rattle.resample.specs.Linear.{scratchNeed}
+use Rattle.image.specs.Scratch.{scratchNeed}
 use Rattle.guided.specs.Guided.{guidedSample}
 use Rattle.guided_rows.specs.Rows.{guidedRows}
 

@@ -5,7 +5,7 @@ ghost use lib.ListN.{length};
 ghost use Rattle.laws.specs.Lists.{put};
 ghost use Rattle.laws.specs.Refusals.{first};
 ghost use Rattle.image.specs.Tests.{Sound};
-ghost use Rattle.resample.specs.Rows.{cellAt};
+ghost use Rattle.image.specs.Scratch.{cellAt};
 ghost use Rattle.guided.specs.Calls.{layoutOf, rowed, rowTests, RowGiven};
 use guided::Reader;
 use guided::Reply;

@@ -11,7 +11,8 @@ use Rattle.laws.specs.Lists.{put}
 use Rattle.laws.proofs.Lists.{put-same, put-after, put-chain}
 use Rattle.taps.specs.Taps.{lerpOf, fractionOf, Spot, spotAt, spotOf, tapOn, tapOf}
 use Rattle.resample.specs.Linear.{acrossBy}
-use Rattle.resample.specs.Rows.{cellAt, betweenAt, betweenRun, acrossRun}
+use Rattle.resample.specs.Rows.{betweenAt, betweenRun, acrossRun}
+use Rattle.image.specs.Scratch.{cellAt}
 
 -- output j of pair i, as a loop that has read the pair's cells a and b stores it
 pub between-is : (r : ℕ) (s : List Float) (src i j m : ℕ) → j < r → m ≡ r * i + j → (a b v : Float) → a ≡ cellAt s src i → b ≡ cellAt s src (i + 1)

@@ -22,8 +22,9 @@ use Rattle.image.specs.Samples.{Plane, sampleAt}
 use Rattle.fround.specs.Rounding.{roundClamped}
 use Rattle.taps.specs.declared.taps.Tap.{Tap}
 use Rattle.taps.specs.Taps.{tapOf, TapGiven}
-use Rattle.resample.specs.Linear.{downBy, acrossBy, linearDown, linearSample, linearRow, linearScratch, columnAt, scratchNeed, linearTests, Ready}
-use Rattle.resample.specs.Rows.{cellAt, downRun, acrossRun, storeRun}
+use Rattle.resample.specs.Linear.{downBy, acrossBy, linearDown, linearSample, linearRow, linearScratch, columnAt, linearTests, Ready}
+use Rattle.image.specs.Scratch.{scratchNeed, cellAt}
+use Rattle.resample.specs.Rows.{downRun, acrossRun, storeRun}
 use Rattle.taps.proofs.Spots.{tap-given}
 use Rattle.laws.proofs.Counts.{none-plus, plus-none}
 

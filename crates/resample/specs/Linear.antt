@@ -14,6 +14,7 @@ use Rattle.image.specs.declared.layout.Layout.{Layout}
 use Rattle.image.specs.Tests.{layoutTests, Sound}
 use Rattle.image.specs.Samples.{Plane, sampleAt}
 use Rattle.image.specs.Picture.{shortPlane}
+use Rattle.image.specs.Scratch.{scratchNeed}
 use Rattle.fround.specs.Rounding.{roundClamped}
 use Rattle.taps.specs.declared.taps.Tap.{Tap}
 use Rattle.taps.specs.Taps.{lerpOf, tapOf}
@@ -33,10 +34,6 @@ linearDown l c y i = downBy (tapOf (l .rv) (l .ch) y) c i
 -- row y, column x of the cells c, where c i j is column i of row j
 unfoldable pub linearSample : Layout → (ℕ → ℕ → ℕ) → ℕ → ℕ → Float
 linearSample l c y x = acrossBy (tapOf (l .rh) (l .cw) x) (linearDown l c y)
-
--- "Scratch is lent f32, 64·cw + 8·w values, for open, row, fill and the linear and guided planes alike."
-unfoldable pub scratchNeed : Layout → ℕ
-scratchNeed l = 64 * l .cw + 8 * l .w
 
 -- "refusals 2, 3, 4, 5, 7, 9, 10"; `space` and `room` are how many values scratch and output hold
 unfoldable pub linearTests : Layout → Plane → ℕ → ℕ → List Test

@@ -6,13 +6,10 @@ use lib.Ieee.{Float, nan}
 use Rattle.laws.specs.Floats.{f32}
 use Rattle.laws.specs.Lists.{put}
 use Rattle.image.specs.Samples.{sampleOf}
+use Rattle.image.specs.Scratch.{cellAt}
 use Rattle.fround.specs.Rounding.{roundClamped}
 use Rattle.taps.specs.Taps.{lerpOf, fractionOf, tapOf}
 use Rattle.resample.specs.Linear.{acrossBy}
-
--- cell i of the row that lies at src
-abbrev pub cellAt : List Float → ℕ → ℕ → Float
-cellAt s src i = getD s (src + i) nan
 
 -- sample i of the two rows of a plane that begin at a and b, lerped by f
 abbrev pub downAt : List ℕ → ℕ → ℕ → ℕ → Float → ℕ → Float

@@ -1,24 +1,16 @@
 -- Windows of the row buffers end within scratch and lie apart.
-use mathlib.Core.Path.{_≡_, refl, sym}
 use Prim.Native.Nat.{ℕ, _+_, _-_, _<_, min}
 use native.Mathlib.Omega.{arith}
 use Rattle.image.specs.declared.layout.Layout.{Layout}
-use Rattle.resample.specs.Linear.{scratchNeed}
+use Rattle.image.specs.Scratch.{scratchNeed}
 use Rattle.guided.specs.Scratch.{slotAt}
-use Rattle.sums.specs.Buffers.{windowOf}
+use Rattle.places.specs.Buffers.{windowOf}
 use Rattle.sums.specs.Slopes.{Apart, Inside, ClearOf}
 use Rattle.guided.proofs.Places.{slot-fits, slots-disjoint}
 
 -- buffers of different numbers have no cell in common, in whichever rows
 pub slots-clear : (l : Layout) (m n r q : ℕ) → m < n → n < 11 → Apart (slotAt l m r) (slotAt l n q) (l .cw)
 slots-clear l m n r q h k = slots-disjoint l m r n q (λ e. absurd (omega arith))
-
--- ---- windows
-
--- a window by its three buffers
-pub window-is : (l : Layout) (n j p q a b c : ℕ) → p ≡ j - 1 → q ≡ min (j + 1) (l .ch - 1) → a ≡ slotAt l n p → b ≡ slotAt l n j → c ≡ slotAt l n q → record { up = a; at = b; down = c } ≡ windowOf l n j
-unfolding windowOf
-window-is l n j p q a b c e f g h k = rw (sym e, sym f, sym g, sym h, sym k) refl
 
 -- its cells end within scratch, and meet no buffer of a later number
 pub window-inside : (l : Layout) (n j : ℕ) → n < 11 → Inside (windowOf l n j) (l .cw) (scratchNeed l)

@@ -14,15 +14,15 @@ use Rattle.image.specs.declared.layout.Layout.{Layout}
 use Rattle.image.specs.Samples.{Plane, sampleAt}
 use Rattle.image.specs.Picture.{Chroma, Cb, Cr, Picture, Planes, chromaPlane, pictureOf}
 use Rattle.image.proofs.Pictures.{inside-is}
-use Rattle.resample.specs.Linear.{scratchNeed}
-use Rattle.resample.specs.Rows.{cellAt}
+use Rattle.image.specs.Scratch.{scratchNeed, cellAt}
 use Rattle.guided.specs.Guided.{three, lumaOf, cellLuma, cellOf, acrossVal}
 use Rattle.guided.specs.Scratch.{slotAt, firstOf, chromaParts, parts, acrossOver, slopesOver, horizontal, finish}
 use Rattle.sums.specs.Rows.{loadRun, cellsAt, productsAt, threeRow}
 use Rattle.luma.specs.Luma.{lumaRow}
 use Rattle.sums.specs.Slopes.{slopeRow}
 use Rattle.sums.specs.declared.across.Slots.{Slots}
-use Rattle.sums.specs.Parts.{SlotsGiven, components, statRows, lumaPart, chromaPart}
+use Rattle.sums.specs.Parts.{SlotsGiven, statRows, lumaPart, chromaPart}
+use Rattle.places.specs.Lent.{components}
 use Rattle.sums.proofs.Threes.{three-same}
 use Rattle.luma.proofs.Areas.{luma-inside}
 use Rattle.guided.proofs.Places.{slot-fits, slot-order}

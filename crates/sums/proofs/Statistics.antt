@@ -8,17 +8,16 @@ use lib.ListN.{getD}
 use lib.Ieee.{Float, nan}
 use Rattle.laws.specs.Lists.{put}
 use Rattle.laws.proofs.Lists.{Run, run-before, run-after, length-put, put-same, put-chain}
-use Rattle.resample.specs.Rows.{cellAt}
-use Rattle.sums.specs.declared.places.Window.{Window}
+use Rattle.image.specs.Scratch.{cellAt, scratchNeed}
+use Rattle.places.specs.declared.places.Window.{Window}
 use Rattle.sums.specs.declared.slopes.Stats.{Stats}
 use Rattle.sums.specs.Slopes.{slopeBy, meanAt, slopeAt, slopeRun, Inside, AllInside, Apart, ClearOf, Clear, statsOf, slopeRow}
 use lib.Dec.{lit≤, lit<}
 use Rattle.image.specs.declared.layout.Layout.{Layout}
 use Rattle.image.specs.Picture.{Chroma, Cb, Cr}
-use Rattle.resample.specs.Linear.{scratchNeed}
 use Rattle.guided.specs.Guided.{three, mean, slopeOf, epsilon}
 use Rattle.guided.specs.Scratch.{slotAt, firstOf, numSlope, readAcross}
-use Rattle.sums.specs.Buffers.{windowOf}
+use Rattle.places.specs.Buffers.{windowOf}
 use Rattle.sums.proofs.Blocks.{run-block}
 use Rattle.guided.proofs.Places.{slot-fits}
 use Rattle.sums.proofs.Buffers.{window-inside, window-clear}

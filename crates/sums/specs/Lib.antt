@@ -1,4 +1,3 @@
 pub mod Rows
-pub mod Buffers
 pub mod Slopes
 pub mod Parts

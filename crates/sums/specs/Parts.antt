@@ -10,8 +10,7 @@ use Rattle.image.specs.declared.layout.Layout.{Layout}
 use Rattle.image.specs.Tests.{Sound}
 use Rattle.image.specs.Samples.{Plane}
 use Rattle.image.specs.Picture.{Chroma, Cb, Cr, Planes, shortPlane}
-use Rattle.resample.specs.Linear.{scratchNeed}
-use Rattle.resample.specs.Rows.{cellAt}
+use Rattle.image.specs.Scratch.{scratchNeed, cellAt}
 use Rattle.guided.specs.Guided.{three, lumaOf}
 use Rattle.guided.specs.Scratch.{slotAt, firstOf}
 use Rattle.sums.specs.declared.across.Slots.{Slots}
@@ -24,23 +23,6 @@ pub record SlotsGiven (l : Layout) (n j : ℕ) (t : Slots) : Type 0 where
   pub sums-behind : t .at + l .cw ≤ t .sums
   pub products-behind : t .sums + l .cw ≤ t .products
   pub fits : t .products + l .cw ≤ scratchNeed l
-
--- what is known of a layout and a chroma plane
-pub record ChromaCells (l : Layout) (p : Plane) : Type 0 where
-  pub sound : Sound l
-  pub plane : shortPlane l (l .cw) (l .ch) p ≡ false
-
--- and of a layout and its planes, of which Cr is looked at only where `both` holds
-pub record Lent (l : Layout) (ps : Planes) (both : Bool) : Type 0 where
-  pub sound : Sound l
-  pub luma : shortPlane l (l .w) (l .h) (ps .y) ≡ false
-  pub cb : shortPlane l (l .cw) (l .ch) (ps .cb) ≡ false
-  pub cr : both ≡ true → shortPlane l (l .cw) (l .ch) (ps .cr) ≡ false
-
--- the components: Cb alone, or both
-abbrev pub components : Bool → List Chroma
-components true = Cb ∷ Cr ∷ []
-components false = Cb ∷ []
 
 -- cells f of chroma row j, their sums, and the sums of products h, put into the buffers n, n + 1 and n + 2
 unfoldable pub statRows : Layout → ℕ → (ℕ → Float) → (ℕ → Float) → ℕ → List Float → List Float

@@ -5,7 +5,7 @@ use lib.Ieee.{Float}
 use Rattle.laws.specs.Floats.{f32, _⊕_, _⊗_}
 use Rattle.laws.specs.Lists.{put}
 use Rattle.image.specs.Samples.{sampleOf}
-use Rattle.resample.specs.Rows.{cellAt}
+use Rattle.image.specs.Scratch.{cellAt}
 use Rattle.guided.specs.Guided.{three}
 
 -- n samples of a plane from byte `at` on, put at dst

@@ -7,13 +7,13 @@ use lib.Ieee.{Float}
 use Rattle.laws.specs.Floats.{f32, _⊕_, _⊖_, _⊗_, _⊘_}
 use Rattle.laws.specs.Lists.{put}
 use Rattle.fround.specs.Rounding.{fmax}
-use Rattle.resample.specs.Rows.{cellAt}
+use Rattle.image.specs.Scratch.{cellAt}
 use Rattle.image.specs.declared.layout.Layout.{Layout}
 use Rattle.image.specs.Picture.{Chroma, Cb, Cr}
 use Rattle.guided.specs.Guided.{LumaSum, SquareSum, CellSum, ProductSum, slopeOf}
 use Rattle.guided.specs.Scratch.{slotAt, numAcross, numSlope, readAcross}
-use Rattle.sums.specs.Buffers.{windowOf}
-use Rattle.sums.specs.declared.places.Window.{Window}
+use Rattle.places.specs.Buffers.{windowOf}
+use Rattle.places.specs.declared.places.Window.{Window}
 use Rattle.sums.specs.declared.slopes.Stats.{Stats}
 
 -- "D = max(mean yy − my·my, 0) + eps. Slope a = (mean yc − my·mc)/D.", by the means
@@ -60,11 +60,6 @@ pub record Clear (t : Stats) (dst n : ℕ) : Type 0 where
   pub yc : ClearOf (t .yc) dst n
 
 -- ---- a component's row
-
--- the component: Cr where `cr` is true
-abbrev pub chromaOf : Bool → Chroma
-chromaOf true = Cr
-chromaOf false = Cb
 
 -- the sums round chroma row j that its slopes are made of
 unfoldable pub statsOf : Layout → Chroma → ℕ → Stats

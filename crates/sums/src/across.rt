@@ -5,12 +5,11 @@ ghost use lib.ListN.{length};
 ghost use Rattle.image.specs.Tests.{Sound};
 ghost use Rattle.image.specs.Samples.{sampleAt};
 ghost use Rattle.image.specs.Picture.{Planes, pictureOf};
-ghost use Rattle.resample.specs.Linear.{scratchNeed};
+ghost use Rattle.image.specs.Scratch.{scratchNeed};
 ghost use Rattle.guided.specs.Scratch.{horizontal, finish};
 ghost use Rattle.luma.specs.Luma.{Cells};
-ghost use Rattle.sums.specs.Slopes.{chromaOf};
-ghost use Rattle.sums.specs.Parts.{SlotsGiven, ChromaCells, Lent, components, lumaPart, chromaPart};
-use super::places::slot_at;
+ghost use Rattle.places.specs.Lent.{chromaOf, ChromaCells, Lent, components};
+ghost use Rattle.sums.specs.Parts.{SlotsGiven, lumaPart, chromaPart};
 use super::rows::load_row;
 use super::rows::product_sum_row;
 use super::rows::sum_row;
@@ -18,6 +17,7 @@ use super::slopes::first_of;
 use super::slopes::slope_row;
 use image::Layout;
 use luma::luma_row;
+use places::slot_at;
 
 // Three row buffers one behind the other: of cells, of their sums, and of the sums of products.
 pub struct Slots {

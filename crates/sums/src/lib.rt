@@ -1,19 +1,12 @@
 // The statistics of a chroma row for luma-guided reconstruction: the original's GuidedRows::horizontal and GuidedRows::finish.
 mod across;
-mod places;
 mod rows;
 mod slopes;
 
 pub use across::Slots;
 pub use across::finish;
 pub use across::horizontal;
-pub use places::Window;
-pub use places::pitch_of;
-pub use places::slot_at;
-pub use places::window_at;
 pub use rows::load_row;
-pub use rows::next;
-pub use rows::prev;
 pub use rows::product_sum_row;
 pub use rows::sum_row;
 pub use slopes::Stats;

@@ -4,6 +4,8 @@ ghost use Prim.Native.Nat.{_+_, _-_, _*_, _≤_, _<_, min};
 ghost use lib.ListN.{length};
 ghost use Rattle.laws.specs.Floats.{_⊕_};
 ghost use Rattle.sums.specs.Rows.{loadRun, cellsAt, productsAt, threeRun, threeRow};
+use places::next;
+use places::prev;
 
 // Inner: n samples of a plane from byte `at` on, to s from dst on.
 pub fn load_row(plane: &[u8], sample_bytes: usize, at: usize, n: usize, s: &mut [f32], dst: usize)
@@ -16,21 +18,6 @@ pub fn load_row(plane: &[u8], sample_bytes: usize, at: usize, n: usize, s: &mut 
         s[dst + i] = image::sample(plane, sample_bytes, at + i * sample_bytes) as f32;
         i += 1;
     }
-}
-
-// Inner: the cell before i, the first repeated.
-pub fn prev(i: usize) -> usize
-    ensures { λ r. ⌜ r ≡ i - 1 ⌝ }
-{
-    if i == 0 { 0 } else { i - 1 }
-}
-
-// Inner: the cell after i of n, the last repeated.
-pub fn next(i: usize, n: usize) -> usize
-    requires { ⌜ i < n ⌝ }
-    ensures { λ r. ⌜ r ≡ min (i + 1) (n - 1) ⌝ }
-{
-    if i + 1 < n { i + 1 } else { i }
 }
 
 // Three neighbours, from the left.

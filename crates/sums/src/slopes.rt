@@ -6,15 +6,16 @@ ghost use lib.ListN.{length, getD};
 ghost use Rattle.laws.specs.Lists.{put};
 ghost use Rattle.laws.specs.Floats.{f32, _⊕_, _⊗_, _⊘_};
 ghost use Rattle.guided.specs.Guided.{epsilon};
-ghost use Rattle.sums.specs.Slopes.{slopeBy, meanAt, slopeAt, slopeRun, Inside, AllInside, Clear, chromaOf, statsOf, slopeRow};
+ghost use Rattle.sums.specs.Slopes.{slopeBy, meanAt, slopeAt, slopeRun, Inside, AllInside, Clear, statsOf, slopeRow};
+ghost use Rattle.places.specs.Lent.{chromaOf};
 ghost use Rattle.image.specs.Tests.{Sound};
-ghost use Rattle.resample.specs.Linear.{scratchNeed};
+ghost use Rattle.image.specs.Scratch.{scratchNeed};
 ghost use Rattle.guided.specs.Scratch.{firstOf};
-use super::places::Window;
-use super::places::slot_at;
-use super::places::window_at;
 use guided::Geometry;
 use image::Layout;
+use places::Window;
+use places::slot_at;
+use places::window_at;
 
 // The sums that a slope is made of: of luma, its squares, a component, and its products with luma.
 pub struct Stats {

@@ -9,7 +9,7 @@ use Rattle.image.specs.declared.layout.Layout.{Layout}
 use Rattle.fround.specs.Rounding.{fmin, fmax}
 use Rattle.taps.specs.Taps.{lerpOf}
 use Rattle.guided.specs.Guided.{acrossTo, valueOf}
-use Rattle.details.proofs.Phases.{one-is}
+use Rattle.lerps.proofs.Phases.{one-is}
 
 module _ (l : Layout) (gc ga lo hi : ℕ → Float) (d u v : Float) where
   -- pixel k of cell i

@@ -2,4 +2,3 @@
 pub mod Values
 pub mod Cells
 pub mod Twos
-pub mod Steps

@@ -9,13 +9,13 @@ use Rattle.image.specs.declared.layout.Layout.{Layout}
 use Rattle.image.specs.Tests.{Sound}
 use Rattle.guided.specs.Guided.{valueOf}
 use Rattle.values.specs.declared.bands.Bands.{Bands}
-use Rattle.details.specs.declared.pairs.Pair.{Pair}
+use Rattle.lerps.specs.declared.pairs.Pair.{Pair}
 use Rattle.fround.specs.Rounding.{fmin, fmax}
-use Rattle.details.specs.Pixels.{pairOf}
-use Rattle.details.proofs.Twos.{pair-left, pair-right, row-chain}
+use Rattle.lerps.specs.Across.{pairOf}
+use Rattle.lerps.proofs.Twos.{pair-left, pair-right, row-chain}
 use Rattle.values.specs.Values.{BandsInside, valueAt, valuePair, valueRun}
 use Rattle.values.proofs.Values.{value-same}
-use Rattle.details.proofs.Phases.{Runs}
+use Rattle.lerps.proofs.Phases.{Runs}
 use Rattle.laws.specs.Lists.{put}
 
 module _ (l : Layout) (gc ga lo hi : ℕ → Float) (d : Float) (i : ℕ) (c a : Pair) (v : Float) (e : l .rh ≡ 2) (p : c ≡ pairOf gc i) (q : a ≡ pairOf ga i) where

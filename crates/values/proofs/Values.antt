@@ -13,13 +13,12 @@ use Rattle.image.specs.declared.layout.Layout.{Layout}
 use Rattle.image.specs.Tests.{Sound}
 use Rattle.image.specs.Picture.{Chroma, Cb, Cr}
 use Rattle.fround.specs.Rounding.{fmin, fmax}
-use Rattle.resample.specs.Rows.{cellAt}
-use Rattle.resample.specs.Linear.{scratchNeed}
+use Rattle.image.specs.Scratch.{cellAt, scratchNeed}
 use Rattle.guided.specs.Guided.{acrossTo, valueOf}
 use Rattle.guided.specs.Scratch.{detailAt, finishedAt, columnAt, columnOf}
 use Rattle.guided.proofs.Places.{column-behind, column-fits, detail-place}
 use Rattle.values.specs.declared.bands.Bands.{Bands}
-use Rattle.details.proofs.Lerps.{across-same}
+use Rattle.lerps.proofs.Lerps.{across-same}
 use Rattle.laws.proofs.Counts.{none-plus, plus-none}
 use Rattle.values.specs.Values.{Band, BandsInside, bandsOf, valueAt, valueRow, valueRun}
 

@@ -5,10 +5,10 @@ use lib.Ieee.{Float}
 use Rattle.laws.specs.Lists.{put}
 use Rattle.image.specs.declared.layout.Layout.{Layout}
 use Rattle.image.specs.Picture.{Chroma}
-use Rattle.resample.specs.Rows.{cellAt}
+use Rattle.image.specs.Scratch.{cellAt}
 use Rattle.guided.specs.Guided.{valueOf}
 use Rattle.guided.specs.Scratch.{detailAt, finishedAt, columnAt, columnOf}
-use Rattle.details.specs.declared.pairs.Pair.{Pair}
+use Rattle.lerps.specs.declared.pairs.Pair.{Pair}
 use Rattle.values.specs.declared.bands.Bands.{Bands}
 
 -- a component's four rows of cells

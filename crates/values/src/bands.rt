@@ -4,7 +4,7 @@ ghost use Prim.Native.Nat.{_≤_};
 ghost use Rattle.image.specs.Tests.{Sound};
 ghost use Rattle.fround.specs.Rounding.{fmin, fmax};
 ghost use Rattle.guided.specs.Scratch.{finishedAt, columnOf};
-ghost use Rattle.sums.specs.Slopes.{chromaOf};
+ghost use Rattle.places.specs.Lent.{chromaOf};
 ghost use Rattle.values.specs.Values.{bandsOf};
 use image::Layout;
 
@@ -40,10 +40,10 @@ pub fn bands_of(layout: Layout, cr: bool) -> Bands
 {
     let m = column_of(cr);
     Bands {
-        cells: details::column_at(layout, m),
-        slopes: details::column_at(layout, m + 1),
-        least: details::column_at(layout, m + 2),
-        greatest: details::column_at(layout, m + 3),
+        cells: lerps::column_at(layout, m),
+        slopes: lerps::column_at(layout, m + 1),
+        least: lerps::column_at(layout, m + 2),
+        greatest: lerps::column_at(layout, m + 3),
     }
 }
 

@@ -7,11 +7,11 @@ ghost use Rattle.image.specs.Tests.{Sound};
 ghost use Rattle.values.specs.Values.{BandsInside, valueAt, valuePair, valueRun};
 use super::bands::Bands;
 use super::bands::limited;
-use details::Lanes;
-use details::Pair;
-use details::pair_at;
-use details::put_block;
 use image::Layout;
+use lerps::Lanes;
+use lerps::Pair;
+use lerps::pair_at;
+use lerps::put_block;
 
 // A component's values in the pixels of cell i + 1 at ratio 2: no edge is met.
 fn value_pair(layout: Layout, s: &[f32], t: Bands, i: usize) -> Pair

@@ -3,18 +3,18 @@ ghost use mathlib.Core.Path.{_≡_};
 ghost use Prim.Native.Nat.{_+_, _*_, _≤_, _<_};
 ghost use lib.ListN.{length};
 ghost use Rattle.image.specs.Tests.{Sound};
-ghost use Rattle.resample.specs.Linear.{scratchNeed};
+ghost use Rattle.image.specs.Scratch.{scratchNeed};
 ghost use Rattle.guided.specs.Calls.{phasesOf};
-ghost use Rattle.sums.specs.Slopes.{chromaOf};
+ghost use Rattle.places.specs.Lent.{chromaOf};
 ghost use Rattle.values.specs.Values.{BandsInside, valueAt, valueRun, valueRow};
 use super::bands::Bands;
 use super::bands::bands_of;
 use super::bands::finished_at;
 use super::bands::limited;
 use super::blocks::value_twos;
-use details::across_pixel;
-use details::cell_at;
 use image::Layout;
+use lerps::across_pixel;
+use lerps::cell_at;
 use taps::Phase;
 
 // A component's value in column x: its cells and slopes lerped across, the detail between them, raised to the least and lowered to the greatest of its cell.

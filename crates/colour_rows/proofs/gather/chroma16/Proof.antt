@@ -4,7 +4,7 @@ use native.Mathlib.Omega.{arith}
 use borrow.Author.Needs.{needs}
 use Rattle.laws.specs.Floats.{f32, _⊗_}
 use Rattle.fround.specs.Rounding.{roundClamped}
-use Rattle.resample.specs.Rows.{cellAt}
+use Rattle.image.specs.Scratch.{cellAt}
 use Rattle.colour_rows.proofs.Gathered.{Gathered, gathered-none, gathered-more}
 use Rattle.colour_rows.proofs.gather.chroma16.Statement.{statement}
 use Rattle.colour_rows.proofs.gather.chroma16.Tie as tie

@@ -2,7 +2,8 @@ use native.Mathlib.Omega.{arith}
 use Rattle.details.proofs.blocks.detail_block.Statement.{statement}
 use Rattle.laws.proofs.Lists.{Run, run-at, run-none, run-two}
 use Prim.Native.Nat.{_*_, _+_, _-_, _≤_}
-use Rattle.details.proofs.Twos.{block-at, detail-pair-at, pair-turn}
+use Rattle.lerps.proofs.Twos.{block-at, pair-turn}
+use Rattle.details.proofs.Details.{detail-pair-at}
 use Rattle.details.specs.Pixels.{detailIn}
 use mathlib.Core.Path.{refl}
 use Rattle.details.proofs.blocks.detail_block.Tie as tie

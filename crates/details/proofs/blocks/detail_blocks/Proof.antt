@@ -4,7 +4,8 @@ use native.Mathlib.Omega.{arith}
 use lib.ListN.{getD}
 use Rattle.details.proofs.blocks.detail_blocks.Statement.{statement}
 use Rattle.laws.proofs.Lists.{Run, run-after, run-end, run-none}
-use Rattle.details.proofs.Twos.{detail-same, lanes-more}
+use Rattle.lerps.proofs.Twos.{lanes-more}
+use Rattle.details.proofs.Details.{detail-same}
 use Rattle.details.specs.Pixels.{detailIn, detailRun}
 use lib.Ieee.{nan}
 use Rattle.details.proofs.blocks.detail_blocks.Tie as tie

@@ -1,9 +1,9 @@
 use native.Mathlib.Omega.{arith}
 use Rattle.details.proofs.blocks.detail_pair.Statement.{statement}
 use Prim.Native.Nat.{_*_, _+_}
-use Rattle.resample.specs.Rows.{cellAt}
-use Rattle.details.proofs.Lerps.{detail-is}
-use Rattle.details.proofs.Twos.{detail-pair-is, pair-left, pair-right}
+use Rattle.image.specs.Scratch.{cellAt}
+use Rattle.details.proofs.Details.{detail-is, detail-pair-is}
+use Rattle.lerps.proofs.Twos.{pair-left, pair-right}
 use mathlib.Core.Path.{refl}
 use Rattle.details.proofs.blocks.detail_pair.Tie as tie
 

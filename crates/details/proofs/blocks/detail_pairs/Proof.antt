@@ -3,7 +3,8 @@ use Rattle.details.proofs.blocks.detail_pairs.Statement.{statement}
 use Rattle.laws.proofs.Lists.{Run, run-after, run-end, run-none, run-two}
 use Prim.Native.Nat.{_*_, _+_, _-_, _≤_}
 use mathlib.Core.Path.{_∙_, refl}
-use Rattle.details.proofs.Twos.{detail-pair-at, detail-same, pair-turn}
+use Rattle.lerps.proofs.Twos.{pair-turn}
+use Rattle.details.proofs.Details.{detail-pair-at, detail-same}
 use Rattle.details.specs.Pixels.{detailIn, detailRun}
 use lib.ListN.{length-set}
 use lib.Ieee.{nan}

@@ -5,7 +5,7 @@ use borrow.Author.Needs.{needs}
 use Rattle.details.proofs.blocks.detail_twos.Statement.{statement}
 use lib.Ieee.{Float}
 use mathlib.Core.List.{List}
-use Rattle.details.proofs.Twos.{detail-chain}
+use Rattle.details.proofs.Details.{detail-chain}
 use Rattle.details.specs.Pixels.{detailRun}
 use Rattle.details.proofs.blocks.detail_twos.Tie as tie
 

@@ -4,8 +4,8 @@ use Rattle.details.proofs.detail.detail_cell.Statement.{statement}
 use Rattle.laws.proofs.Lists.{Run, run-end, run-none, run-more}
 use Rattle.details.specs.Pixels.{detailIn, detailRun}
 use borrow.Author.Needs.{needs}
-use Rattle.resample.specs.Rows.{cellAt}
-use Rattle.details.proofs.Lerps.{detail-is}
+use Rattle.image.specs.Scratch.{cellAt}
+use Rattle.details.proofs.Details.{detail-is}
 use mathlib.Core.Path.{refl}
 use Rattle.details.proofs.detail.detail_cell.Tie as tie
 

@@ -6,8 +6,8 @@ use Rattle.details.proofs.detail.detail_cells.Statement.{statement}
 use lib.Ieee.{Float}
 use mathlib.Core.List.{List}
 use Rattle.image.specs.Samples.{Plane}
-use Rattle.details.proofs.Phases.{cells-inside, runs-whole}
-use Rattle.details.proofs.Twos.{detail-runs}
+use Rattle.lerps.proofs.Phases.{cells-inside, runs-whole}
+use Rattle.details.proofs.Details.{detail-runs}
 use Rattle.details.specs.Pixels.{detailRun}
 use Rattle.details.proofs.detail.detail_cells.Tie as tie
 

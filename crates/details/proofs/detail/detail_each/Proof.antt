@@ -2,8 +2,8 @@ use Prim.Native.Nat.{_-_, _≤_}
 use native.Mathlib.Omega.{arith}
 use Rattle.details.proofs.detail.detail_each.Statement.{statement}
 use Rattle.details.specs.Pixels.{detailRun}
-use Rattle.details.proofs.Phases.{each-more, Each, each-end, each-inside, each-none}
-use Rattle.details.proofs.Twos.{detail-runs}
+use Rattle.lerps.proofs.Phases.{each-more, Each, each-end, each-inside, each-none}
+use Rattle.details.proofs.Details.{detail-runs}
 use Rattle.details.proofs.detail.detail_each.Tie as tie
 
 abbrev Inv-loop : tie.InvT-loop

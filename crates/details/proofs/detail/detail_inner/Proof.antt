@@ -4,7 +4,7 @@ use native.Mathlib.Omega.{arith}
 use borrow.Author.Needs.{needs}
 use Rattle.details.proofs.detail.detail_inner.Statement.{statement}
 use Rattle.details.specs.Pixels.{detailRun}
-use Rattle.details.proofs.Phases.{ratio-inside, ratio-run}
+use Rattle.lerps.proofs.Phases.{ratio-inside, ratio-run}
 use Rattle.details.proofs.detail.detail_inner.Tie as tie
 
 detail-ones-requires : tie.Need-detail-ones-requires

@@ -4,12 +4,12 @@ use Prim.Native.Nat.{_+_, _-_, _≤_}
 use native.Mathlib.Omega.{arith}
 use Rattle.details.proofs.detail.detail_ones.Statement.{statement}
 use Rattle.laws.proofs.Lists.{Run, run-after, run-end, run-more, run-none}
-use Rattle.resample.specs.Rows.{cellAt}
-use Rattle.details.proofs.Lerps.{detail-is}
+use Rattle.image.specs.Scratch.{cellAt}
+use Rattle.details.proofs.Details.{detail-is}
 use Rattle.details.specs.Pixels.{detailIn, detailRun}
 use lib.Ieee.{nan}
 use borrow.Author.Needs.{needs}
-use Rattle.details.proofs.Phases.{one-is}
+use Rattle.lerps.proofs.Phases.{one-is}
 use Rattle.details.proofs.detail.detail_ones.Tie as tie
 
 abbrev Inv-loop : tie.InvT-loop

@@ -2,7 +2,7 @@ use mathlib.Core.Path.{_∙_}
 use native.Mathlib.Omega.{arith}
 use borrow.Author.Needs.{needs}
 use Rattle.details.proofs.detail.detail_row.Statement.{statement}
-use Rattle.details.proofs.Lerps.{detail-line, detail-ready}
+use Rattle.details.proofs.Details.{detail-line, detail-ready}
 use Rattle.details.proofs.detail.detail_row.Tie as tie
 
 column-at-requires : tie.Need-column-at-requires

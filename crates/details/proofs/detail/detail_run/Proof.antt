@@ -3,10 +3,10 @@ use Prim.Native.Nat.{_+_, _-_, _≤_}
 use Rattle.laws.proofs.Lists.{Run, run-none, run-more, run-end, run-after}
 use Rattle.laws.specs.Floats.{f32}
 use Rattle.image.specs.Samples.{sampleAt}
-use Rattle.resample.specs.Rows.{cellAt}
+use Rattle.image.specs.Scratch.{cellAt}
 use Rattle.guided.specs.Guided.{detailOf}
 use Rattle.details.specs.Pixels.{detailRun}
-use Rattle.details.proofs.Lerps.{detail-is}
+use Rattle.details.proofs.Details.{detail-is}
 use native.Mathlib.Omega.{arith}
 use Rattle.details.proofs.detail.detail_run.Statement.{statement}
 use Rattle.details.proofs.detail.detail_run.Tie as tie

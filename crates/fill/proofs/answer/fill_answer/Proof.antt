@@ -13,7 +13,7 @@ use Rattle.laws.proofs.Refusals.{refused-early, passed-early}
 use Rattle.image.specs.Tests.{outsideOf, layoutTests, Sound}
 use Rattle.image.specs.Picture.{badPlanes}
 use Rattle.image.proofs.Layouts.{sound-answer, area}
-use Rattle.resample.specs.Linear.{scratchNeed}
+use Rattle.image.specs.Scratch.{scratchNeed}
 use Rattle.fill.specs.Fill.{FillCall, isFixed, fillTests}
 use Rattle.fill.proofs.Acceptance.{sized, laterTests}
 use Rattle.fill.proofs.answer.fill_answer.Statement.{statement}

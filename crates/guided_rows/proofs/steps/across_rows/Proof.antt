@@ -1,5 +1,5 @@
 use Rattle.image.specs.Picture.{pictureOf}
-use Rattle.sums.specs.Parts.{components}
+use Rattle.places.specs.Lent.{components}
 use Rattle.guided_rows.proofs.Catching.{HRun, hrun-none, hrun-more, hrun-length, hrun-end}
 use Prim.Native.Nat.{_-_}
 use native.Mathlib.Omega.{arith}

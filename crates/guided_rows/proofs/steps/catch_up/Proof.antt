@@ -1,7 +1,7 @@
-use Rattle.resample.specs.Linear.{scratchNeed}
+use Rattle.image.specs.Scratch.{scratchNeed}
 use Rattle.image.specs.Picture.{pictureOf}
 use Rattle.guided.proofs.Window.{length-hsteps}
-use Rattle.sums.specs.Parts.{components}
+use Rattle.places.specs.Lent.{components}
 use Rattle.guided_rows.proofs.Catching.{FRun, frun-none, frun-more, frun-length, frun-end}
 use borrow.Author.Needs.{needs}
 use mathlib.Core.Path.{ap, _∙_}

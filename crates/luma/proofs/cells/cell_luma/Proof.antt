@@ -1,4 +1,5 @@
-use Rattle.luma.proofs.Areas.{Begins, begins, cell-is}
+use Rattle.luma.proofs.Areas.{cell-is}
+use Rattle.image.proofs.Layouts.{Begins, begins}
 use native.Mathlib.Nat.{mul-le-mul}
 use Prim.Native.Nat.{_*_, _≤_}
 use native.Mathlib.Omega.{arith}

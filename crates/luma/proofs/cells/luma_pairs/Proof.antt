@@ -1,4 +1,5 @@
-use Rattle.luma.proofs.Areas.{begins, luma-none, pairs-are}
+use Rattle.luma.proofs.Areas.{luma-none, pairs-are}
+use Rattle.image.proofs.Layouts.{begins}
 use Rattle.luma.specs.Luma.{lumaRun}
 use Rattle.image.proofs.Planes.{short-holds, row-inside}
 use mathlib.Core.Path.{_≡_, sym, ap, _∙_}

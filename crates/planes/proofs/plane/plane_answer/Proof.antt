@@ -10,7 +10,7 @@ use Rattle.laws.proofs.Refusals.{refused-early, passed-early}
 use Rattle.image.specs.Tests.{layoutTests, Sound}
 use Rattle.image.specs.Samples.{Plane}
 use Rattle.image.proofs.Layouts.{sound-answer, area}
-use Rattle.resample.specs.Linear.{scratchNeed}
+use Rattle.image.specs.Scratch.{scratchNeed}
 use Rattle.planes.specs.Plane.{shortPair, guidedTests}
 use native.Mathlib.Omega.{arith}
 use borrow.Author.Needs.{needs}

@@ -11,7 +11,7 @@ use Rattle.laws.proofs.Refusals.{refused-early, passed-early}
 use Rattle.image.specs.Tests.{layoutTests, Sound}
 use Rattle.image.specs.Picture.{Cb, Cr, badPlanes}
 use Rattle.image.proofs.Layouts.{sound-answer}
-use Rattle.resample.specs.Linear.{scratchNeed}
+use Rattle.image.specs.Scratch.{scratchNeed}
 use Rattle.guided.specs.Calls.{OpenCall, openTests, Bytes}
 use Rattle.reader.proofs.opening.open.Statement.{statement}
 use Rattle.reader.proofs.opening.open.Tie as tie

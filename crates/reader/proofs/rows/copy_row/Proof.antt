@@ -1,4 +1,4 @@
-use Rattle.resample.specs.Rows.{cellAt}
+use Rattle.image.specs.Scratch.{cellAt}
 use mathlib.Core.Path.{refl}
 use Prim.Native.Nat.{_-_, _≤_}
 use Rattle.laws.proofs.Lists.{Run, run-none, run-more, run-end}

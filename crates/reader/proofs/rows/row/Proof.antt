@@ -15,7 +15,7 @@ use Rattle.guided.specs.Calls.{RowCall, layoutOf, rowTests, rowScratch, rowOut}
 use Rattle.guided.proofs.Places.{front-fits}
 use Rattle.guided.proofs.FinishedRows.{length-row}
 use Rattle.guided.proofs.Acceptance.{fine, RowHanded, row-handed}
-use Rattle.sums.specs.Parts.{Lent}
+use Rattle.places.specs.Lent.{Lent}
 use Rattle.reader.proofs.rows.row.Statement.{statement}
 use Rattle.reader.proofs.rows.row.Tie as tie
 

@@ -6,7 +6,7 @@ use borrow.Author.Tests.{lt-ltb, le-ltb, le-leb, lt-leb}
 use borrow.Author.Needs.{needs}
 use Rattle.laws.specs.Refusals.{first}
 use Rattle.image.specs.Picture.{badPlanes}
-use Rattle.resample.specs.Linear.{scratchNeed}
+use Rattle.image.specs.Scratch.{scratchNeed}
 use Rattle.guided.specs.Calls.{RowCall, layoutOf, badState, rowTests}
 use Rattle.guided.proofs.Acceptance.{fine}
 use Rattle.reader.proofs.rows.row_answer.Statement.{statement}

@@ -10,7 +10,8 @@ use Rattle.laws.proofs.Refusals.{refused-early, passed-early}
 use Rattle.image.specs.Tests.{layoutTests, Sound}
 use Rattle.image.specs.Picture.{shortPlane}
 use Rattle.image.proofs.Layouts.{sound-answer, area}
-use Rattle.resample.specs.Linear.{scratchNeed, linearTests}
+use Rattle.resample.specs.Linear.{linearTests}
+use Rattle.image.specs.Scratch.{scratchNeed}
 use borrow.Author.Tests.{lt-ltb, le-ltb}
 use native.Mathlib.Omega.{arith}
 use borrow.Author.Needs.{needs}

@@ -2,7 +2,8 @@ use mathlib.Core.Path.{ap, _∙_}
 use Prim.Native.Nat.{_+_, _*_, _≤_}
 use Rattle.image.specs.Samples.{Plane}
 use Rattle.image.proofs.Planes.{short-holds, row-inside}
-use Rattle.resample.specs.Linear.{scratchNeed, columnAt}
+use Rattle.resample.specs.Linear.{columnAt}
+use Rattle.image.specs.Scratch.{scratchNeed}
 use Rattle.resample.specs.Rows.{acrossRun}
 use Rattle.resample.proofs.LinearRows.{down-is, row-is}
 use native.Mathlib.Omega.{arith}

@@ -6,7 +6,8 @@ use native.Mathlib.Nat.{mul-comm}
 use Rattle.laws.proofs.Lists.{Rows, rows-none, rows-more, rows-end}
 use Rattle.image.specs.Samples.{Plane, sampleAt}
 use Rattle.fround.specs.Rounding.{roundClamped}
-use Rattle.resample.specs.Linear.{scratchNeed, linearSample, linearPlane, Ready}
+use Rattle.resample.specs.Linear.{linearSample, linearPlane, Ready}
+use Rattle.image.specs.Scratch.{scratchNeed}
 use Rattle.resample.specs.Rows.{storeRun}
 use Rattle.resample.proofs.LinearRows.{Scratched, scratch-none, scratch-more, scratch-end, length-row, stored-is}
 use Rattle.laws.proofs.Rows.{row-fits}

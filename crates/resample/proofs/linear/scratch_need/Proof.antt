@@ -1,4 +1,4 @@
-use Rattle.resample.specs.Linear.{scratchNeed}
+use Rattle.image.specs.Scratch.{scratchNeed}
 use borrow.Author.Needs.{needs}
 use Rattle.resample.proofs.linear.scratch_need.Statement.{statement}
 use Rattle.resample.proofs.linear.scratch_need.Tie as tie

@@ -4,7 +4,8 @@ use Prim.Native.Nat.{_+_, _-_, _≤_}
 use lib.Ieee.{nan}
 use Rattle.taps.specs.Taps.{tapOf}
 use Rattle.resample.specs.Linear.{acrossBy}
-use Rattle.resample.specs.Rows.{cellAt, acrossRun}
+use Rattle.resample.specs.Rows.{acrossRun}
+use Rattle.image.specs.Scratch.{cellAt}
 use Rattle.laws.proofs.Lists.{Run, run-none, run-more, run-end, run-after}
 use native.Mathlib.Omega.{arith}
 use Rattle.resample.proofs.rows.across_taps.Statement.{statement}

@@ -2,7 +2,8 @@ use borrow.Author.Needs.{needs}
 use mathlib.Core.Path.{_≡_, ap, _∙_}
 use Prim.Native.Nat.{ℕ, _-_, _≤_, min}
 use Rattle.fround.specs.Rounding.{roundClamped}
-use Rattle.resample.specs.Rows.{cellAt, storeRun}
+use Rattle.resample.specs.Rows.{storeRun}
+use Rattle.image.specs.Scratch.{cellAt}
 use Rattle.laws.proofs.Lists.{Run, run-none, run-more, run-end}
 use native.Mathlib.Omega.{arith}
 use Rattle.resample.proofs.rows.store_row.Statement.{statement}

@@ -1,7 +1,7 @@
 use Rattle.sums.proofs.ReadBack.{chroma-steps}
 use Rattle.sums.proofs.Statistics.{some}
 use Rattle.guided.proofs.Places.{slot-order}
-use Rattle.sums.specs.Slopes.{chromaOf}
+use Rattle.places.specs.Lent.{chromaOf}
 use Rattle.sums.specs.Rows.{cellsAt, productsAt, threeRow}
 use Rattle.image.proofs.Planes.{short-holds, row-inside}
 use mathlib.Core.Path.{ap, _∙_}

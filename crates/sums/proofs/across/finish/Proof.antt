@@ -1,5 +1,5 @@
 use Rattle.sums.proofs.ReadBack.{finish-one, finish-both}
-use Rattle.sums.specs.Parts.{components}
+use Rattle.places.specs.Lent.{components}
 use Rattle.sums.specs.Slopes.{slopeRow}
 use Rattle.guided.specs.Scratch.{finish}
 use Rattle.image.specs.Picture.{Cr, pictureOf}

@@ -1,5 +1,6 @@
 use Rattle.sums.proofs.ReadBack.{horizontal-one, horizontal-both}
-use Rattle.sums.specs.Parts.{components, chromaPart}
+use Rattle.sums.specs.Parts.{chromaPart}
+use Rattle.places.specs.Lent.{components}
 use Rattle.guided.specs.Scratch.{horizontal}
 use Rattle.image.specs.Picture.{Cb, Cr, Planes, pictureOf}
 use Rattle.image.specs.Samples.{sampleAt}

@@ -1,6 +1,6 @@
 use Rattle.sums.proofs.Threes.{three-is, three-one}
 use Rattle.sums.specs.Rows.{cellsAt}
-use Rattle.resample.specs.Rows.{cellAt}
+use Rattle.image.specs.Scratch.{cellAt}
 use borrow.Author.Needs.{needs}
 use Rattle.sums.proofs.rows.sum_at.Statement.{statement}
 use Rattle.sums.proofs.rows.sum_at.Tie as tie

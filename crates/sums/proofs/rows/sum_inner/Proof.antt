@@ -1,6 +1,6 @@
 use Rattle.sums.proofs.Threes.{behind-cells, inner-more}
 use Rattle.sums.specs.Rows.{threeRun}
-use Rattle.resample.specs.Rows.{cellAt}
+use Rattle.image.specs.Scratch.{cellAt}
 use Rattle.guided.specs.Guided.{three}
 use borrow.Author.Needs.{needs}
 use Prim.Native.Nat.{_+_, _-_, _≤_}

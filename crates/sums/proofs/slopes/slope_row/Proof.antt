@@ -1,5 +1,5 @@
 use Rattle.sums.proofs.Statistics.{row-ready, row-slopes}
-use Rattle.sums.specs.Slopes.{chromaOf}
+use Rattle.places.specs.Lent.{chromaOf}
 use mathlib.Core.Path.{_∙_}
 use native.Mathlib.Omega.{arith}
 use borrow.Author.Needs.{needs}

@@ -1,5 +1,5 @@
 use Rattle.sums.proofs.Statistics.{stats-are}
-use Rattle.sums.specs.Slopes.{chromaOf}
+use Rattle.places.specs.Lent.{chromaOf}
 use borrow.Author.Needs.{needs}
 use Rattle.sums.proofs.slopes.stats_at.Statement.{statement}
 use Rattle.sums.proofs.slopes.stats_at.Tie as tie

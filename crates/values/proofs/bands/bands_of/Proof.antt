@@ -1,4 +1,4 @@
-use Rattle.sums.specs.Slopes.{chromaOf}
+use Rattle.places.specs.Lent.{chromaOf}
 use borrow.Author.Needs.{needs}
 use Rattle.values.proofs.bands.bands_of.Statement.{statement}
 use Rattle.values.proofs.Values.{bands-are}

@@ -3,7 +3,7 @@ use Prim.Native.Nat.{_+_, _-_, _*_, _≤_}
 use native.Mathlib.Omega.{arith}
 use Rattle.values.proofs.blocks.value_block.Statement.{statement}
 use Rattle.laws.proofs.Lists.{Run, run-at, run-none, run-two}
-use Rattle.details.proofs.Twos.{block-at, pair-turn}
+use Rattle.lerps.proofs.Twos.{block-at, pair-turn}
 use Rattle.values.proofs.Twos.{value-pair-at}
 use Rattle.values.specs.Values.{valueAt}
 use Rattle.values.proofs.blocks.value_block.Tie as tie

@@ -4,7 +4,7 @@ use native.Mathlib.Omega.{arith}
 use lib.ListN.{getD}
 use Rattle.values.proofs.blocks.value_blocks.Statement.{statement}
 use Rattle.laws.proofs.Lists.{Run, run-after, run-end, run-none}
-use Rattle.details.proofs.Twos.{lanes-more}
+use Rattle.lerps.proofs.Twos.{lanes-more}
 use lib.Ieee.{nan}
 use Rattle.values.proofs.Values.{value-same}
 use Rattle.values.specs.Values.{valueAt, valueRun}

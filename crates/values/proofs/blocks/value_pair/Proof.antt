@@ -1,4 +1,4 @@
-use Rattle.resample.specs.Rows.{cellAt}
+use Rattle.image.specs.Scratch.{cellAt}
 use Rattle.guided.specs.Scratch.{detailAt}
 use native.Mathlib.Omega.{arith}
 use borrow.Author.Needs.{needs}

@@ -5,7 +5,7 @@ use lib.ListN.{length-set}
 use Rattle.values.proofs.blocks.value_pairs.Statement.{statement}
 use Rattle.laws.proofs.Lists.{Run, run-after, run-end, run-none, run-two}
 use lib.Ieee.{nan}
-use Rattle.details.proofs.Twos.{pair-turn}
+use Rattle.lerps.proofs.Twos.{pair-turn}
 use Rattle.values.proofs.Twos.{value-pair-at}
 use Rattle.values.proofs.Values.{value-same}
 use Rattle.values.specs.Values.{valueAt, valueRun}

@@ -3,7 +3,7 @@ use native.Mathlib.Omega.{arith}
 use borrow.Author.Needs.{needs}
 use Rattle.values.proofs.pixels.value_at.Statement.{statement}
 use lib.Ieee.{Float}
-use Rattle.resample.specs.Rows.{cellAt}
+use Rattle.image.specs.Scratch.{cellAt}
 use Rattle.guided.specs.Scratch.{detailAt}
 use Rattle.guided.proofs.Taken.{own-column}
 use Rattle.values.proofs.Values.{value-is}

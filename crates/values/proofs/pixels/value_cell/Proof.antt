@@ -6,7 +6,7 @@ use Rattle.values.proofs.pixels.value_cell.Statement.{statement}
 use lib.Ieee.{Float, nan}
 use Rattle.laws.proofs.Lists.{Run, put-same, run-after, run-end, run-more, run-none}
 use Rattle.laws.specs.Floats.{_⊕_, _⊗_}
-use Rattle.resample.specs.Rows.{cellAt}
+use Rattle.image.specs.Scratch.{cellAt}
 use Rattle.guided.specs.Scratch.{detailAt}
 use Rattle.fround.specs.Rounding.{fmax, fmin}
 use borrow.Author.Needs.{needs}

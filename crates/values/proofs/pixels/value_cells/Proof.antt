@@ -5,7 +5,7 @@ use borrow.Author.Needs.{needs}
 use Rattle.values.proofs.pixels.value_cells.Statement.{statement}
 use lib.Ieee.{Float}
 use mathlib.Core.List.{List}
-use Rattle.details.proofs.Phases.{cells-inside, runs-whole}
+use Rattle.lerps.proofs.Phases.{cells-inside, runs-whole}
 use Rattle.values.proofs.Twos.{value-runs}
 use Rattle.values.specs.Values.{valueRun}
 use Rattle.values.proofs.pixels.value_cells.Tie as tie

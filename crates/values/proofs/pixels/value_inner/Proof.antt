@@ -3,7 +3,7 @@ use Prim.Native.Nat.{_*_}
 use native.Mathlib.Omega.{arith}
 use borrow.Author.Needs.{needs}
 use Rattle.values.proofs.pixels.value_inner.Statement.{statement}
-use Rattle.details.proofs.Phases.{ratio-inside, ratio-run}
+use Rattle.lerps.proofs.Phases.{ratio-inside, ratio-run}
 use Rattle.values.specs.Values.{valueRun}
 use Rattle.values.proofs.pixels.value_inner.Tie as tie
 

@@ -4,7 +4,7 @@ use Prim.Native.Nat.{ℕ}
 use borrow.Author.Needs.{needs}
 use Rattle.values.proofs.pixels.value_one.Statement.{statement}
 use lib.Ieee.{Float}
-use Rattle.resample.specs.Rows.{cellAt}
+use Rattle.image.specs.Scratch.{cellAt}
 use Rattle.guided.specs.Scratch.{detailAt}
 use Rattle.values.proofs.Cells.{value-one}
 use Rattle.values.specs.Values.{valueAt}

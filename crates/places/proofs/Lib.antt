@@ -1,0 +1,2 @@
+-- A law that a proof cites.
+mod Windows

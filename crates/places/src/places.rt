@@ -1,0 +1,44 @@
+// Where the row buffers lie in scratch.
+ghost use mathlib.Core.Path.{_≡_};
+ghost use Prim.Native.Nat.{_≤_, _<_};
+ghost use Rattle.image.specs.Tests.{Sound};
+ghost use Rattle.guided.specs.Scratch.{pitch};
+ghost use Rattle.places.specs.Buffers.{SlotGiven, windowOf};
+use super::neighbours::next;
+use super::neighbours::prev;
+use image::Layout;
+
+// Where one row buffer of chroma rows r - 1, r and r + 1 begins, edges repeated.
+pub struct Window {
+    pub up: usize,
+    pub at: usize,
+    pub down: usize,
+}
+
+// Inner: how far apart the row buffers of cw cells begin.
+pub fn pitch_of(cw: usize) -> usize
+    requires { ⌜ cw ≤ 8192 ⌝ }
+    ensures { λ r. ⌜ r ≡ pitch cw ⌝ }
+{
+    if cw < 256 { cw } else { cw + 48 }
+}
+
+// Inner: where buffer n of chroma row r begins.
+pub fn slot_at(layout: Layout, n: usize, r: usize) -> usize
+    requires { ⌜ Sound layout × (n < 11) ⌝ }
+    ensures { λ x. ⌜ SlotGiven layout n r x ⌝ }
+{
+    3 * layout.w + (r % 3 * 11 + n) * pitch_of(layout.cw)
+}
+
+// Inner: buffer n round chroma row j.
+pub fn window_at(layout: Layout, n: usize, j: usize) -> Window
+    requires { ⌜ Sound layout × (n < 11) × (j < layout .ch) ⌝ }
+    ensures { λ t. ⌜ t ≡ windowOf layout n j ⌝ }
+{
+    Window {
+        up: slot_at(layout, n, prev(j)),
+        at: slot_at(layout, n, j),
+        down: slot_at(layout, n, next(j, layout.ch)),
+    }
+}
