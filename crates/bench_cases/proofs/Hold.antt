@@ -5,7 +5,8 @@ use lib.Count.{trailingZeros}
 use Rattle.laws.specs.Lists.{table}
 use Rattle.laws.specs.Differences.{floorDiv, limit, within}
 use Rattle.fround.specs.Rounding.{roundClamped}
-use Rattle.upsample.specs.Triangular.{triangularSample, oneAxis, weighed, far}
+use Rattle.triangle.specs.Weights.{oneAxis, weighed, far}
+use Rattle.upsample.specs.Triangular.{triangularSample}
 use Rattle.taps.specs.Taps.{spotAt, spotOf, tapOf, phaseOf}
 use Rattle.resample.specs.Linear.{linearSample, linearDown}
 use Rattle.guided.specs.Calls.{phasesOf, phaseAt}

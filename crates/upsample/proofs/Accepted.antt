@@ -16,7 +16,7 @@ use Rattle.image.specs.Samples.{Plane}
 use Rattle.image.proofs.Layouts.{sound}
 use Rattle.image.proofs.Planes.{Holds, row-inside, short-holds}
 use Rattle.upsample.specs.Triangular.{badTriangular, triangularTests}
-use Rattle.upsample.specs.Rows.{RowInside, Doubled}
+use Rattle.triangle.specs.Rows.{RowInside, Doubled}
 
 -- ---- all refusals passed
 

@@ -5,8 +5,9 @@ use Prim.Native.Nat.{ℕ, _*_, _/_}
 use borrow.Author.Tests.{eq-eqb, ne-eqb}
 use Rattle.image.specs.declared.layout.Layout.{Layout}
 use Rattle.image.specs.Samples.{Plane, sampleAt}
-use Rattle.upsample.specs.Triangular.{even, far, weighed, oneAxis, bothAxes, triangularSample}
-use Rattle.upsample.specs.Rows.{cells, sums, downRow, bothRow}
+use Rattle.triangle.specs.Weights.{even, far, weighed, oneAxis}
+use Rattle.upsample.specs.Triangular.{bothAxes, triangularSample}
+use Rattle.triangle.specs.Rows.{cells, sums, downRow, bothRow}
 
 module _ (l : Layout) (p : Plane) (y : ℕ) where
   pub across-is : l .rv ≡ 1 → (x : ℕ) → oneAxis (l .cw) (cells (l .«sample_bytes») (p .bytes) (y * p .stride)) x ≡ triangularSample l (sampleAt (l .«sample_bytes») p) y x

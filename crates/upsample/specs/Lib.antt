@@ -1,2 +1,1 @@
 pub mod Triangular
-pub mod Rows

@@ -2,7 +2,7 @@
 use mathlib.Core.Path.{_≡_}
 use mathlib.Core.Bool.{Bool, true, false, _&&_, _||_, not, cond}
 use mathlib.Core.List.{List, [], _∷_, _++_}
-use Prim.Native.Nat.{ℕ, _+_, _-_, _*_, _/_, _%_, min}
+use Prim.Native.Nat.{ℕ, _+_, _*_, _/_}
 use lib.Dec.{ltb, leb, eqb}
 use lib.ListN.{length}
 use Rattle.laws.specs.declared.Answer.{Answer}
@@ -12,21 +12,7 @@ use Rattle.image.specs.declared.layout.Layout.{Layout}
 use Rattle.image.specs.Tests.{layoutTests}
 use Rattle.image.specs.Samples.{Plane, sampleAt}
 use Rattle.image.specs.Picture.{shortPlane}
-
-abbrev pub even : ℕ → Bool
-even o = eqb (o % 2) 0
-
--- "Far is the cell before at even positions, after at odd, edges repeated": position o of an axis of n cells
-unfoldable pub far : ℕ → ℕ → ℕ
-far n o = cond (even o) (o / 2 - 1) (min (o / 2 + 1) (n - 1))
-
--- "3·near + far" of the cells c of that axis
-unfoldable pub weighed : ℕ → (ℕ → ℕ) → ℕ → ℕ
-weighed n c o = 3 * c (o / 2) + c (far n o)
-
--- "One axis: (3·near + far + b) >> 2 with b = 1 at even and 2 at odd positions"
-unfoldable pub oneAxis : ℕ → (ℕ → ℕ) → ℕ → ℕ
-oneAxis n c o = (weighed n c o + cond (even o) 1 2) / 4
+use Rattle.triangle.specs.Weights.{even, weighed, oneAxis}
 
 -- "Both axes: vertical sums 3·near + far, then the same across with b = 8 and 7 and >> 4"; c i j is column i of row j
 unfoldable pub bothAxes : ℕ → ℕ → (ℕ → ℕ → ℕ) → ℕ → ℕ → ℕ

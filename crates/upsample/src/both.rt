@@ -3,10 +3,10 @@ ghost use mathlib.Core.Path.{_≡_};
 ghost use Prim.Native.Nat.{_+_, _-_, _*_, _/_, _≤_, _<_};
 ghost use lib.ListN.{length, set};
 ghost use Rattle.laws.specs.Lists.{put};
-ghost use Rattle.upsample.specs.Rows.{RowInside, Doubled, bothRow, sums};
-use crate::weights::both_axes;
-use crate::weights::byte_sum;
-use crate::weights::cell_sum;
+ghost use Rattle.triangle.specs.Rows.{RowInside, Doubled, bothRow, sums};
+use triangle::both_axes;
+use triangle::byte_sum;
+use triangle::cell_sum;
 
 // The two outputs of a cell.
 fn put_pair(out: &mut [u16], at: usize, before: u32, middle: u32, after: u32)

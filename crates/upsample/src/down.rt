@@ -3,9 +3,9 @@ ghost use mathlib.Core.Path.{_≡_};
 ghost use Prim.Native.Nat.{_+_, _≤_};
 ghost use lib.ListN.{length};
 ghost use Rattle.laws.specs.Lists.{put};
-ghost use Rattle.upsample.specs.Rows.{RowInside, downRow};
-use crate::weights::cell;
-use crate::weights::one_axis;
+ghost use Rattle.triangle.specs.Rows.{RowInside, downRow};
+use triangle::cell;
+use triangle::one_axis;
 
 // The w values of a row between the rows of cells at near and far, for either size of sample.
 fn down_cells(

@@ -1,9 +1,7 @@
 // Triangular chroma upsampling of a whole plane: the original's src/jpeg/upsample.rs.
-mod across;
 mod answer;
 mod both;
 mod down;
-mod weights;
 
 ghost use mathlib.Core.Path.{_≡_};
 ghost use Prim.Native.Nat.{_*_, _<_};
@@ -27,13 +25,13 @@ fn triangular_row(layout: Layout, plane: &[u8], stride: usize, y: usize, out: &m
     let w = layout.w;
     let at = y * w;
     if layout.rv == 1 {
-        across::across_row(plane, bytes, y * stride, cw, w, out, at);
+        triangle::across_row(plane, bytes, y * stride, cw, w, out, at);
         return;
     }
     let near = y / 2 * stride;
-    let far = weights::far(y, layout.ch) * stride;
+    let far = triangle::far(y, layout.ch) * stride;
     if layout.rh == 1 {
-        let bias = weights::one_axis_bias(y);
+        let bias = triangle::one_axis_bias(y);
         down::down_row(plane, bytes, near, far, bias, w, out, at);
         return;
     }

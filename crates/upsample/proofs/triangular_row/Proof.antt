@@ -4,11 +4,11 @@ use native.Mathlib.Omega.{arith}
 use lib.ListN.{length}
 use borrow.Author.Needs.{needs}
 use Rattle.laws.proofs.Lists.{put-same}
-use Rattle.upsample.specs.Rows.{RowInside}
+use Rattle.triangle.specs.Rows.{RowInside}
 use Rattle.upsample.proofs.Accepted.{Taken, taken, across-kind, two-down, both-kind, doubled, output-row, cell-row, cell-row-all, near-one, near-two}
 use Rattle.upsample.proofs.Ratios.{across-is, down-is, both-is}
 use Rattle.upsample.proofs.triangular_row.Statement.{statement}
-use Rattle.upsample.specs.Triangular.{far}
+use Rattle.triangle.specs.Weights.{far}
 use Rattle.upsample.proofs.triangular_row.Tie as tie
 
 handed : (c : tie.Start) → Taken (c .args .layout) (c .args .stride) (length (c .args .plane .now)) (length (c .args .out .now))

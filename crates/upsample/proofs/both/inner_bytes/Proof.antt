@@ -3,9 +3,9 @@ use Prim.Native.Nat.{_+_, _-_, _*_, _≤_}
 use native.Mathlib.Omega.{arith}
 use borrow.Author.Needs.{needs}
 use Rattle.laws.proofs.Lists.{Run, run-none, run-end}
-use Rattle.upsample.specs.Rows.{sums, bothRow}
-use Rattle.upsample.proofs.Axis.{both-even, both-odd}
-use Rattle.upsample.proofs.Inside.{cells-to}
+use Rattle.triangle.specs.Rows.{sums, bothRow}
+use Rattle.triangle.proofs.Axis.{both-even, both-odd}
+use Rattle.triangle.proofs.Inside.{cells-to}
 use Rattle.laws.proofs.Lists.{run-two}
 use Rattle.upsample.proofs.both.inner_bytes.Statement.{statement}
 use Rattle.upsample.proofs.both.inner_bytes.Tie as tie

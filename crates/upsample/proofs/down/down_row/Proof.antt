@@ -1,5 +1,5 @@
 use borrow.Author.Needs.{needs}
-use Rattle.upsample.proofs.Inside.{two-bytes}
+use Rattle.triangle.proofs.Inside.{two-bytes}
 use Rattle.upsample.proofs.down.down_row.Statement.{statement}
 use Rattle.upsample.proofs.down.down_row.Tie as tie
 

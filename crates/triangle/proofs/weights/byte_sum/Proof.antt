@@ -1,8 +1,8 @@
 use native.Mathlib.Omega.{arith}
 use borrow.Author.Needs.{needs}
-use Rattle.upsample.proofs.Inside.{byte-cell}
-use Rattle.upsample.proofs.weights.byte_sum.Statement.{statement}
-use Rattle.upsample.proofs.weights.byte_sum.Tie as tie
+use Rattle.triangle.proofs.Inside.{byte-cell}
+use Rattle.triangle.proofs.weights.byte_sum.Statement.{statement}
+use Rattle.triangle.proofs.weights.byte_sum.Tie as tie
 
 add-wide : tie.Need-add-wide
 add-wide c = search needs

@@ -4,13 +4,13 @@ use native.Mathlib.Omega.{arith}
 use lib.ListN.{set}
 use borrow.Author.Needs.{needs}
 use Rattle.laws.proofs.Lists.{run-none}
-use Rattle.upsample.specs.Rows.{cells}
-use Rattle.upsample.specs.Triangular.{oneAxis}
-use Rattle.upsample.proofs.Axis.{one-even, one-odd}
-use Rattle.upsample.proofs.Inside.{cells-to}
+use Rattle.triangle.specs.Rows.{cells}
+use Rattle.triangle.specs.Weights.{oneAxis}
+use Rattle.triangle.proofs.Axis.{one-even, one-odd}
+use Rattle.triangle.proofs.Inside.{cells-to}
 use Rattle.laws.proofs.Lists.{run-one, run-two}
-use Rattle.upsample.proofs.across.last_cell.Statement.{statement}
-use Rattle.upsample.proofs.across.last_cell.Tie as tie
+use Rattle.triangle.proofs.across.last_cell.Statement.{statement}
+use Rattle.triangle.proofs.across.last_cell.Tie as tie
 
 sub-cell : tie.Need-sub-cell
 sub-cell c = search needs

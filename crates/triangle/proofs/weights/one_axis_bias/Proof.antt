@@ -1,8 +1,8 @@
 use mathlib.Core.Path.{refl}
 use native.Mathlib.Omega.{arith}
 use borrow.Author.Tests.{eq-eqb, ne-eqb}
-use Rattle.upsample.proofs.weights.one_axis_bias.Statement.{statement}
-use Rattle.upsample.proofs.weights.one_axis_bias.Tie as tie
+use Rattle.triangle.proofs.weights.one_axis_bias.Statement.{statement}
+use Rattle.triangle.proofs.weights.one_axis_bias.Tie as tie
 
 returns : tie.Need-returns
 returns c = rw (eq-eqb _ 0 (c .if1 .taken)) (refl, omega arith)

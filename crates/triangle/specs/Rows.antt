@@ -3,7 +3,7 @@ use mathlib.Core.Bool.{cond}
 use mathlib.Core.List.{List}
 use Prim.Native.Nat.{ℕ, _+_, _*_, _/_, _≤_, _<_}
 use Rattle.image.specs.Samples.{sampleOf}
-use Rattle.upsample.specs.Triangular.{even, weighed, far}
+use Rattle.triangle.specs.Weights.{even, weighed, far}
 
 -- the cells of the row that begins at byte `row`
 abbrev pub cells : ℕ → List ℕ → ℕ → ℕ → ℕ

@@ -3,14 +3,14 @@ ghost use mathlib.Core.Path.{_≡_};
 ghost use mathlib.Core.Bool.{cond};
 ghost use Prim.Native.Nat.{_+_, _*_, _/_, _<_, _≤_};
 ghost use lib.ListN.{length};
-ghost use Rattle.upsample.specs.Triangular.{even};
-ghost use Rattle.upsample.specs.Triangular as triangular;
-ghost use Rattle.upsample.specs.Rows.{RowInside, cells, sums};
+ghost use Rattle.triangle.specs.Weights.{even};
+ghost use Rattle.triangle.specs.Weights as weights;
+ghost use Rattle.triangle.specs.Rows.{RowInside, cells, sums};
 
 // Inner: the row of cells on the far side of output row y, edges repeated.
 pub fn far(y: usize, ch: usize) -> usize
     requires { ⌜ y / 2 < ch ⌝ }
-    ensures { λ r. ⌜ (r ≡ triangular.far ch y) × (r < ch) ⌝ }
+    ensures { λ r. ⌜ (r ≡ weights.far ch y) × (r < ch) ⌝ }
 {
     let near = y / 2;
     if y % 2 == 0 {

@@ -4,8 +4,8 @@ use mathlib.Core.Bool.{true, false}
 use Prim.Native.Nat.{ℕ, _+_, _-_, _*_, _/_, _%_, min}
 use native.Mathlib.Omega.{arith}
 use borrow.Author.Tests.{eq-eqb, ne-eqb}
-use Rattle.upsample.specs.Triangular.{even, far, weighed, oneAxis}
-use Rattle.upsample.specs.Rows.{bothRow}
+use Rattle.triangle.specs.Weights.{even, far, weighed, oneAxis}
+use Rattle.triangle.specs.Rows.{bothRow}
 
 even-is : (i o : ℕ) → o ≡ 2 * i → even o ≡ true
 even-is i o e = eq-eqb (o % 2) 0 (omega arith)

@@ -3,13 +3,13 @@ use Prim.Native.Nat.{_+_, _-_, _*_, _≤_}
 use native.Mathlib.Omega.{arith}
 use borrow.Author.Needs.{needs}
 use Rattle.laws.proofs.Lists.{Run, run-none, run-end}
-use Rattle.upsample.specs.Rows.{cells}
-use Rattle.upsample.specs.Triangular.{oneAxis}
-use Rattle.upsample.proofs.Axis.{one-even, one-odd}
-use Rattle.upsample.proofs.Inside.{cells-to}
+use Rattle.triangle.specs.Rows.{cells}
+use Rattle.triangle.specs.Weights.{oneAxis}
+use Rattle.triangle.proofs.Axis.{one-even, one-odd}
+use Rattle.triangle.proofs.Inside.{cells-to}
 use Rattle.laws.proofs.Lists.{run-two}
-use Rattle.upsample.proofs.across.inner_pairs.Statement.{statement}
-use Rattle.upsample.proofs.across.inner_pairs.Tie as tie
+use Rattle.triangle.proofs.across.inner_pairs.Statement.{statement}
+use Rattle.triangle.proofs.across.inner_pairs.Tie as tie
 
 abbrev Inv-loop : tie.InvT-loop
 Inv-loop plane sample-bytes row cw out₀ at n k₀ out k = (k ≤ n) × Run out₀ out at (2 * k) (λ x. oneAxis cw (cells sample-bytes plane row) (2 + x))

@@ -2,11 +2,11 @@ use mathlib.Core.Path.{refl}
 use Prim.Native.Nat.{_+_, _-_, _*_}
 use native.Mathlib.Omega.{arith}
 use borrow.Author.Needs.{needs}
-use Rattle.upsample.specs.Rows.{cells}
-use Rattle.upsample.specs.Triangular.{oneAxis}
+use Rattle.triangle.specs.Rows.{cells}
+use Rattle.triangle.specs.Weights.{oneAxis}
 use Rattle.laws.proofs.Lists.{run-of, run-run}
-use Rattle.upsample.proofs.across.across_row.Statement.{statement}
-use Rattle.upsample.proofs.across.across_row.Tie as tie
+use Rattle.triangle.proofs.across.across_row.Statement.{statement}
+use Rattle.triangle.proofs.across.across_row.Tie as tie
 
 first-cell-requires : tie.Need-first-cell-requires
 first-cell-requires c κs = search needs

@@ -1,8 +1,8 @@
 use native.Mathlib.Omega.{arith}
 use lib.ListN.{length-set}
 use borrow.Author.Needs.{needs}
-use Rattle.upsample.proofs.across.put_pair.Statement.{statement}
-use Rattle.upsample.proofs.across.put_pair.Tie as tie
+use Rattle.triangle.proofs.across.put_pair.Statement.{statement}
+use Rattle.triangle.proofs.across.put_pair.Tie as tie
 
 one-axis-requires : tie.Need-one-axis-requires
 one-axis-requires c κs = search needs

@@ -1,7 +1,7 @@
 use borrow.Author.Needs.{needs}
-use Rattle.upsample.proofs.Inside.{two-bytes}
-use Rattle.upsample.proofs.across.inner_cells.Statement.{statement}
-use Rattle.upsample.proofs.across.inner_cells.Tie as tie
+use Rattle.triangle.proofs.Inside.{two-bytes}
+use Rattle.triangle.proofs.across.inner_cells.Statement.{statement}
+use Rattle.triangle.proofs.across.inner_cells.Tie as tie
 
 inner-pairs-requires : tie.Need-inner-pairs-requires
 inner-pairs-requires c κs =

@@ -1,8 +1,8 @@
 use native.Mathlib.Omega.{arith}
 use borrow.Author.Needs.{needs}
-use Rattle.upsample.proofs.Axis.{far-even, far-odd}
-use Rattle.upsample.proofs.weights.far.Statement.{statement}
-use Rattle.upsample.proofs.weights.far.Tie as tie
+use Rattle.triangle.proofs.Axis.{far-even, far-odd}
+use Rattle.triangle.proofs.weights.far.Statement.{statement}
+use Rattle.triangle.proofs.weights.far.Tie as tie
 
 sub-result : tie.Need-sub-result
 sub-result c = search needs

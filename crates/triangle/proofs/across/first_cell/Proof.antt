@@ -2,13 +2,13 @@ use mathlib.Core.Path.{refl}
 use native.Mathlib.Omega.{arith}
 use borrow.Author.Needs.{needs}
 use Rattle.laws.proofs.Lists.{run-none}
-use Rattle.upsample.specs.Rows.{cells}
-use Rattle.upsample.specs.Triangular.{oneAxis}
-use Rattle.upsample.proofs.Axis.{one-even, one-odd}
-use Rattle.upsample.proofs.Inside.{cells-to}
+use Rattle.triangle.specs.Rows.{cells}
+use Rattle.triangle.specs.Weights.{oneAxis}
+use Rattle.triangle.proofs.Axis.{one-even, one-odd}
+use Rattle.triangle.proofs.Inside.{cells-to}
 use Rattle.laws.proofs.Lists.{run-two}
-use Rattle.upsample.proofs.across.first_cell.Statement.{statement}
-use Rattle.upsample.proofs.across.first_cell.Tie as tie
+use Rattle.triangle.proofs.across.first_cell.Statement.{statement}
+use Rattle.triangle.proofs.across.first_cell.Tie as tie
 
 cell-requires : tie.Need-cell-requires
 cell-requires c κs = cells-to (c .before .before .pre .0) 0 (omega arith)

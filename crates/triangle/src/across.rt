@@ -3,8 +3,8 @@ ghost use mathlib.Core.Path.{_≡_};
 ghost use Prim.Native.Nat.{_+_, _-_, _*_, _/_, _≤_, _<_};
 ghost use lib.ListN.{length, set};
 ghost use Rattle.laws.specs.Lists.{put};
-ghost use Rattle.upsample.specs.Triangular.{oneAxis};
-ghost use Rattle.upsample.specs.Rows.{RowInside, Doubled, cells};
+ghost use Rattle.triangle.specs.Weights.{oneAxis};
+ghost use Rattle.triangle.specs.Rows.{RowInside, Doubled, cells};
 use crate::weights::cell;
 use crate::weights::one_axis;
 
