@@ -15,9 +15,9 @@ use Rattle.image.specs.declared.layout.Layout.{Layout}
 use Rattle.image.specs.Tests.{divCeil, badSize, badRatio, badSamples, badChroma, layoutTests}
 use Rattle.image.proofs.Layouts.{neither}
 use Rattle.netpbm.specs.declared.reading.Reading.the-variants.{Read}
-use Rattle.netpbm.specs.Images.{widthOf, heightOf, rowsAt, imageEnd, imageTests}
+use Rattle.pgm.specs.Images.{widthOf, heightOf, rowsAt, imageEnd, imageTests}
 use Rattle.netpbm.specs.Reading.{cbAt, crAt, layoutOf, noRatio, imagesTests, wholeTests, readingTests, pickReading, readingOf}
-use Rattle.netpbm.proofs.Fields.{Sits, sits}
+use Rattle.pgm.proofs.Fields.{Sits, sits}
 use Rattle.netpbm.proofs.Ratios.{Fits, ratio-fits}
 
 pub record Taken (s : List ℕ) (l : Layout) (y cb cr : ℕ) : Type 0 where

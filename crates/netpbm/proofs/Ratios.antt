@@ -9,8 +9,8 @@ use borrow.Author.Tests.{eqb-true}
 use Rattle.image.specs.Tests.{divCeil}
 use Rattle.image.proofs.Quotients.{ceil-most}
 use Rattle.netpbm.specs.Reading.{fitsBoth, smallest, ratioFor}
-use Rattle.netpbm.specs.Forms.{held}
-use Rattle.netpbm.proofs.Products.{held-equal}
+use Rattle.pgm.specs.Held.{held}
+use Rattle.pgm.proofs.Products.{held-equal}
 
 -- one number tried
 try-one : (p : ℕ → Bool) (r : ℕ) → r ≤ 4 → smallest p r (5 - r) ≡ cond (p r) r (smallest p (r + 1) (5 - (r + 1)))

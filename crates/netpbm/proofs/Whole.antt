@@ -14,16 +14,17 @@ use Rattle.laws.proofs.Refusals.{accepted-is, accepted-failed, refused-early, p
 use Rattle.image.specs.declared.layout.Layout.{Layout}
 use Rattle.image.specs.Tests.{outsideOf, badSize}
 use Rattle.image.proofs.Layouts.{neither}
-use Rattle.netpbm.specs.declared.images.Image.{Image}
+use Rattle.pgm.specs.declared.images.Image.{Image}
 use Rattle.netpbm.specs.declared.reading.Reading.{Reading}
 use Rattle.netpbm.specs.declared.reading.Reading.the-variants.{Read, Refused}
-use Rattle.netpbm.specs.Images.{widthOf, heightOf, rowsAt, imageEnd, imageTests}
+use Rattle.pgm.specs.Images.{widthOf, heightOf, rowsAt, imageEnd, imageTests}
 use Rattle.netpbm.specs.Reading.{cbAt, crAt, ratioFor, layoutOf, noRatio, imagesTests, wholeTests, readingTests, pickReading, readingOf}
-use Rattle.netpbm.specs.Forms.{held, imageHeld, imageBehind, pickImage, layoutHeld, orAnswer, answerHeld}
-use Rattle.netpbm.proofs.Runs.{differ}
-use Rattle.netpbm.proofs.Products.{held-over, held-under}
+use Rattle.netpbm.specs.Forms.{layoutHeld, orAnswer, answerHeld}
+use Rattle.pgm.specs.Held.{held, imageHeld, imageBehind, pickImage}
+use Rattle.pgm.proofs.Runs.{differ}
+use Rattle.pgm.proofs.Products.{held-over, held-under}
 use Rattle.netpbm.proofs.Ratios.{ratio-held, ratio-fits}
-use Rattle.netpbm.proofs.Fields.{Sits, sits}
+use Rattle.pgm.proofs.Fields.{Sits, sits}
 
 -- ---- an answer, and what is asked behind it
 

@@ -5,10 +5,10 @@ use Prim.Native.Nat.{ℕ}
 use Rattle.laws.specs.Refusals.{first}
 use Rattle.image.specs.Tests.{divCeil, badSize}
 use Rattle.netpbm.specs.declared.reading.Reading.the-variants.{Read, Refused}
-use Rattle.netpbm.specs.Bytes.{leading, decimalOf, hasBlank, hasDigit, digitsAt, pastBlanks, pastDigits, numberAt}
-use Rattle.netpbm.specs.Images.{hasMagic, hasNumber, fieldOf, fieldEnd, widthOf, widthEnd, heightOf, heightEnd, maxvalOf, maxvalEnd, rowsAt, imageEnd, imageTests}
+use Rattle.pgm.specs.Bytes.{leading, decimalOf, hasBlank, hasDigit, digitsAt, pastBlanks, pastDigits, numberAt}
+use Rattle.pgm.specs.Images.{hasMagic, hasNumber, fieldOf, fieldEnd, widthOf, widthEnd, heightOf, heightEnd, maxvalOf, maxvalEnd, rowsAt, imageEnd, imageTests}
 use Rattle.netpbm.specs.Reading.{cbAt, crAt, smallest, ratioFor, layoutOf, noRatio, imagesTests, wholeTests, readingTests, readingOf}
-use Rattle.netpbm.specs.Lines.{digits, digitsOf, ppmHeader, refusalLine}
+use Rattle.lines.specs.Lines.{digits, digitsOf, ppmHeader, refusalLine}
 
 -- `P5 1 1 255`, newline
 abbrev header : List ℕ

@@ -2,12 +2,12 @@
 ghost use mathlib.Core.Path.{_≡_};
 ghost use Rattle.netpbm.specs.Reading.{pickReading, readingOf};
 ghost use Rattle.netpbm.specs.Forms.{answerHeld};
-use crate::images::image_after;
-use crate::images::image_at;
 use crate::sizes::layout_of;
 use crate::sizes::no_ratio;
 use image::Layout;
 use laws::Answer;
+use pgm::image_after;
+use pgm::image_at;
 
 // What was read: the layout, and where the rows of Y, Cb and Cr begin; or the number of the reason why not.
 pub enum Reading {

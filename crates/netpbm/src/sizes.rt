@@ -2,8 +2,8 @@
 ghost use mathlib.Core.Path.{_≡_};
 ghost use Rattle.netpbm.specs.Reading.{fitsBoth, ratioFor, noRatio};
 ghost use Rattle.netpbm.specs.Forms.{layoutHeld};
-use crate::images::Image;
 use image::Layout;
+use pgm::Image;
 
 // Whether n pixels are a cells of r in one chroma image and b in the other.
 fn fits_both(n: usize, a: usize, b: usize, r: usize) -> bool

@@ -12,11 +12,11 @@ use Rattle.image.specs.Picture.{Picture, pictureOf}
 use Rattle.colour_rows.specs.declared.YcbcrKernel.the-variants.{Exact}
 use Rattle.fill.specs.declared.ChromaUpsampling.the-variants.{LumaGuided}
 use Rattle.fill.specs.Fill.{fillColour, pixelRows}
-use Rattle.netpbm.specs.declared.lines.Line.{Line}
-use Rattle.netpbm.specs.Forms.{lineOf}
-use Rattle.netpbm.specs.Lines.{ppmHeader}
+use Rattle.lines.specs.declared.lines.Line.{Line}
+use Rattle.lines.specs.Texts.{lineOf}
+use Rattle.lines.specs.Lines.{ppmHeader}
 use Rattle.netpbm.specs.Reading.{layoutOf}
-use Rattle.netpbm.proofs.Digits.{three-most, four-most}
+use Rattle.lines.proofs.Digits.{three-most, four-most}
 use Rattle.picture.specs.Picture.{ppmLength, inputPicture, ppmOver}
 use Rattle.picture.proofs.Readings.{to-end}
 

@@ -22,7 +22,7 @@ use Rattle.colour_rows.specs.declared.YcbcrKernel.the-variants.{Exact}
 use Rattle.fill.specs.declared.ChromaUpsampling.the-variants.{LumaGuided}
 use Rattle.fill.specs.Fill.{fillTests, FillGiven, fillColour, fillScratch, pixelRows}
 use Rattle.netpbm.specs.declared.reading.Reading.the-variants.{Read, Refused}
-use Rattle.netpbm.specs.Images.{rowsAt}
+use Rattle.pgm.specs.Images.{rowsAt}
 use Rattle.netpbm.specs.Reading.{cbAt, crAt, layoutOf, readingTests, pickReading, readingOf}
 use Rattle.netpbm.proofs.Acceptance.{Taken, taken}
 use Rattle.picture.specs.declared.Outcome.the-variants.{Written, Refused as Down}

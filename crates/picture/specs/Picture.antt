@@ -15,8 +15,8 @@ use Rattle.image.specs.Scratch.{scratchNeed}
 use Rattle.colour_rows.specs.declared.YcbcrKernel.the-variants.{Exact}
 use Rattle.fill.specs.declared.ChromaUpsampling.the-variants.{LumaGuided}
 use Rattle.fill.specs.Fill.{fillColour, pixelRows, fillScratch}
-use Rattle.netpbm.specs.Images.{rowsAt}
-use Rattle.netpbm.specs.Lines.{ppmHeader}
+use Rattle.pgm.specs.Images.{rowsAt}
+use Rattle.lines.specs.Lines.{ppmHeader}
 use Rattle.netpbm.specs.Reading.{cbAt, crAt, layoutOf, readingTests}
 use Rattle.picture.specs.declared.Outcome.{Outcome}
 use Rattle.picture.specs.declared.Outcome.the-variants.{Written, Refused}

@@ -6,9 +6,9 @@ ghost use Rattle.picture.specs.Picture.{PictureGiven};
 mod ppm;
 
 use image::Layout;
-pub use netpbm::Line;
+pub use lines::Line;
+pub use lines::refusal_line;
 use netpbm::Reading;
-pub use netpbm::refusal_line;
 use ppm::put_ppm;
 
 // How many bytes were written to the front of out, or the number of the reason why none was.
@@ -33,7 +33,7 @@ fn written(
     if s.len() < resample::scratch_need(layout) {
         return Outcome::Refused(9);
     }
-    let header = netpbm::ppm_header(layout.w, layout.h);
+    let header = lines::ppm_header(layout.w, layout.h);
     let len = header.len + layout.w * layout.h * 3;
     if out.len() < len {
         return Outcome::Refused(10);

@@ -6,13 +6,13 @@ ghost use Rattle.laws.specs.Lists.{put};
 ghost use Rattle.image.specs.Scratch.{scratchNeed};
 ghost use Rattle.fill.specs.Fill.{fillColour, pixelRows, fillScratch};
 ghost use Rattle.netpbm.specs.Reading.{readingOf};
-ghost use Rattle.netpbm.specs.Lines.{ppmHeader};
-ghost use Rattle.netpbm.specs.Forms.{lineOf};
+ghost use Rattle.lines.specs.Lines.{ppmHeader};
+ghost use Rattle.lines.specs.Texts.{lineOf};
 ghost use Rattle.picture.specs.Picture.{planesOf, inputPicture, ppmLength, ppmOver};
 use colour_rows::YcbcrKernel;
 use fill::ChromaUpsampling;
 use image::Layout;
-use netpbm::Line;
+use lines::Line;
 use netpbm::Reading;
 
 // The bytes of a line, to the front of out.

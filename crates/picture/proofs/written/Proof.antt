@@ -4,7 +4,7 @@ use borrow.Author.Needs.{needs}
 use Rattle.image.specs.declared.layout.Layout.{Layout}
 use Rattle.fill.specs.declared.ChromaUpsampling.the-variants.{LumaGuided}
 use Rattle.fill.specs.Fill.{fillScratch}
-use Rattle.netpbm.specs.Lines.{ppmHeader}
+use Rattle.lines.specs.Lines.{ppmHeader}
 use Rattle.netpbm.proofs.Acceptance.{taken}
 use Rattle.picture.specs.declared.Outcome.the-variants.{Written}
 use Rattle.picture.specs.Picture.{planesOf}

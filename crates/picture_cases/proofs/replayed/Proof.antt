@@ -3,7 +3,7 @@ use Prim.Native.Nat.{_+_, _-_, _≤_}
 use native.Mathlib.Omega.{arith}
 use lib.ListN.{length}
 use borrow.Author.Needs.{needs}
-use Rattle.netpbm.proofs.Runs.{differ}
+use Rattle.pgm.proofs.Runs.{differ}
 use Rattle.picture_cases.proofs.replayed.Statement.{statement}
 use Rattle.picture_cases.proofs.replayed.Tie as tie
 
