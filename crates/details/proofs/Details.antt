@@ -13,7 +13,7 @@ use Rattle.image.specs.declared.layout.Layout.{Layout}
 use Rattle.image.specs.Tests.{Sound}
 use Rattle.image.specs.Samples.{Plane, sampleAt}
 use Rattle.image.specs.Scratch.{cellAt, scratchNeed}
-use Rattle.guided.specs.Guided.{acrossTo, detailOf}
+use Rattle.guidance.specs.Guided.{acrossTo, detailOf}
 use Rattle.guided.specs.Scratch.{detailAt, columnAt}
 use Rattle.guided.proofs.Places.{column-behind}
 use Rattle.lerps.specs.declared.pairs.Pair.{Pair}

@@ -10,7 +10,7 @@ use Rattle.image.specs.Samples.{Plane, sampleAt}
 use Rattle.taps.specs.declared.taps.Phase.{Phase}
 use Rattle.taps.specs.Taps.{lerpOf, fractionOf}
 use Rattle.image.specs.Scratch.{cellAt}
-use Rattle.guided.specs.Guided.{detailOf}
+use Rattle.guidance.specs.Guided.{detailOf}
 use Rattle.guided.specs.Scratch.{detailAt, columnAt}
 use Rattle.lerps.specs.declared.pairs.Pair.{Pair}
 

@@ -85,7 +85,7 @@ fn detail_each(
     requires { ⌜ (dst + layout .w ≤ src) × (src + layout .cw ≤ length (now s)) ⌝ }
     ensures { λ _. ⌜ now (s .exit) ≡ detailRun layout (record { bytes = now (plane .entry); stride = stride }) y src dst (layout .rh) (n * layout .rh) (now (s .entry)) ⌝ }
 {
-    let phases = state::phases_of(layout.rh);
+    let phases = phases::phases_of(layout.rh);
     let mut i = 0;
     while i < n {
         detail_cell(layout, plane, stride, y, phases, s, src, dst, i + 1);

@@ -12,7 +12,7 @@ use Rattle.laws.proofs.Lists.{put-same, put-chain}
 use Rattle.image.specs.declared.layout.Layout.{Layout}
 use Rattle.image.specs.Samples.{Plane, sampleOf, sampleAt}
 use Rattle.image.proofs.Pictures.{sample-small}
-use Rattle.guided.specs.Guided.{three, extremeOf}
+use Rattle.guidance.specs.Guided.{three, extremeOf}
 use Rattle.guided.proofs.Extremes.{fmin-whole, fmax-whole}
 use Rattle.extremes.specs.Extremes.{opOf, extremeRun, extremeRow, wholeOp, threeFrom, nineFrom}
 use Rattle.laws.proofs.Counts.{plus-plus}

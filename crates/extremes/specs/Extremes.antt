@@ -7,7 +7,7 @@ use Rattle.laws.specs.Lists.{put}
 use Rattle.image.specs.declared.layout.Layout.{Layout}
 use Rattle.image.specs.Samples.{Plane, sampleOf, sampleAt}
 use Rattle.fround.specs.Rounding.{fmin, fmax}
-use Rattle.guided.specs.Guided.{extremeOf}
+use Rattle.guidance.specs.Guided.{extremeOf}
 
 -- the greater or the smaller of two
 abbrev pub opOf : Bool → Float → Float → Float

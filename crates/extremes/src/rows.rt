@@ -4,7 +4,7 @@ ghost use Prim.Native.Nat.{_+_, _-_, _≤_, _<_};
 ghost use lib.ListN.{length};
 ghost use Rattle.laws.specs.Floats.{f32};
 ghost use Rattle.image.specs.Samples.{Plane, sampleAt};
-ghost use Rattle.guided.specs.Guided.{three, extremeOf};
+ghost use Rattle.guidance.specs.Guided.{three, extremeOf};
 ghost use Rattle.places.specs.Lent.{ChromaCells};
 ghost use Rattle.extremes.specs.Extremes.{opOf, extremeRun, extremeRow};
 use super::inner::byte_run;

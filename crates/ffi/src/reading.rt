@@ -46,7 +46,7 @@ pub extern "C" fn chroma_open(
 ) -> ChromaReply
     ensures { λ r. ⌜ Replied reader (OpenGiven (record { layout = asLayout layout; planes = lentPlanes (now (y .entry)) (now (cb .entry)) (now (cr .entry)) strides; scratch = now (s .entry); reader = asReader reader })) r ⌝ }
 {
-    let reply = reader::open(
+    let reply = opening::open(
         to_layout(layout),
         y,
         strides.y,

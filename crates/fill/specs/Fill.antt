@@ -13,7 +13,7 @@ use Rattle.image.specs.Tests.{outsideOf, layoutTests}
 use Rattle.image.specs.Picture.{Chroma, Cb, Cr, Picture, Planes, pictureOf, badPlanes}
 use Rattle.resample.specs.Linear.{linearSample, linearRow}
 use Rattle.image.specs.Scratch.{scratchNeed}
-use Rattle.guided.specs.Guided.{guidedSample}
+use Rattle.guidance.specs.Guided.{guidedSample}
 use Rattle.guided_rows.specs.Rows.{guidedRows}
 use Rattle.convert.specs.Kernels.{Colour}
 use Rattle.convert.specs.Stores.{pixels}

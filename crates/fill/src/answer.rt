@@ -37,13 +37,13 @@ pub fn fill_answer(
     if image::refused(early) {
         return early;
     }
-    if guided_rows::bad_planes(layout, y, y_stride, cb, cb_stride, cr, cr_stride) {
+    if lent::bad_planes(layout, y, y_stride, cb, cb_stride, cr, cr_stride) {
         return Answer::Refused(7);
     }
     if image::outside(3, 4, size) {
         return Answer::Refused(8);
     }
-    if s.len() < resample::scratch_need(layout) {
+    if s.len() < lent::scratch_need(layout) {
         return Answer::Refused(9);
     }
     if out.len() < layout.w * layout.h * size {

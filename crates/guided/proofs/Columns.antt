@@ -12,7 +12,7 @@ use Rattle.image.specs.Tests.{Sound}
 use Rattle.image.specs.Picture.{Chroma, Cb, Cr, Picture}
 use Rattle.fround.specs.Rounding.{fmin, fmax}
 use Rattle.image.specs.Scratch.{scratchNeed, cellAt}
-use Rattle.guided.specs.Guided.{Across, Luma, Cell, acrossVal, extreme, downTo, detailOf, slope, guidedSample}
+use Rattle.guidance.specs.Guided.{Across, Luma, Cell, acrossVal, extreme, downTo, detailOf, slope, guidedSample}
 use Rattle.guided.specs.Scratch.{finishedAt, detailAt, slotAt, columnAt, columnOf, numAcross, numSlope, readAcross, readSlope, lumaColumn, detailRow, componentColumns}
 use Rattle.guided.specs.Calls.{topOf, doneH, doneF}
 use Rattle.guided.proofs.Places.{Kept, kept-then, kept-column, kept-front, column-same, column-other, column-front, detail-place, front-fits, slot-number}

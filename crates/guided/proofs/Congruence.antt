@@ -8,7 +8,7 @@ use Rattle.image.specs.declared.layout.Layout.{Layout}
 use Rattle.image.specs.Tests.{Sound}
 use Rattle.image.specs.Picture.{Chroma}
 use Rattle.taps.specs.Taps.{tapOf}
-use Rattle.guided.specs.Guided.{three, Across, LumaSum, SquareSum, CellSum, ProductSum, mean, slopeOf, downTo, acrossTo, detailOf, valueOf}
+use Rattle.guidance.specs.Guided.{three, Across, LumaSum, SquareSum, CellSum, ProductSum, mean, slopeOf, downTo, acrossTo, detailOf, valueOf}
 use Rattle.guided.specs.Calls.{topOf, lastOf}
 use Rattle.guided.proofs.Taken.{taken, own-column}
 

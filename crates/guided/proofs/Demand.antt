@@ -17,7 +17,7 @@ use Rattle.image.specs.Samples.{sampleAt, sampleOf, place}
 use Rattle.image.specs.Picture.{Chroma, chromaPlane, inside, pictureOf, badPlanes}
 use Rattle.image.proofs.Pictures.{sample-small}
 use Rattle.image.specs.Scratch.{scratchNeed}
-use Rattle.guided.specs.Guided.{guidedSample, guidedRow}
+use Rattle.guidance.specs.Guided.{guidedSample, guidedRow}
 use Rattle.guided.specs.Calls.{layoutOf, OpenCall, SeekCall, RowCall, seekTests, rowTests, Bytes}
 use Rattle.guided.specs.Events.{RowEvent, Event, AllRan, Since, Start, After, pictureBy, Premise, given, Within, AlikeNear, Run, Demand3}
 use Rattle.guided.proofs.Locality.{guided-local}

@@ -15,7 +15,7 @@ use Rattle.laws.proofs.Values.{whole-value}
 use Rattle.image.specs.Picture.{Chroma, Picture}
 use Rattle.fround.specs.Rounding.{fmin, fmax}
 use Rattle.fround.proofs.Laws.{between}
-use Rattle.guided.specs.Guided.{three, extremeOf, extreme, valueOf, guidedSample}
+use Rattle.guidance.specs.Guided.{three, extremeOf, extreme, valueOf, guidedSample}
 use Rattle.guided.specs.Events.{threeN, nine, Within}
 
 -- ---- whole numbers as floats keep their order

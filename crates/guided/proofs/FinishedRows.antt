@@ -12,7 +12,7 @@ use Rattle.image.specs.Tests.{Sound}
 use Rattle.image.specs.Picture.{Chroma, Picture}
 use Rattle.fround.specs.Rounding.{fmin, fmax}
 use Rattle.image.specs.Scratch.{cellAt}
-use Rattle.guided.specs.Guided.{Luma, Cell, acrossVal, extreme, downTo, detailOf, valueOf, slope, guidedSample}
+use Rattle.guidance.specs.Guided.{Luma, Cell, acrossVal, extreme, downTo, detailOf, valueOf, slope, guidedSample}
 use Rattle.guided.specs.Scratch.{finishedAt, detailAt, columnAt, columnOf, fsteps, lumaColumn, detailRow, componentColumns, finishedRow, componentsOver, rowSteps}
 use Rattle.guided.specs.Calls.{topOf, doneH, doneF}
 use Rattle.guided.proofs.Places.{Kept, kept-then, kept-column, kept-front, finished-detail, finished-other, finished-place, detail-place, front-fits}

@@ -11,7 +11,7 @@ use Rattle.laws.specs.Lists.{put}
 use Rattle.laws.proofs.Lists.{length-put}
 use Rattle.image.specs.Picture.{Chroma, Cb, Cr, Picture}
 use Rattle.image.specs.Scratch.{scratchNeed, cellAt}
-use Rattle.guided.specs.Guided.{Across, Luma, LumaSum, SquareSum, Cell, CellSum, ProductSum, acrossVal, slope}
+use Rattle.guidance.specs.Guided.{Across, Luma, LumaSum, SquareSum, Cell, CellSum, ProductSum, acrossVal, slope}
 use Rattle.guided.specs.Scratch.{bufferAt, slotAt, numAcross, numSlope, readAcross, readSlope, chromaParts, parts, acrossOver}
 use Rattle.guided.proofs.Places.{buffer-other, slot-same, slot-other}
 

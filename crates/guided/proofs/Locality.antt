@@ -8,7 +8,7 @@ use Rattle.laws.specs.Floats.{f32, _⊕_, _⊗_}
 use Rattle.image.specs.Tests.{Sound}
 use Rattle.image.specs.Picture.{Chroma, Picture}
 use Rattle.fround.specs.Rounding.{fmin, fmax}
-use Rattle.guided.specs.Guided.{sumTo, three, Across, Luma, LumaSum, SquareSum, Cell, CellSum, ProductSum, lumaOf, extremeOf, cellLuma, cellOf, acrossVal, extreme, slope, downTo, guidedSample}
+use Rattle.guidance.specs.Guided.{sumTo, three, Across, Luma, LumaSum, SquareSum, Cell, CellSum, ProductSum, lumaOf, extremeOf, cellLuma, cellOf, acrossVal, extreme, slope, downTo, guidedSample}
 use Rattle.guided.specs.Events.{Near, AlikeNear}
 use Rattle.guided.proofs.Taken.{taken, own-row, own-column}
 use Rattle.guided.proofs.Congruence.{Beside, three-cong, slope-cong, down-cong, detail-cong, value-cong}

@@ -17,7 +17,7 @@ use Rattle.image.specs.Picture.{Chroma, Cb, Cr, Planes, chromaPlane, inside, pi
 use Rattle.image.proofs.Pictures.{inside-is, padding-unseen}
 use Rattle.image.specs.Scratch.{cellAt}
 use Rattle.guided.specs.declared.state.Reader.{Reader}
-use Rattle.guided.specs.Guided.{guidedSample, guidedRow}
+use Rattle.guidance.specs.Guided.{guidedSample, guidedRow}
 use Rattle.guided.specs.Scratch.{finishedAt, rowSteps}
 use Rattle.guided.specs.Calls.{layoutOf, geometryOf, topOf, freshH, freshF, doneH, doneF, readerAt, opened, sought, rowed, badState, OpenCall, SeekCall, RowCall, openTests, seekTests, rowTests, rowScratch, rowOut, Bytes}
 use Rattle.guided.specs.Events.{RowEvent, Event, Opened, Sought, Rowed, Ran, AllRan, done, Since, Course, Start, After, pictureBy, moved, next, Shows, Handed, Premise, Gives, here, later, outOf, given}

@@ -19,7 +19,7 @@ use Rattle.image.specs.Picture.{Cb, Cr, Planes, inside, pictureOf, shortPlane, 
 use Rattle.taps.specs.Taps.{spotAt, spotOf, tapOf, phaseOf}
 use Rattle.image.specs.Scratch.{scratchNeed}
 use Rattle.guided.specs.declared.state.Reader.{Reader}
-use Rattle.guided.specs.Guided.{sumTo, three, lumaOf, extremeOf, cellLuma, cellOf, acrossVal, extreme, epsilon, mean, slopeOf, downTo, acrossTo, detailOf, valueOf, slope, guidedSample, guidedRow}
+use Rattle.guidance.specs.Guided.{sumTo, three, lumaOf, extremeOf, cellLuma, cellOf, acrossVal, extreme, epsilon, mean, slopeOf, downTo, acrossTo, detailOf, valueOf, slope, guidedSample, guidedRow}
 use Rattle.guided.specs.Calls.{geometryOf, layoutOf, readerAt, opened, sought, rowed, badState, OpenCall, SeekCall, RowCall, openTests, seekTests, rowTests, rowScratch, rowOut, Bytes}
 use Rattle.guided.specs.Events.{RowEvent, Event, Opened, Sought, Rowed, Ran, AllRan, done, Start, pictureBy, moved, next, Handed, Premise, Gives, here, later, given}
 use Rattle.guided.proofs.FinishedRows.{length-row}

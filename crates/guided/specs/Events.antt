@@ -13,7 +13,7 @@ use Rattle.image.specs.Samples.{sampleAt}
 use Rattle.image.specs.Picture.{Chroma, Cb, Cr, Picture, Planes, chromaPlane, pictureOf}
 use Rattle.guided.specs.declared.state.Reader.{Reader}
 use Rattle.guided.specs.declared.state.Reply.{Reply}
-use Rattle.guided.specs.Guided.{guidedRow}
+use Rattle.guidance.specs.Guided.{guidedRow}
 use Rattle.guided.specs.Calls.{OpenCall, SeekCall, RowCall, OpenGiven, SeekGiven, RowGiven}
 
 -- ---- events

@@ -1,4 +1,3 @@
-pub mod Guided
 pub mod Scratch
 pub mod Calls
 pub mod Events

@@ -1,4 +1,4 @@
-// What a guided row is, and why the reader is right: definitions, the model of scratch, demand 3; and the types of the original's GuidedRows. No function.
+// Why the reader is right: the calls, the model of scratch, demand 3; and the types of the original's GuidedRows. No function.
 mod geometry;
 mod state;
 

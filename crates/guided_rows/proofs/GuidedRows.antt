@@ -10,7 +10,7 @@ use lib.Ieee.{Float}
 use Rattle.image.specs.Tests.{Sound}
 use Rattle.image.specs.Picture.{Chroma, Picture}
 use Rattle.image.specs.Scratch.{scratchNeed, cellAt}
-use Rattle.guided.specs.Guided.{guidedSample}
+use Rattle.guidance.specs.Guided.{guidedSample}
 use Rattle.guided.specs.Scratch.{finishedAt}
 use Rattle.guided.specs.Calls.{topOf, freshH, freshF, doneH, doneF}
 use Rattle.guided.proofs.Held.{Has}

@@ -14,7 +14,7 @@ use Rattle.image.specs.Picture.{Chroma, Cb, Cr, Planes, chromaPlane, inside, pi
 use Rattle.image.proofs.Pictures.{inside-is}
 use Rattle.fround.specs.Rounding.{fmin, fmax}
 use Rattle.image.specs.Scratch.{cellAt}
-use Rattle.guided.specs.Guided.{extremeOf, extreme, detailOf}
+use Rattle.guidance.specs.Guided.{extremeOf, extreme, detailOf}
 use Rattle.guided.specs.Scratch.{firstOf, columnAt, columnOf, detailAt, readAcross, readSlope, lumaColumn, detailRow, componentColumns, finishedRow, componentsOver}
 use Rattle.guided.proofs.Taken.{own-row}
 use Rattle.sums.proofs.Threes.{three-same}

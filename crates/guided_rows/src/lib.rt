@@ -1,9 +1,7 @@
 // Guided rows over scratch: the chroma rows that a picture row needs, caught up with, and the row itself.
-mod lent;
 mod row;
 mod steps;
 
-pub use lent::bad_planes;
 pub use steps::catch_up;
 pub use steps::guided_step;
 pub use steps::row_steps;

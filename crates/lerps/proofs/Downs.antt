@@ -9,7 +9,7 @@ use Rattle.image.specs.declared.layout.Layout.{Layout}
 use Rattle.taps.specs.declared.taps.Tap.{Tap}
 use Rattle.taps.specs.Taps.{lerpOf, tapOf}
 use Rattle.image.specs.Scratch.{cellAt, scratchNeed}
-use Rattle.guided.specs.Guided.{downTo}
+use Rattle.guidance.specs.Guided.{downTo}
 use Rattle.guided.specs.Scratch.{slotAt, columnAt}
 use Rattle.guided.proofs.Places.{slot-column}
 use Rattle.lerps.specs.Columns.{lerpRun, ColumnGiven, downColumn}

@@ -13,7 +13,7 @@ use Rattle.image.specs.Samples.{Plane, sampleAt}
 use Rattle.taps.specs.declared.taps.Phase.{Phase}
 use Rattle.taps.specs.Taps.{phaseOf}
 use Rattle.image.specs.Scratch.{cellAt, scratchNeed}
-use Rattle.guided.specs.Guided.{acrossTo, detailOf}
+use Rattle.guidance.specs.Guided.{acrossTo, detailOf}
 use Rattle.guided.specs.Scratch.{detailAt, columnAt}
 use Rattle.guided.proofs.Taken.{own-column}
 use Rattle.guided.proofs.Places.{column-behind}

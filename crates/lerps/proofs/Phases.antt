@@ -15,7 +15,7 @@ use Rattle.image.specs.declared.layout.Layout.{Layout}
 use Rattle.image.specs.Tests.{Sound}
 use Rattle.taps.specs.declared.taps.Phase.{Phase}
 use Rattle.taps.specs.Taps.{lerpOf, phaseOf}
-use Rattle.guided.specs.Guided.{acrossTo}
+use Rattle.guidance.specs.Guided.{acrossTo}
 use Rattle.guided.specs.Calls.{phaseAt, phasesOf}
 use Rattle.image.proofs.Layouts.{begins}
 use Rattle.laws.proofs.Counts.{none-plus, part-rest}

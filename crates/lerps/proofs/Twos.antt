@@ -14,7 +14,7 @@ use Rattle.image.specs.Tests.{Sound}
 use Rattle.image.specs.Samples.{Plane, sampleAt}
 use Rattle.image.specs.Scratch.{cellAt}
 use Rattle.taps.specs.Taps.{lerpOf, fractionOf, phaseOf}
-use Rattle.guided.specs.Guided.{acrossTo, detailOf}
+use Rattle.guidance.specs.Guided.{acrossTo, detailOf}
 use Rattle.lerps.specs.declared.pairs.Pair.{Pair}
 use Rattle.lerps.specs.Across.{pairOf}
 use Rattle.lerps.proofs.Lerps.{across-same}

@@ -7,7 +7,7 @@ use Rattle.laws.specs.Lists.{put}
 use Rattle.image.specs.declared.layout.Layout.{Layout}
 use Rattle.taps.specs.Taps.{lerpOf}
 use Rattle.image.specs.Scratch.{scratchNeed, cellAt}
-use Rattle.guided.specs.Guided.{downTo}
+use Rattle.guidance.specs.Guided.{downTo}
 use Rattle.guided.specs.Scratch.{slotAt, columnAt}
 
 -- the n cells at a and at b, lerped by f, put at dst

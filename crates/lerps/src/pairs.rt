@@ -7,7 +7,7 @@ ghost use lib.ListN.{length, getD};
 ghost use Rattle.laws.specs.Lists.{put};
 ghost use Rattle.image.specs.Tests.{Sound};
 ghost use Rattle.image.specs.Scratch.{cellAt};
-ghost use Rattle.guided.specs.Guided.{acrossTo};
+ghost use Rattle.guidance.specs.Guided.{acrossTo};
 ghost use Rattle.guided.specs.Calls.{phasesOf};
 ghost use Rattle.lerps.specs.Across.{phased, pairOf};
 use image::Layout;

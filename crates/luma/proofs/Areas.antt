@@ -14,7 +14,7 @@ use Rattle.image.specs.Samples.{Plane, sampleOf, sampleAt, place}
 use Rattle.image.specs.Picture.{inside}
 use Rattle.image.proofs.Planes.{short-holds, sample-inside}
 use Rattle.image.proofs.Pictures.{inside-is}
-use Rattle.guided.specs.Guided.{sumTo, lumaOf}
+use Rattle.guidance.specs.Guided.{sumTo, lumaOf}
 use Rattle.luma.specs.Luma.{Cells, rowSum, cellSum, quadAt, quadRun, pairAt, pairRun, lumaRun, lumaRow}
 use Rattle.laws.proofs.Counts.{plus-none, none-plus, part-rest}
 

@@ -11,7 +11,7 @@ use Rattle.image.specs.declared.layout.Layout.{Layout}
 use Rattle.image.specs.Tests.{Sound}
 use Rattle.image.specs.Samples.{Plane, sampleAt}
 use Rattle.image.specs.Picture.{shortPlane}
-use Rattle.guided.specs.Guided.{sumTo, lumaOf}
+use Rattle.guidance.specs.Guided.{sumTo, lumaOf}
 
 -- what is known of a layout and its luma plane
 pub record Cells (l : Layout) (p : Plane) : Type 0 where

@@ -4,7 +4,7 @@ ghost use Prim.Native.Nat.{_+_, _*_, _≤_, _<_};
 ghost use lib.ListN.{length};
 ghost use Rattle.laws.specs.Floats.{f32, _⊘_};
 ghost use Rattle.image.specs.Samples.{sampleAt};
-ghost use Rattle.guided.specs.Guided.{lumaOf};
+ghost use Rattle.guidance.specs.Guided.{lumaOf};
 ghost use Rattle.luma.specs.Luma.{Cells, rowSum, cellSum, quadRun, pairRun, lumaRun, lumaRow};
 use image::Layout;
 

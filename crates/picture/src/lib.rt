@@ -30,7 +30,7 @@ fn written(
     requires { ⌜ readingOf (now input) ≡ Reading.Read layout y cb cr ⌝ }
     ensures { λ r. ⌜ PictureGiven (now (input .entry)) (now (s .entry)) (now (out .entry)) r (now (s .exit)) (now (out .exit)) ⌝ }
 {
-    if s.len() < resample::scratch_need(layout) {
+    if s.len() < lent::scratch_need(layout) {
         return Outcome::Refused(9);
     }
     let header = lines::ppm_header(layout.w, layout.h);

@@ -22,7 +22,7 @@ use Rattle.image.proofs.Layouts.{neither, sound}
 use Rattle.fround.specs.Rounding.{roundClamped}
 use Rattle.image.specs.Scratch.{scratchNeed}
 use Rattle.resample.specs.Rows.{storeRun}
-use Rattle.guided.specs.Guided.{guidedSample}
+use Rattle.guidance.specs.Guided.{guidedSample}
 use Rattle.guided.specs.Scratch.{finishedAt}
 use Rattle.places.specs.Lent.{Lent}
 use Rattle.planes.specs.Plane.{planesWith, shortPair, guidedTests}

@@ -15,7 +15,7 @@ use Rattle.image.specs.Samples.{Plane}
 use Rattle.image.specs.Picture.{Cb, Picture, Planes, pictureOf, shortPlane}
 use Rattle.fround.specs.Rounding.{roundClamped}
 use Rattle.image.specs.Scratch.{scratchNeed}
-use Rattle.guided.specs.Guided.{guidedSample}
+use Rattle.guidance.specs.Guided.{guidedSample}
 use Rattle.guided_rows.specs.Rows.{guidedRows}
 
 -- the planes of a picture with luma y and the one chroma plane c: c stands for both components, and only Cb is asked for

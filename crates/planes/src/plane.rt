@@ -45,7 +45,7 @@ fn plane_answer(
     if bad_pair(layout, y, y_stride, c, c_stride) {
         return Answer::Refused(7);
     }
-    if space < resample::scratch_need(layout) {
+    if space < lent::scratch_need(layout) {
         return Answer::Refused(9);
     }
     if room < layout.w * layout.h {

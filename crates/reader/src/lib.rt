@@ -1,6 +1,4 @@
-// The reader of guided rows: the original's GuidedRows as calls over lent planes and scratch.
-mod opening;
+// Row: the reader of guided rows, the original's GuidedRows as calls over lent planes and scratch.
 mod rows;
 
-pub use opening::open;
 pub use rows::row;

@@ -9,9 +9,9 @@ ghost use Rattle.image.specs.Scratch.{cellAt};
 ghost use Rattle.guided.specs.Calls.{layoutOf, rowed, rowTests, RowGiven};
 use guided::Reader;
 use guided::Reply;
-use guided_rows::bad_planes;
 use guided_rows::row_steps;
 use laws::Answer;
+use lent::bad_planes;
 
 // The lowest refusal of `row` that applies. It writes nothing.
 fn row_answer(
@@ -36,7 +36,7 @@ fn row_answer(
     if bad_planes(layout, y, y_stride, cb, cb_stride, cr, cr_stride) {
         return Answer::Refused(7);
     }
-    if s.len() < resample::scratch_need(layout) {
+    if s.len() < lent::scratch_need(layout) {
         return Answer::Refused(9);
     }
     if image::either(out_cb.len() < layout.w, out_cr.len() < layout.w) {

@@ -5,5 +5,4 @@ mod rows;
 pub use linear::linear_answer;
 pub use linear::linear_plane;
 pub use linear::linear_row;
-pub use linear::scratch_need;
 pub use rows::store_row;

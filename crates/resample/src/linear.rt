@@ -3,24 +3,14 @@ ghost use mathlib.Core.Path.{_≡_};
 ghost use Prim.Native.Nat.{_+_, _*_, _≤_, _<_};
 ghost use lib.ListN.{length};
 ghost use Rattle.laws.specs.Refusals.{first};
-ghost use Rattle.image.specs.Tests.{Sound};
 ghost use Rattle.image.specs.Samples.{Plane};
 ghost use Rattle.resample.specs.Linear.{linearTests, linearRow, linearPlane, linearScratch, LinearGiven, Ready};
-ghost use Rattle.image.specs.Scratch.{scratchNeed};
 use super::rows::across_row;
 use super::rows::down_row;
 use super::rows::store_row;
 use image::Layout;
 use laws::Answer;
 use taps::tap_at;
-
-// Inner: how many values of scratch every call over a picture asks for.
-pub fn scratch_need(layout: Layout) -> usize
-    requires { ⌜ Sound layout ⌝ }
-    ensures { λ r. ⌜ r ≡ scratchNeed layout ⌝ }
-{
-    64 * layout.cw + 8 * layout.w
-}
 
 // Inner: row y of a chroma plane, to scratch from dst on: the cells down into the column buffer behind the two finished rows, then across.
 pub fn linear_row(layout: Layout, plane: &[u8], stride: usize, y: usize, s: &mut [f32], dst: usize)
@@ -59,7 +49,7 @@ pub fn linear_answer(
     ) {
         return Answer::Refused(7);
     }
-    if space < scratch_need(layout) {
+    if space < lent::scratch_need(layout) {
         return Answer::Refused(9);
     }
     if room < layout.w * layout.h {

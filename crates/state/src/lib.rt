@@ -1,9 +1,6 @@
 // The reader's state as functions: its checks, its counters, and seek.
-mod phases;
 mod state;
 
-pub use phases::geometry_of;
-pub use phases::phases_of;
 pub use state::Counters;
 pub use state::bad_state;
 pub use state::done_counters;

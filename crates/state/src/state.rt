@@ -5,11 +5,11 @@ ghost use Prim.Native.Nat.{_≤_, _<_};
 ghost use lib.Dec.{eqb};
 ghost use Rattle.image.specs.Tests.{Sound};
 ghost use Rattle.guided.specs.Calls.{layoutOf, topOf, lastOf, freshH, freshF, doneH, doneF, sought, badCounters, badState, SeekGiven};
-use super::phases::bad_phases;
 use guided::Reader;
 use guided::Reply;
 use image::Layout;
 use laws::Answer;
+use phases::bad_phases;
 
 // Inner: the layout that a state has.
 pub fn layout_of(reader: Reader) -> Layout

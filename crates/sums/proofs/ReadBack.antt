@@ -15,7 +15,7 @@ use Rattle.image.specs.Samples.{Plane, sampleAt}
 use Rattle.image.specs.Picture.{Chroma, Cb, Cr, Picture, Planes, chromaPlane, pictureOf}
 use Rattle.image.proofs.Pictures.{inside-is}
 use Rattle.image.specs.Scratch.{scratchNeed, cellAt}
-use Rattle.guided.specs.Guided.{three, lumaOf, cellLuma, cellOf, acrossVal}
+use Rattle.guidance.specs.Guided.{three, lumaOf, cellLuma, cellOf, acrossVal}
 use Rattle.guided.specs.Scratch.{slotAt, firstOf, chromaParts, parts, acrossOver, slopesOver, horizontal, finish}
 use Rattle.sums.specs.Rows.{loadRun, cellsAt, productsAt, threeRow}
 use Rattle.luma.specs.Luma.{lumaRow}

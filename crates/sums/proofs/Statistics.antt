@@ -15,7 +15,7 @@ use Rattle.sums.specs.Slopes.{slopeBy, meanAt, slopeAt, slopeRun, Inside
 use lib.Dec.{lit≤, lit<}
 use Rattle.image.specs.declared.layout.Layout.{Layout}
 use Rattle.image.specs.Picture.{Chroma, Cb, Cr}
-use Rattle.guided.specs.Guided.{three, mean, slopeOf, epsilon}
+use Rattle.guidance.specs.Guided.{three, mean, slopeOf, epsilon}
 use Rattle.guided.specs.Scratch.{slotAt, firstOf, numSlope, readAcross}
 use Rattle.places.specs.Buffers.{windowOf}
 use Rattle.sums.proofs.Blocks.{run-block}

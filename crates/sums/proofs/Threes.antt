@@ -8,7 +8,7 @@ use lib.Ieee.{Float, nan}
 use Rattle.laws.specs.Floats.{_⊕_}
 use Rattle.laws.specs.Lists.{put}
 use Rattle.laws.proofs.Lists.{put-same, put-before, put-chain, Run, run-more, run-before}
-use Rattle.guided.specs.Guided.{three}
+use Rattle.guidance.specs.Guided.{three}
 use Rattle.sums.specs.Rows.{cellsAt, productsAt, threeRun, threeRow}
 use Rattle.laws.proofs.Counts.{plus-none, none-plus, plus-plus}
 

@@ -11,7 +11,7 @@ use Rattle.image.specs.Tests.{Sound}
 use Rattle.image.specs.Samples.{Plane}
 use Rattle.image.specs.Picture.{Chroma, Cb, Cr, Planes, shortPlane}
 use Rattle.image.specs.Scratch.{scratchNeed, cellAt}
-use Rattle.guided.specs.Guided.{three, lumaOf}
+use Rattle.guidance.specs.Guided.{three, lumaOf}
 use Rattle.guided.specs.Scratch.{slotAt, firstOf}
 use Rattle.sums.specs.declared.across.Slots.{Slots}
 

@@ -6,7 +6,7 @@ use Rattle.laws.specs.Floats.{f32, _⊕_, _⊗_}
 use Rattle.laws.specs.Lists.{put}
 use Rattle.image.specs.Samples.{sampleOf}
 use Rattle.image.specs.Scratch.{cellAt}
-use Rattle.guided.specs.Guided.{three}
+use Rattle.guidance.specs.Guided.{three}
 
 -- n samples of a plane from byte `at` on, put at dst
 unfoldable pub loadRun : List ℕ → ℕ → ℕ → ℕ → ℕ → List Float → List Float

@@ -10,7 +10,7 @@ use Rattle.fround.specs.Rounding.{fmax}
 use Rattle.image.specs.Scratch.{cellAt}
 use Rattle.image.specs.declared.layout.Layout.{Layout}
 use Rattle.image.specs.Picture.{Chroma, Cb, Cr}
-use Rattle.guided.specs.Guided.{LumaSum, SquareSum, CellSum, ProductSum, slopeOf}
+use Rattle.guidance.specs.Guided.{LumaSum, SquareSum, CellSum, ProductSum, slopeOf}
 use Rattle.guided.specs.Scratch.{slotAt, numAcross, numSlope, readAcross}
 use Rattle.places.specs.Buffers.{windowOf}
 use Rattle.places.specs.declared.places.Window.{Window}

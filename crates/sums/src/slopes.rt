@@ -5,7 +5,7 @@ ghost use lib.Ieee.{nan};
 ghost use lib.ListN.{length, getD};
 ghost use Rattle.laws.specs.Lists.{put};
 ghost use Rattle.laws.specs.Floats.{f32, _⊕_, _⊗_, _⊘_};
-ghost use Rattle.guided.specs.Guided.{epsilon};
+ghost use Rattle.guidance.specs.Guided.{epsilon};
 ghost use Rattle.sums.specs.Slopes.{slopeBy, meanAt, slopeAt, slopeRun, Inside, AllInside, Clear, statsOf, slopeRow};
 ghost use Rattle.places.specs.Lent.{chromaOf};
 ghost use Rattle.image.specs.Tests.{Sound};

@@ -8,7 +8,7 @@ use Rattle.laws.specs.Floats.{f32, _⊕_, _⊗_}
 use Rattle.image.specs.declared.layout.Layout.{Layout}
 use Rattle.fround.specs.Rounding.{fmin, fmax}
 use Rattle.taps.specs.Taps.{lerpOf}
-use Rattle.guided.specs.Guided.{acrossTo, valueOf}
+use Rattle.guidance.specs.Guided.{acrossTo, valueOf}
 use Rattle.lerps.proofs.Phases.{one-is}
 
 module _ (l : Layout) (gc ga lo hi : ℕ → Float) (d u v : Float) where

@@ -7,7 +7,7 @@ use lib.Ieee.{Float}
 use Rattle.laws.specs.Floats.{_⊕_, _⊗_}
 use Rattle.image.specs.declared.layout.Layout.{Layout}
 use Rattle.image.specs.Tests.{Sound}
-use Rattle.guided.specs.Guided.{valueOf}
+use Rattle.guidance.specs.Guided.{valueOf}
 use Rattle.values.specs.declared.bands.Bands.{Bands}
 use Rattle.lerps.specs.declared.pairs.Pair.{Pair}
 use Rattle.fround.specs.Rounding.{fmin, fmax}

@@ -14,7 +14,7 @@ use Rattle.image.specs.Tests.{Sound}
 use Rattle.image.specs.Picture.{Chroma, Cb, Cr}
 use Rattle.fround.specs.Rounding.{fmin, fmax}
 use Rattle.image.specs.Scratch.{cellAt, scratchNeed}
-use Rattle.guided.specs.Guided.{acrossTo, valueOf}
+use Rattle.guidance.specs.Guided.{acrossTo, valueOf}
 use Rattle.guided.specs.Scratch.{detailAt, finishedAt, columnAt, columnOf}
 use Rattle.guided.proofs.Places.{column-behind, column-fits, detail-place}
 use Rattle.values.specs.declared.bands.Bands.{Bands}

@@ -6,7 +6,7 @@ use Rattle.laws.specs.Lists.{put}
 use Rattle.image.specs.declared.layout.Layout.{Layout}
 use Rattle.image.specs.Picture.{Chroma}
 use Rattle.image.specs.Scratch.{cellAt}
-use Rattle.guided.specs.Guided.{valueOf}
+use Rattle.guidance.specs.Guided.{valueOf}
 use Rattle.guided.specs.Scratch.{detailAt, finishedAt, columnAt, columnOf}
 use Rattle.lerps.specs.declared.pairs.Pair.{Pair}
 use Rattle.values.specs.declared.bands.Bands.{Bands}

@@ -73,7 +73,7 @@ fn value_each(layout: Layout, s: &mut [f32], t: Bands, dst: usize, n: usize)
     requires { ⌜ (n + 2 ≤ layout .cw) × (layout .rh + n * layout .rh ≤ layout .w) × (dst ≤ layout .w) ⌝ }
     ensures { λ _. ⌜ now (s .exit) ≡ valueRun layout t dst (layout .rh) (n * layout .rh) (now (s .entry)) ⌝ }
 {
-    let phases = state::phases_of(layout.rh);
+    let phases = phases::phases_of(layout.rh);
     let mut i = 0;
     while i < n {
         value_cell(layout, phases, s, t, dst, i + 1);

@@ -4,7 +4,7 @@ use Rattle.laws.proofs.Lists.{Run, run-none, run-more, run-end, run-after}
 use Rattle.laws.specs.Floats.{f32}
 use Rattle.image.specs.Samples.{sampleAt}
 use Rattle.image.specs.Scratch.{cellAt}
-use Rattle.guided.specs.Guided.{detailOf}
+use Rattle.guidance.specs.Guided.{detailOf}
 use Rattle.details.specs.Pixels.{detailRun}
 use Rattle.details.proofs.Details.{detail-is}
 use native.Mathlib.Omega.{arith}

@@ -1,6 +1,6 @@
 use Rattle.extremes.proofs.Nines.{three-of}
 use Rattle.extremes.specs.Extremes.{opOf}
-use Rattle.guided.specs.Guided.{three, extremeOf}
+use Rattle.guidance.specs.Guided.{three, extremeOf}
 use Rattle.image.specs.Samples.{Plane, sampleAt}
 use Rattle.laws.specs.Floats.{f32}
 use borrow.Author.Needs.{needs}

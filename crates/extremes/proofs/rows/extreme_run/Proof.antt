@@ -2,7 +2,7 @@ use Prim.Native.Nat.{_+_, _-_, _≤_}
 use native.Mathlib.Omega.{arith}
 use Rattle.extremes.proofs.rows.extreme_run.Statement.{statement}
 use Rattle.laws.proofs.Lists.{Run, run-end, run-more, run-none}
-use Rattle.guided.specs.Guided.{extremeOf}
+use Rattle.guidance.specs.Guided.{extremeOf}
 use Rattle.extremes.specs.Extremes.{extremeRun, opOf}
 use borrow.Author.Needs.{needs}
 use Rattle.image.specs.Samples.{sampleAt}

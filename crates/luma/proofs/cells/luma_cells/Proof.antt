@@ -1,5 +1,5 @@
 use Rattle.luma.specs.Luma.{lumaRun}
-use Rattle.guided.specs.Guided.{lumaOf}
+use Rattle.guidance.specs.Guided.{lumaOf}
 use Rattle.image.specs.Samples.{sampleAt}
 use Prim.Native.Nat.{_+_, _-_, _≤_}
 use Rattle.laws.proofs.Lists.{Run, run-none, run-more, run-end}

@@ -1,6 +1,6 @@
 use Rattle.sums.proofs.Threes.{behind-products, inner-more}
 use Rattle.sums.specs.Rows.{productsAt, threeRun}
-use Rattle.guided.specs.Guided.{three}
+use Rattle.guidance.specs.Guided.{three}
 use borrow.Author.Needs.{needs}
 use Prim.Native.Nat.{_+_, _-_, _≤_}
 use Rattle.laws.specs.Floats.{_⊕_}

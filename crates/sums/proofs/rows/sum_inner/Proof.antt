@@ -1,7 +1,7 @@
 use Rattle.sums.proofs.Threes.{behind-cells, inner-more}
 use Rattle.sums.specs.Rows.{threeRun}
 use Rattle.image.specs.Scratch.{cellAt}
-use Rattle.guided.specs.Guided.{three}
+use Rattle.guidance.specs.Guided.{three}
 use borrow.Author.Needs.{needs}
 use Prim.Native.Nat.{_+_, _-_, _≤_}
 use Rattle.laws.specs.Floats.{_⊕_}

@@ -1,4 +1,4 @@
-use Rattle.guided.specs.Guided.{epsilon}
+use Rattle.guidance.specs.Guided.{epsilon}
 use Rattle.laws.proofs.Values.{in-float}
 use mathlib.Core.Path.{refl}
 use lib.Ieee.{ofBits, ofInt}

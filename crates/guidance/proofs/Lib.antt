@@ -1,0 +1,2 @@
+-- Rows by their bits.
+pub mod Vectors
