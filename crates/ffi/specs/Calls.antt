@@ -17,12 +17,12 @@ use Rattle.fill.specs.declared.ChromaUpsampling.{ChromaUpsampling}
 use Rattle.fill.specs.declared.ChromaUpsampling.the-variants.{Linear, LumaGuided}
 use Rattle.picture.specs.declared.Outcome.{Outcome}
 use Rattle.picture.specs.declared.Outcome.the-variants.{Written, Refused}
-use Rattle.ffi.specs.declared.forms.ChromaStrides.{ChromaStrides}
-use Rattle.ffi.specs.declared.forms.ChromaReader.{ChromaReader}
-use Rattle.ffi.specs.declared.forms.ChromaReply.{ChromaReply}
-use Rattle.ffi.specs.declared.forms.ChromaPixel.{ChromaPixel}
-use Rattle.ffi.specs.declared.forms.ChromaWritten.{ChromaWritten}
-use Rattle.ffi.specs.Forms.{numberOf, chromaReader, strangePhases}
+use Rattle.forms.specs.declared.forms.ChromaStrides.{ChromaStrides}
+use Rattle.forms.specs.declared.forms.ChromaReader.{ChromaReader}
+use Rattle.forms.specs.declared.forms.ChromaReply.{ChromaReply}
+use Rattle.forms.specs.declared.forms.ChromaPixel.{ChromaPixel}
+use Rattle.forms.specs.declared.forms.ChromaWritten.{ChromaWritten}
+use Rattle.forms.specs.Forms.{numberOf, chromaReader, strangePhases}
 
 -- ---- numbers for answers
 

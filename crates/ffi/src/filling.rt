@@ -1,14 +1,14 @@
 // Fill to RGB, for C.
 ghost use mathlib.Core.Path.{_≡_};
 ghost use Rattle.fill.specs.Fill.{FillGiven};
-ghost use Rattle.ffi.specs.Forms.{asLayout};
+ghost use Rattle.forms.specs.Forms.{asLayout};
 ghost use Rattle.ffi.specs.Calls.{Filled, lentPlanes, asUpsampling, asKernel};
-use super::forms::ChromaLayout;
-use super::forms::ChromaStrides;
-use super::forms::number_of;
-use super::forms::to_layout;
 use colour_rows::YcbcrKernel;
 use fill::ChromaUpsampling;
+use forms::ChromaLayout;
+use forms::ChromaStrides;
+use forms::number_of;
+use forms::to_layout;
 
 fn to_upsampling(n: u32) -> ChromaUpsampling
     ensures { λ r. ⌜ r ≡ asUpsampling n ⌝ }

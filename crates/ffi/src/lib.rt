@@ -1,6 +1,5 @@
 // The calls for C and Rust (include/chroma.h): each translates what it is handed, makes the Rattle call and translates what that gives. None has a `requires`: what stands for nothing is answered.
 mod filling;
-mod forms;
 mod pictures;
 mod pixels;
 mod reading;

@@ -1,7 +1,7 @@
 // The picture program's call, for C.
 ghost use Rattle.picture.specs.Picture.{PictureGiven};
 ghost use Rattle.ffi.specs.Calls.{Pictured};
-use super::forms::ChromaWritten;
+use forms::ChromaWritten;
 use picture::Outcome;
 
 // `picture`: three PGM images in, a PPM out.

@@ -2,8 +2,8 @@
 ghost use mathlib.Core.Path.{_≡_};
 ghost use Rattle.convert.specs.Pixels.{exactPixel, fixedPixel};
 ghost use Rattle.ffi.specs.Calls.{chromaPixel};
-use super::forms::ChromaPixel;
 use convert::Pixel;
+use forms::ChromaPixel;
 
 fn from_pixel(p: Pixel) -> ChromaPixel
     ensures { λ r. ⌜ r ≡ chromaPixel p ⌝ }

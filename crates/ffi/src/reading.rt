@@ -1,17 +1,17 @@
 // The reader's calls for C: open, seek and row.
 ghost use mathlib.Core.Path.{_≡_};
 ghost use Rattle.guided.specs.Calls.{OpenGiven, SeekGiven, RowGiven};
-ghost use Rattle.ffi.specs.Forms.{asLayout, asReader};
+ghost use Rattle.forms.specs.Forms.{asLayout, asReader};
 ghost use Rattle.ffi.specs.Calls.{replyTo, Replied, Checked, lentPlanes};
-use super::forms::ChromaLayout;
-use super::forms::ChromaReader;
-use super::forms::ChromaReply;
-use super::forms::ChromaStrides;
-use super::forms::from_reader;
-use super::forms::number_of;
-use super::forms::strange_phases;
-use super::forms::to_layout;
-use super::forms::to_reader;
+use forms::ChromaLayout;
+use forms::ChromaReader;
+use forms::ChromaReply;
+use forms::ChromaStrides;
+use forms::from_reader;
+use forms::number_of;
+use forms::strange_phases;
+use forms::to_layout;
+use forms::to_reader;
 use guided::Reply;
 
 // A reply in C's form; `handed` comes back, bit for bit, where the call was refused.

@@ -2,11 +2,11 @@
 ghost use Rattle.resample.specs.Linear.{LinearGiven};
 ghost use Rattle.upsample.specs.Triangular.{TriangularGiven};
 ghost use Rattle.planes.specs.Plane.{GuidedGiven};
-ghost use Rattle.ffi.specs.Forms.{asLayout};
+ghost use Rattle.forms.specs.Forms.{asLayout};
 ghost use Rattle.ffi.specs.Calls.{Answered, lentPlane};
-use super::forms::ChromaLayout;
-use super::forms::number_of;
-use super::forms::to_layout;
+use forms::ChromaLayout;
+use forms::number_of;
+use forms::to_layout;
 
 // `linear_plane`.
 #[no_mangle]

@@ -22,9 +22,11 @@ use Rattle.image.specs.Samples.{Plane, sampleAt}
 use Rattle.fround.specs.Rounding.{roundClamped}
 use Rattle.taps.specs.declared.taps.Tap.{Tap}
 use Rattle.taps.specs.Taps.{tapOf, TapGiven}
-use Rattle.resample.specs.Linear.{downBy, acrossBy, linearDown, linearSample, linearRow, linearScratch, columnAt, linearTests, Ready}
+use Rattle.resample.specs.Linear.{downBy, linearDown, linearSample, linearRow, linearScratch, columnAt, linearTests, Ready}
+use Rattle.linear_rows.specs.Rows.{acrossBy}
 use Rattle.image.specs.Scratch.{scratchNeed, cellAt}
-use Rattle.resample.specs.Rows.{downRun, acrossRun, storeRun}
+use Rattle.linear_rows.specs.Rows.{downRun, acrossRun}
+use Rattle.resample.specs.Stores.{storeRun}
 use Rattle.taps.proofs.Spots.{tap-given}
 use Rattle.laws.proofs.Counts.{none-plus, plus-none}
 

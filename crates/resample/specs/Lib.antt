@@ -1,3 +1,3 @@
 pub mod Linear
-pub mod Rows
+pub mod Stores
 pub mod Bound

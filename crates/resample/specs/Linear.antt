@@ -18,14 +18,11 @@ use Rattle.image.specs.Scratch.{scratchNeed}
 use Rattle.fround.specs.Rounding.{roundClamped}
 use Rattle.taps.specs.declared.taps.Tap.{Tap}
 use Rattle.taps.specs.Taps.{lerpOf, tapOf}
+use Rattle.linear_rows.specs.Rows.{acrossBy}
 
 -- the cells of a column lerped down by a tap
 abbrev pub downBy : Tap → (ℕ → ℕ → ℕ) → ℕ → Float
 downBy t c i = lerpOf (f32 (c i (t .i0))) (f32 (c i (t .i1))) (t .f)
-
--- a row of cells lerped across by a tap
-abbrev pub acrossBy : Tap → (ℕ → Float) → Float
-acrossBy t g = lerpOf (g (t .i0)) (g (t .i1)) (t .f)
 
 -- row y down, at cell i
 unfoldable pub linearDown : Layout → (ℕ → ℕ → ℕ) → ℕ → ℕ → Float

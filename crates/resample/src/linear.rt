@@ -5,11 +5,11 @@ ghost use lib.ListN.{length};
 ghost use Rattle.laws.specs.Refusals.{first};
 ghost use Rattle.image.specs.Samples.{Plane};
 ghost use Rattle.resample.specs.Linear.{linearTests, linearRow, linearPlane, linearScratch, LinearGiven, Ready};
-use super::rows::across_row;
-use super::rows::down_row;
-use super::rows::store_row;
+use super::store::store_row;
 use image::Layout;
 use laws::Answer;
+use linear_rows::across_row;
+use linear_rows::down_row;
 use taps::tap_at;
 
 // Inner: row y of a chroma plane, to scratch from dst on: the cells down into the column buffer behind the two finished rows, then across.

@@ -1,0 +1,2 @@
+-- A state through C and back is the state.
+pub mod RoundTrip

@@ -1,0 +1,2 @@
+-- Laws of rows over scratch.
+pub mod Across

@@ -1,0 +1,5 @@
+// The steps of a linear row over lent scratch: cells lerped down from a plane, and rows lerped across from cells.
+mod rows;
+
+pub use rows::across_row;
+pub use rows::down_row;
