@@ -136,7 +136,7 @@ impl Course {
     }
 
     fn open(&mut self, p: &Picture) {
-        let a = sources::reader::open(
+        let a = sources::opening::open(
             p.layout, &p.y.data, p.y.stride, &p.cb.data, p.cb.stride, &p.cr.data, p.cr.stride,
             &self.scratch, self.state,
         );

@@ -22,7 +22,7 @@ use Rattle.values.specs.declared.bands.Bands.{Bands}
 use Rattle.lerps.specs.Columns.{downColumn}
 use Rattle.extremes.specs.Extremes.{extremeRow}
 use Rattle.details.specs.Pixels.{detailLine}
-use Rattle.guided_rows.specs.Row.{downsOf, boundsOf, componentRow, guidedStep}
+use Rattle.guided_rows.specs.Row.{downsOf, boundsOf, componentRow, windowRow}
 use Rattle.values.specs.Values.{bandsOf, valueAt, valueRow}
 use Rattle.laws.proofs.Counts.{plus-none}
 
@@ -71,10 +71,10 @@ module _ (l : Layout) (ps : Planes) (y : ℕ) where
     front : s2 ≡ detailRow (pictureOf l ps) y (lumaColumn (pictureOf l ps) y s0)
     front = b ∙ detail-row-is s1 h ∙ ap (detailRow (pictureOf l ps) y) (a ∙ luma-is s0)
 
-    pub row-cb : s3 ≡ guidedStep (pictureOf l ps) (Cb ∷ []) y s0
+    pub row-cb : s3 ≡ windowRow (pictureOf l ps) (Cb ∷ []) y s0
     unfolding componentsOver
     row-cb = c ∙ component-is Cb s2 o h ∙ ap (λ (s : List Float). finishedRow (pictureOf l ps) Cb (componentColumns (pictureOf l ps) Cb y s)) front
 
-    pub row-both : (s4 : List Float) → s4 ≡ componentRow l (ps .cr) Cr y s3 → s4 ≡ guidedStep (pictureOf l ps) (Cb ∷ Cr ∷ []) y s0
+    pub row-both : (s4 : List Float) → s4 ≡ componentRow l (ps .cr) Cr y s3 → s4 ≡ windowRow (pictureOf l ps) (Cb ∷ Cr ∷ []) y s0
     unfolding componentsOver
     row-both s4 d = d ∙ component-is Cr s3 o h ∙ ap (λ (s : List Float). finishedRow (pictureOf l ps) Cr (componentColumns (pictureOf l ps) Cr y s)) row-cb

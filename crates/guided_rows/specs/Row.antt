@@ -24,5 +24,5 @@ unfoldable pub componentRow : Layout → Plane → Chroma → ℕ → List Float
 componentRow l p k y s = valueRow l k (boundsOf l p k (y / l .rv) (downsOf l k y s))
 
 -- picture row y of the components ks, from the window that scratch holds
-abbrev pub guidedStep : Picture → List Chroma → ℕ → List Float → List Float
-guidedStep p ks y s = componentsOver p y ks (detailRow p y (lumaColumn p y s))
+abbrev pub windowRow : Picture → List Chroma → ℕ → List Float → List Float
+windowRow p ks y s = componentsOver p y ks (detailRow p y (lumaColumn p y s))

@@ -7,7 +7,7 @@ ghost use Rattle.image.specs.Samples.{Plane};
 ghost use Rattle.image.specs.Picture.{Planes, pictureOf};
 ghost use Rattle.image.specs.Scratch.{scratchNeed};
 ghost use Rattle.places.specs.Lent.{chromaOf, ChromaCells, Lent, components};
-ghost use Rattle.guided_rows.specs.Row.{downsOf, boundsOf, componentRow, guidedStep};
+ghost use Rattle.guided_rows.specs.Row.{downsOf, boundsOf, componentRow, windowRow};
 use details::detail_row;
 use extremes::extreme_row;
 use image::Layout;
@@ -62,7 +62,7 @@ pub fn guided_row(
 )
     requires { ⌜ Lent layout (record { y = record { bytes = now y; stride = «y_stride» }; cb = record { bytes = now cb; stride = «cb_stride» }; cr = record { bytes = now cr; stride = «cr_stride» } }) both ⌝ }
     requires { ⌜ (row < layout .h) × (scratchNeed layout ≤ length (now s)) ⌝ }
-    ensures { λ _. ⌜ now (s .exit) ≡ guidedStep (pictureOf layout (record { y = record { bytes = now (y .entry); stride = «y_stride» }; cb = record { bytes = now (cb .entry); stride = «cb_stride» }; cr = record { bytes = now (cr .entry); stride = «cr_stride» } })) (components both) row (now (s .entry)) ⌝ }
+    ensures { λ _. ⌜ now (s .exit) ≡ windowRow (pictureOf layout (record { y = record { bytes = now (y .entry); stride = «y_stride» }; cb = record { bytes = now (cb .entry); stride = «cb_stride» }; cr = record { bytes = now (cr .entry); stride = «cr_stride» } })) (components both) row (now (s .entry)) ⌝ }
 {
     down_column(layout, 0, 0, row, s);
     detail_row(layout, y, y_stride, row, s);

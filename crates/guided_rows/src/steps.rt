@@ -9,6 +9,7 @@ ghost use Rattle.guided.specs.Calls.{doneF};
 ghost use Rattle.guided.specs.Scratch.{hsteps, fsteps, rowSteps};
 ghost use Rattle.places.specs.Lent.{Lent, components};
 ghost use Rattle.guided_rows.specs.Rows.{beforeH, beforeF, guidedStep};
+use super::row::guided_row;
 use image::Layout;
 use state::Counters;
 
@@ -131,7 +132,7 @@ pub fn row_steps(
         done.f_next,
         s,
     );
-    crate::row::guided_row(
+    guided_row(
         layout,
         y,
         y_stride,
