@@ -1,3 +1,4 @@
+use mathlib.Core.Path.{refl}
 use borrow.Author.Needs.{needs}
 use Rattle.image.specs.Tests.{badChroma}
 use Rattle.image.proofs.layout.Layout.bad_chroma.Statement.{statement}
@@ -14,7 +15,7 @@ either-requires c κs = search needs
 
 returns : tie.Need-returns
 unfolding badChroma
-returns c = cc
+returns c = rw (c .either .ensures, c .before .before .div-ceil2 .ensures, c .before .before .before .before .div-ceil .ensures) refl
 
 pub bad-chroma-spec : {M : Type 1} → statement M
 bad-chroma-spec =

@@ -1,3 +1,4 @@
+use mathlib.Core.Path.{refl}
 use borrow.Author.Needs.{needs}
 use Rattle.image.specs.Tests.{badRatio}
 use Rattle.image.proofs.layout.Layout.bad_ratio.Statement.{statement}
@@ -14,7 +15,7 @@ either-requires c κs = search needs
 
 returns : tie.Need-returns
 unfolding badRatio
-returns c = cc
+returns c = rw (c .either .ensures, c .before .outside2 .ensures, c .before .before .outside .ensures) refl
 
 pub bad-ratio-spec : {M : Type 1} → statement M
 bad-ratio-spec = tie.close (tie.spec outside-requires outside-requires-2 either-requires returns)

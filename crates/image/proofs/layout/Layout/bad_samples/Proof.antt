@@ -1,3 +1,4 @@
+use mathlib.Core.Path.{refl}
 use borrow.Author.Needs.{needs}
 use Rattle.image.specs.Tests.{badSamples}
 use Rattle.image.proofs.layout.Layout.bad_samples.Statement.{statement}
@@ -26,7 +27,7 @@ either-requires-2 c κs = search needs
 
 returns : tie.Need-returns
 unfolding badSamples
-returns c = cc
+returns c = rw (c .either2 .ensures, c .before .both .ensures, c .before .before .before .either .ensures, c .before .before .before .before .outside2 .ensures, c .before .before .before .before .before .before .most .ensures, c .before .before .before .before .before .before .before .outside .ensures) refl
 
 pub bad-samples-spec : {M : Type 1} → statement M
 bad-samples-spec =

@@ -1,3 +1,4 @@
+use mathlib.Core.Path.{refl}
 use borrow.Author.Needs.{needs}
 use Rattle.image.specs.Tests.{badSize}
 use Rattle.image.proofs.layout.Layout.bad_size.Statement.{statement}
@@ -14,7 +15,7 @@ either-requires c κs = search needs
 
 returns : tie.Need-returns
 unfolding badSize
-returns c = cc
+returns c = rw (c .either .ensures, c .before .outside2 .ensures, c .before .before .outside .ensures) refl
 
 pub bad-size-spec : {M : Type 1} → statement M
 bad-size-spec = tie.close (tie.spec outside-requires outside-requires-2 either-requires returns)
