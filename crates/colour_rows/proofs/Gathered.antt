@@ -1,13 +1,19 @@
 -- Sixteen numbers gathered one by one.
-use mathlib.Core.Path.{_≡_, _∙_}
+use mathlib.Core.Path.{_≡_, ap, _∙_}
 use mathlib.Core.Logic.{_⊎_, inl, inr}
 use mathlib.Core.List.{List}
-use Prim.Native.Nat.{ℕ, _+_, _≤_, _<_}
+use Prim.Native.Nat.{ℕ, _+_, _*_, _≤_, _<_}
 use native.Mathlib.Nat.{eq-or-lt-of-le, le-of-suc-le-suc}
 use native.Mathlib.Numerals.{add-one}
 use native.Mathlib.Omega.{arith}
 use lib.ListN.{length, getD, set, length-set}
 use lib.Seq.{getD-set-same, getD-set-other}
+use Rattle.image.specs.Samples.{Plane, sampleOf, sampleAt}
+
+-- a sample of one byte, by its column
+pub one-byte : (b : ℕ) (p : Plane) (x k row : ℕ) → b ≡ 1 → sampleOf 1 (p .bytes) (row * p .stride + x + k) ≡ sampleAt b p (x + k) row
+unfolding sampleAt
+one-byte b p x k row e = rw e (ap (sampleOf 1 (p .bytes)) (omega arith))
 
 -- the first n of sixteen are f's, none above `most`
 pub record Gathered (v : List ℕ) (n : ℕ) (f : ℕ → ℕ) (most : ℕ) : Type 0 where
