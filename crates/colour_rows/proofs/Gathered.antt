@@ -10,10 +10,15 @@ use lib.ListN.{length, getD, set, length-set}
 use lib.Seq.{getD-set-same, getD-set-other}
 use Rattle.image.specs.Samples.{Plane, sampleOf, sampleAt}
 
--- a sample of one byte, by its column
-pub one-byte : (b : ℕ) (p : Plane) (x k row : ℕ) → b ≡ 1 → sampleOf 1 (p .bytes) (row * p .stride + x + k) ≡ sampleAt b p (x + k) row
-unfolding sampleAt
-one-byte b p x k row e = rw e (ap (sampleOf 1 (p .bytes)) (omega arith))
+-- samples of one byte and of two, by their columns
+module _ (b : ℕ) (p : Plane) (x k row : ℕ) where
+  pub one-byte : b ≡ 1 → sampleOf 1 (p .bytes) (row * p .stride + x + k) ≡ sampleAt b p (x + k) row
+  unfolding sampleAt
+  one-byte e = rw e (ap (sampleOf 1 (p .bytes)) (omega arith))
+
+  pub two-bytes : b ≡ 2 → sampleOf 2 (p .bytes) (row * p .stride + x * 2 + k * 2) ≡ sampleAt b p (x + k) row
+  unfolding sampleAt
+  two-bytes e = rw e (ap (sampleOf 2 (p .bytes)) (omega arith))
 
 -- the first n of sixteen are f's, none above `most`
 pub record Gathered (v : List ℕ) (n : ℕ) (f : ℕ → ℕ) (most : ℕ) : Type 0 where

@@ -1,6 +1,6 @@
 // The samples of a row: luma from its plane, chroma from scratch, rounded; one by one and by sixteens.
 ghost use mathlib.Core.Path.{_≡_};
-ghost use Prim.Native.Nat.{_+_, _≤_, _<_};
+ghost use Prim.Native.Nat.{_+_, _*_, _≤_, _<_};
 ghost use lib.ListN.{length};
 ghost use Rattle.laws.specs.Floats.{f32, _⊗_};
 ghost use Rattle.image.specs.Samples.{sampleOf, sampleAt};
@@ -44,6 +44,18 @@ fn bytes16(plane: &[u8], at: usize) -> [u32; Block::LEN]
     v
 }
 
+// The same of two bytes each.
+fn pairs16(plane: &[u8], at: usize) -> [u32; Block::LEN]
+    requires { ⌜ at + 32 ≤ length (now plane) ⌝ }
+    ensures { λ r. ⌜ Sixteen r (λ k. sampleOf 2 (now (plane .entry)) (at + k * 2)) 65535 ⌝ }
+{
+    let mut v = [0u32; Block::LEN];
+    for k in 0..Block::LEN {
+        v[k] = wide(image::sample(plane, 2, at + k * 2));
+    }
+    v
+}
+
 // Inner: luma of the sixteen columns from x on.
 pub fn luma16(
     layout: Layout,
@@ -58,11 +70,7 @@ pub fn luma16(
     if layout.sample_bytes == 1 {
         return bytes16(plane, row * stride + x);
     }
-    let mut v = [0u32; Block::LEN];
-    for k in 0..Block::LEN {
-        v[k] = luma_at(layout, plane, stride, row, x + k);
-    }
-    v
+    pairs16(plane, row * stride + x * 2)
 }
 
 // Inner: chroma of the sixteen columns from x on, of the finished row at src, in 256ths.

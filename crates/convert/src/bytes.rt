@@ -10,15 +10,15 @@ pub struct Rgb {
     pub b: u8,
 }
 
-// z limited to 0..=255. Signed, so that sixteen of them compile to packs that limit.
+// z limited to 0..=255. Signed and with the upper limit first, so that sixteen of them compile to packs that limit.
 fn limit_byte(z: i32) -> u8
     ensures { λ r. ⌜ r ≡ limit 255 z ⌝ }
 {
-    if z < 0 {
-        return 0;
-    }
     if 255 < z {
         return 255;
+    }
+    if z < 0 {
+        return 0;
     }
     z as u8
 }

@@ -13,31 +13,31 @@ use Rattle.laws.specs.Differences.{limit}
 use Rattle.convert.proofs.bytes.limit_byte.Statement.{statement}
 use Rattle.convert.proofs.bytes.limit_byte.Tie as tie
 
-low : (z : ℤ) → ltZ z (pos 0) ≡ true → 0 ≡ limit 255 z
-unfolding limit
-low (pos n) e = let h = ltb-true n 0 e in absurd (omega arith)
-low (negsuc n) e = refl
-
 high : (z : ℤ) → ltZ (pos 255) z ≡ true → 255 ≡ limit 255 z
 unfolding limit
 high (pos n) e = let h = ltb-true 255 n e in omega arith
 high (negsuc n) e = absurd (subst T (sym e) tt)
 
--- between the limits the number itself, which a byte holds
-kept : (z : ℤ) → ltZ z (pos 0) ≡ false → ltZ (pos 255) z ≡ false → T (nonNeg z) × (natAbs z ≤ 255) × (natAbs z ≡ limit 255 z)
+low : (z : ℤ) → ltZ z (pos 0) ≡ true → 0 ≡ limit 255 z
 unfolding limit
-kept (pos n) e f = let h = ltb-false 255 n f in (tt, h, omega arith)
-kept (negsuc n) e f = absurd (subst T e tt)
+low (pos n) e = let h = ltb-true n 0 e in absurd (omega arith)
+low (negsuc n) e = refl
+
+-- between the limits the number itself, which a byte holds
+kept : (z : ℤ) → ltZ (pos 255) z ≡ false → ltZ z (pos 0) ≡ false → T (nonNeg z) × (natAbs z ≤ 255) × (natAbs z ≡ limit 255 z)
+unfolding limit
+kept (pos n) f e = let h = ltb-false 255 n f in (tt, h, omega arith)
+kept (negsuc n) f e = absurd (subst T e tt)
 
 -- what the machine reads back from the bits of z is z
 back : (c : tie.Start) → toZ w32 (ofZ w32 (c .args .z)) ≡ c .args .z
 back c = toZ-ofZ w32 (c .args .z) (c .fits .z)
 
 returns : tie.Need-returns
-returns c = low _ (subst (λ (v : ℤ). ltZ v (pos 0) ≡ true) (back (c .before)) (c .if1 .taken))
+returns c = high _ (subst (λ (v : ℤ). ltZ (pos 255) v ≡ true) (back (c .before)) (c .if1 .taken))
 
 returns-2 : tie.Need-returns-2
-returns-2 c = high _ (subst (λ (v : ℤ). ltZ (pos 255) v ≡ true) (back (c .before .before)) (c .if2 .taken))
+returns-2 c = low _ (subst (λ (v : ℤ). ltZ v (pos 0) ≡ true) (back (c .before .before)) (c .if2 .taken))
 
 -- past both tests
 passed : (c : tie.Else2) → (let z = toZ w32 (ofZ w32 (c .before .before .args .z)) in T (nonNeg z) × (natAbs z ≤ 255) × (natAbs z ≡ limit 255 z))
