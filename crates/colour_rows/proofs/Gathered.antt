@@ -1,13 +1,24 @@
 -- Sixteen numbers gathered one by one.
-use mathlib.Core.Path.{_≡_, _∙_}
+use mathlib.Core.Path.{_≡_, ap, _∙_}
 use mathlib.Core.Logic.{_⊎_, inl, inr}
 use mathlib.Core.List.{List}
-use Prim.Native.Nat.{ℕ, _+_, _≤_, _<_}
+use Prim.Native.Nat.{ℕ, _+_, _*_, _≤_, _<_}
 use native.Mathlib.Nat.{eq-or-lt-of-le, le-of-suc-le-suc}
 use native.Mathlib.Numerals.{add-one}
 use native.Mathlib.Omega.{arith}
 use lib.ListN.{length, getD, set, length-set}
 use lib.Seq.{getD-set-same, getD-set-other}
+use Rattle.image.specs.Samples.{Plane, sampleOf, sampleAt}
+
+-- samples of one byte and of two, by their columns
+module _ (b : ℕ) (p : Plane) (x k row : ℕ) where
+  pub one-byte : b ≡ 1 → sampleOf 1 (p .bytes) (row * p .stride + x + k) ≡ sampleAt b p (x + k) row
+  unfolding sampleAt
+  one-byte e = rw e (ap (sampleOf 1 (p .bytes)) (omega arith))
+
+  pub two-bytes : b ≡ 2 → sampleOf 2 (p .bytes) (row * p .stride + x * 2 + k * 2) ≡ sampleAt b p (x + k) row
+  unfolding sampleAt
+  two-bytes e = rw e (ap (sampleOf 2 (p .bytes)) (omega arith))
 
 -- the first n of sixteen are f's, none above `most`
 pub record Gathered (v : List ℕ) (n : ℕ) (f : ℕ → ℕ) (most : ℕ) : Type 0 where

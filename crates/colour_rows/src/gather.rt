@@ -1,9 +1,9 @@
 // The samples of a row: luma from its plane, chroma from scratch, rounded; one by one and by sixteens.
 ghost use mathlib.Core.Path.{_≡_};
-ghost use Prim.Native.Nat.{_+_, _≤_, _<_};
+ghost use Prim.Native.Nat.{_+_, _*_, _≤_, _<_};
 ghost use lib.ListN.{length};
 ghost use Rattle.laws.specs.Floats.{f32, _⊗_};
-ghost use Rattle.image.specs.Samples.{sampleAt};
+ghost use Rattle.image.specs.Samples.{sampleOf, sampleAt};
 ghost use Rattle.fround.specs.Rounding.{roundClamped, Rounded};
 ghost use Rattle.image.specs.Scratch.{cellAt};
 ghost use Rattle.colour_rows.specs.Lent.{LumaRow, Sixteen};
@@ -32,6 +32,30 @@ pub fn chroma_at(v: f32) -> u32
     fround::round_clamped_by_grid(v * 256.0, 65_536)
 }
 
+// The sixteen one-byte samples from `at` on. The size is a constant in the loop, so that they compile to loads of many.
+fn bytes16(plane: &[u8], at: usize) -> [u32; Block::LEN]
+    requires { ⌜ at + 16 ≤ length (now plane) ⌝ }
+    ensures { λ r. ⌜ Sixteen r (λ k. sampleOf 1 (now (plane .entry)) (at + k)) 65535 ⌝ }
+{
+    let mut v = [0u32; Block::LEN];
+    for k in 0..Block::LEN {
+        v[k] = wide(image::sample(plane, 1, at + k));
+    }
+    v
+}
+
+// The same of two bytes each.
+fn pairs16(plane: &[u8], at: usize) -> [u32; Block::LEN]
+    requires { ⌜ at + 32 ≤ length (now plane) ⌝ }
+    ensures { λ r. ⌜ Sixteen r (λ k. sampleOf 2 (now (plane .entry)) (at + k * 2)) 65535 ⌝ }
+{
+    let mut v = [0u32; Block::LEN];
+    for k in 0..Block::LEN {
+        v[k] = wide(image::sample(plane, 2, at + k * 2));
+    }
+    v
+}
+
 // Inner: luma of the sixteen columns from x on.
 pub fn luma16(
     layout: Layout,
@@ -43,11 +67,10 @@ pub fn luma16(
     requires { ⌜ LumaRow layout (record { bytes = now plane; stride = stride }) row × (x + 16 ≤ layout .w) ⌝ }
     ensures { λ r. ⌜ Sixteen r (λ k. sampleAt (layout .«sample_bytes») (record { bytes = now (plane .entry); stride = stride }) (x + k) row) 65535 ⌝ }
 {
-    let mut v = [0u32; Block::LEN];
-    for k in 0..Block::LEN {
-        v[k] = luma_at(layout, plane, stride, row, x + k);
+    if layout.sample_bytes == 1 {
+        return bytes16(plane, row * stride + x);
     }
-    v
+    pairs16(plane, row * stride + x * 2)
 }
 
 // Inner: chroma of the sixteen columns from x on, of the finished row at src, in 256ths.

@@ -1,5 +1,6 @@
 -- What the inner forms give, red and blue as one over their multiplier. Definitions only.
 use mathlib.Core.Path.{_≡_}
+use mathlib.Core.Logic.{_≢_}
 use mathlib.Core.List.{List}
 use Prim.Native.Nat.{ℕ, _+_, _-_, _*_, _<_, _≤_}
 use lib.ListN.{getD}
@@ -29,6 +30,8 @@ pub record Biased (z : ℤ) (bias r : ℕ) : Type 0 where
 
 -- a multiplier and a bias that suit each other, with numbers of 32 bits: 1402 and 180, 1772 and 227
 pub record Suits (k bias : ℕ) : Type 0 where
+  pub red : k ≡ 1402 → bias ≡ 180
+  pub blue : k ≢ 1402 → (k ≡ 1772) × (bias ≡ 227)
   pub multiplier : k ≤ 1772
   pub bias-most : bias ≤ 227
   pub enough : 32768 * k < 256000 * bias + 128000

@@ -1,56 +1,66 @@
-use mathlib.Core.Path.{refl}
-use Prim.Native.Nat.{_+_, _-_, _≤_}
+use mathlib.Core.Path.{_≡_, _∙_}
+use mathlib.Core.Logic.{_≢_}
+use Prim.Native.Nat.{ℕ, _+_, _*_, _≤_}
 use native.Mathlib.Omega.{arith}
-use Rattle.image.specs.Samples.{sampleAt}
-use Rattle.colour_rows.proofs.Gathered.{Gathered, gathered-none, gathered-more}
+use lib.ListN.{length}
+use Rattle.image.specs.Samples.{Plane}
+use Rattle.image.proofs.Planes.{short-holds, row-inside}
+use Rattle.colour_rows.proofs.Gathered.{one-byte, two-bytes}
 use Rattle.colour_rows.proofs.gather.luma16.Statement.{statement}
 use Rattle.colour_rows.proofs.gather.luma16.Tie as tie
 
-abbrev Inv-loop : tie.InvT-loop
-Inv-loop layout plane stride row x v₀ k₀ v k = (k ≤ 16) × Gathered v k (λ m. sampleAt (layout .«sample_bytes») (record { bytes = plane; stride = stride }) (x + m) row) 65535
+abbrev planeOf : tie.Start → Plane
+planeOf s = record { bytes = s .args .plane .now; stride = s .args .stride }
 
-abbrev μ-loop : tie.MeasureT-loop
-μ-loop layout plane stride row x v₀ k₀ v k = 16 - k
+-- the row's samples, n bytes each, lie within the plane
+inside : (s : tie.Start) (n : ℕ) → s .args .layout .«sample_bytes» ≡ n → s .args .row * s .args .stride + s .args .layout .w * n ≤ length (s .args .plane .now)
+inside s n e = let l = s .args .layout in rw e at (row-inside (short-holds l (l .w) (l .h) (planeOf s) (s .pre .0 .plane)) (s .args .row) (s .pre .0 .inside))
 
-loop-holds : tie.Need-loop-holds Inv-loop μ-loop
-loop-holds c = (omega arith, gathered-none _ _ _ refl)
+-- samples that are not of one byte are of two
+two : (s : tie.Start) → s .args .layout .«sample_bytes» ≢ 1 → s .args .layout .«sample_bytes» ≡ 2
+two s n = let h = s .pre .0 .sound in let a = h .bytes-some in let b = h .bytes-most in omega arith
 
-add-luma-at : tie.Need-add-luma-at Inv-loop μ-loop
-add-luma-at c = omega arith
+mul-bytes16 : tie.Need-mul-bytes16
+mul-bytes16 c = let h = inside (c .before .before .before) 1 (c .if1 .taken) in omega arith
 
-luma-at-requires : tie.Need-luma-at-requires Inv-loop μ-loop
-luma-at-requires c κs = (c .before .before .before .pre .0, omega arith)
+add-bytes16 : tie.Need-add-bytes16
+add-bytes16 c = let h = inside (c .before .before .before) 1 (c .if1 .taken) in omega arith
 
-mul-v : tie.Need-mul-v Inv-loop μ-loop
-mul-v c = omega arith
+bytes16-requires : tie.Need-bytes16-requires
+bytes16-requires c κs = let h = inside (c .before .before .before) 1 (c .if1 .taken) in omega arith
 
-array-write-v : tie.Need-array-write-v Inv-loop μ-loop
-array-write-v c = omega arith
+returns : tie.Need-returns
+returns c =
+    let s = c .before .before .before .before in
+    λ k h. (c .bytes16 .ensures k h .0 ∙ one-byte _ (planeOf s) (s .args .x) k (s .args .row) (c .before .if1 .taken), c .bytes16 .ensures k h .1)
 
-add-k : tie.Need-add-k Inv-loop μ-loop
-add-k c = omega arith
+mul-pairs16 : tie.Need-mul-pairs16
+mul-pairs16 c = let h = inside (c .before .before .before) 2 (two (c .before .before .before) (c .if1 .left)) in omega arith
 
-loop-less : tie.Need-loop-less Inv-loop μ-loop
-loop-less c = omega arith
+mul-pairs16-2 : tie.Need-mul-pairs16-2
+mul-pairs16-2 c = let h = inside (c .before .before .before) 2 (two (c .before .before .before) (c .if1 .left)) in omega arith
 
-loop-again : tie.Need-loop-again Inv-loop μ-loop
-loop-again c = (omega arith, gathered-more (c .before .before .loop .inv .1) (omega arith) _ (c .luma-at .ensures .0) (c .luma-at .ensures .1))
+add-pairs16 : tie.Need-add-pairs16
+add-pairs16 c = let h = inside (c .before .before .before) 2 (two (c .before .before .before) (c .if1 .left)) in omega arith
 
-returns : tie.Need-returns Inv-loop μ-loop
-returns c = λ k h. c .before .loop .inv .1 .reads k (omega arith)
+pairs16-requires : tie.Need-pairs16-requires
+pairs16-requires c κs = let h = inside (c .before .before .before) 2 (two (c .before .before .before) (c .if1 .left)) in omega arith
+
+returns-2 : tie.Need-returns-2
+returns-2 c =
+    let s = c .before .before .before .before in
+    λ k h. (c .pairs16 .ensures k h .0 ∙ two-bytes _ (planeOf s) (s .args .x) k (s .args .row) (two s (c .before .if1 .left)), c .pairs16 .ensures k h .1)
 
 pub luma16-spec : {M : Type 1} → statement M
 luma16-spec =
     tie.close
     (tie.spec
-    Inv-loop
-    μ-loop
-    loop-holds
-    add-luma-at
-    luma-at-requires
-    mul-v
-    array-write-v
-    add-k
-    loop-less
-    loop-again
-    returns)
+    mul-bytes16
+    add-bytes16
+    bytes16-requires
+    returns
+    mul-pairs16
+    mul-pairs16-2
+    add-pairs16
+    pairs16-requires
+    returns-2)

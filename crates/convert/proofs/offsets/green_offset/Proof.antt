@@ -1,70 +1,36 @@
-use native.Mathlib.Omega.{arith}
 use borrow.Author.Needs.{needs}
-use Rattle.convert.proofs.Channels.{green-biased}
+use Rattle.convert.proofs.Channels.{green-biased, green-fast}
 use Rattle.convert.proofs.offsets.green_offset.Statement.{statement}
 use Rattle.convert.proofs.offsets.green_offset.Tie as tie
 
-mul-u : tie.Need-mul-u
-mul-u c = search needs
+add-both : tie.Need-add-both
+add-both c = search needs
 
-mul-u-2 : tie.Need-mul-u-2
-mul-u-2 c = search needs
+cast-both : tie.Need-cast-both
+cast-both c = search needs
 
-add-u : tie.Need-add-u
-add-u c = search needs
+mul-n : tie.Need-mul-n
+mul-n c = search needs
 
-add-u-2 : tie.Need-add-u-2
-add-u-2 c = search needs
+mul-n-2 : tie.Need-mul-n-2
+mul-n-2 c = search needs
 
-add-u-3 : tie.Need-add-u-3
-add-u-3 c = search needs
+add-n : tie.Need-add-n
+add-n c = search needs
 
-mul-u-3 : tie.Need-mul-u-3
-mul-u-3 c = search needs
+add-n-2 : tie.Need-add-n-2
+add-n-2 c = search needs
 
-sub-u : tie.Need-sub-u
-sub-u c = search needs
+cast-result : tie.Need-cast-result
+cast-result c = search needs
 
-mul-u-4 : tie.Need-mul-u-4
-mul-u-4 c = search needs
-
-sub-u-2 : tie.Need-sub-u-2
-sub-u-2 c = search needs
-
-mul-e : tie.Need-mul-e
-mul-e c = search needs
-
-mul-rest : tie.Need-mul-rest
-mul-rest c = search needs
-
-sub-rest : tie.Need-sub-rest
-sub-rest c = search needs
-
-add-result : tie.Need-add-result
-add-result c = search needs
+sub-result : tie.Need-sub-result
+sub-result c = search needs
 
 returns : tie.Need-returns
-returns c = green-biased _ _ _ (omega arith) (omega arith) (omega arith)
-
-returns-2 : tie.Need-returns-2
-returns-2 c = green-biased _ _ _ (omega arith) (omega arith) (omega arith)
+returns c = let p = c .pre in green-biased _ _ _ (p .0) (p .1) (green-fast _ _ (p .0) (p .1))
 
 pub green-offset-spec : {M : Type 1} → statement M
 green-offset-spec =
     tie.close
-    (tie.spec
-    mul-u
-    mul-u-2
-    add-u
-    add-u-2
-    add-u-3
-    mul-u-3
-    sub-u
-    mul-u-4
-    sub-u-2
-    mul-e
-    mul-rest
-    sub-rest
-    add-result
-    returns
-    returns-2)
+    (tie.spec add-both cast-both mul-n mul-n-2 add-n add-n-2 cast-result sub-result returns)
