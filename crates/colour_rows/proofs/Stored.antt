@@ -5,8 +5,8 @@ use Prim.Native.Nat.{ℕ, _+_, _*_, _≤_, _<_}
 use native.Mathlib.Omega.{arith}
 use lib.ListN.{length}
 use Rattle.convert.specs.Kernels.{Colour}
-use Rattle.convert.specs.Stores.{pixel, pixels}
-use Rattle.convert.proofs.Puts.{length-pixel, length-pixels, pixels-none, pixels-more, pixels-add}
+use Rattle.blocks.specs.Stores.{pixel, pixels}
+use Rattle.blocks.proofs.Puts.{length-pixel, length-pixels, pixels-none, pixels-more, pixels-add}
 
 -- ys is xs after the first n pixels of f were stored from `at` on
 pub record Stored (xs ys : List ℕ) (at size n : ℕ) (f : ℕ → Colour) : Type 0 where

@@ -3,7 +3,7 @@ ghost use mathlib.Core.Path.{_≡_};
 ghost use Prim.Native.Nat.{ℕ, _+_, _*_, _≤_, _<_};
 ghost use lib.ListN.{length};
 ghost use Rattle.convert.specs.Forms.{colourOf};
-ghost use Rattle.convert.specs.Stores.{pixels, blockPixel};
+ghost use Rattle.blocks.specs.Stores.{pixels, blockPixel};
 ghost use Rattle.colour_rows.specs.Colours.{rowColour, colourRow};
 ghost use Rattle.colour_rows.specs.Lent.{RowLent};
 ghost use Rattle.colour_rows.specs.declared.YcbcrKernel.the-variants.{Exact};
@@ -11,7 +11,7 @@ use super::gather::chroma_at;
 use super::gather::chroma16;
 use super::gather::luma_at;
 use super::gather::luma16;
-use convert::Block;
+use blocks::Block;
 use convert::Rgb;
 use image::Layout;
 
@@ -31,7 +31,7 @@ fn block_at(
     let y = luma16(layout, plane, stride, row, x);
     let cb = chroma16(s, 0, x);
     let cr = chroma16(s, layout.w, x);
-    convert::rgb_block(y, cb, cr)
+    blocks::rgb_block(y, cb, cr)
 }
 
 // The first m blocks of a row, three bytes a pixel. The size is a constant in the loop, so that the stores of a block are plain ones.
@@ -53,7 +53,7 @@ fn blocks3(
     while b < m {
         let x = Block::LEN * b;
         let rows = block_at(layout, plane, stride, row, s, x);
-        convert::put_block(out, at + x * 3, 3, rows);
+        blocks::put_block(out, at + x * 3, 3, rows);
         b += 1;
     }
 }
@@ -77,7 +77,7 @@ fn blocks4(
     while b < m {
         let x = Block::LEN * b;
         let rows = block_at(layout, plane, stride, row, s, x);
-        convert::put_block(out, at + x * 4, 4, rows);
+        blocks::put_block(out, at + x * 4, 4, rows);
         b += 1;
     }
 }
@@ -137,7 +137,7 @@ fn plain_run(
     let mut i = 0;
     while i < n {
         let p = plain_pixel(layout, plane, stride, row, s, from + i);
-        convert::put_pixel(out, at + i * size, p.r, p.g, p.b);
+        blocks::put_pixel(out, at + i * size, p.r, p.g, p.b);
         i += 1;
     }
 }

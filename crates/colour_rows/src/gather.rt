@@ -7,7 +7,7 @@ ghost use Rattle.image.specs.Samples.{sampleOf, sampleAt};
 ghost use Rattle.fround.specs.Rounding.{roundClamped, Rounded};
 ghost use Rattle.image.specs.Scratch.{cellAt};
 ghost use Rattle.colour_rows.specs.Lent.{LumaRow, Sixteen};
-use convert::Block;
+use blocks::Block;
 use image::Layout;
 
 fn wide(x: u16) -> u32

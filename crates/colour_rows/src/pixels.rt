@@ -51,7 +51,7 @@ pub fn scaled_row(
     let mut x = 0;
     while x < w {
         let p = scaled_pixel(layout, plane, stride, row, s, x);
-        convert::put_pixel(out, at + x * size, p.r, p.g, p.b);
+        blocks::put_pixel(out, at + x * size, p.r, p.g, p.b);
         x += 1;
     }
 }
@@ -87,7 +87,7 @@ pub fn fixed_row(
     let mut x = 0;
     while x < w {
         let p = fixed_pixel(layout, plane, stride, row, s, x);
-        convert::put_pixel(out, at + x * size, p.r, p.g, p.b);
+        blocks::put_pixel(out, at + x * size, p.r, p.g, p.b);
         x += 1;
     }
 }

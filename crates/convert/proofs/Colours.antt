@@ -10,10 +10,9 @@ use Rattle.laws.specs.Refusals.{Test, first}
 use Rattle.laws.proofs.Refusals.{Failed, accepted-failed}
 use Rattle.image.specs.Tests.{outsideOf}
 use Rattle.image.proofs.Layouts.{neither}
-use Rattle.convert.specs.Kernels.{redOffset, blueOffset, exact255, exactAt, fixedRed, fixedBlue, fixed255}
+use Rattle.convert.specs.Kernels.{redOffset, blueOffset, exact255, exactAt, fixedRed, fixedBlue, fixed255, rgb}
 use Rattle.convert.specs.Pixels.{exactTests, fixedTests}
 use Rattle.convert.specs.Forms.{Suits, chromaOffset, plusChroma, chromaAt, fixedOffset, plusFixed}
-use Rattle.convert.specs.Stores.{rgb}
 use Rattle.convert.proofs.Channels.{centred-limited, red-suits, blue-suits, plus-chroma, green-255, chroma-at, green-at}
 
 module _ (y cb cr : ℕ) {r g b : ℕ} where

@@ -1,8 +1,6 @@
--- Laws of the kernels and of stored pixels, which callers cite, and worked cases.
+-- Laws of the kernels, which callers cite, and worked cases.
 pub mod T871
 pub mod Channels
 pub mod FixedPoint
 pub mod Colours
-pub mod Blocks
-pub mod Puts
 pub mod Cases

@@ -40,10 +40,6 @@ pub record Suits (k bias : ℕ) : Type 0 where
 abbrev pub raised : ℕ → ℕ → ℕ → ℕ
 raised k bias c256 = k * c256 + (256000 * bias + 128000 - 32768 * k)
 
--- the samples of a block within the limits that rounding puts on them
-abbrev pub InLimits : List ℕ → List ℕ → List ℕ → Type 0
-InLimits y cb256 cr256 = (k : ℕ) → k < 16 → (getD y k 0 ≤ 65535) × (getD cb256 k 0 ≤ 65536) × (getD cr256 k 0 ≤ 65536)
-
 -- ---- exact kernel, other maxval d: red or blue of a pixel
 
 unfoldable pub chromaAt : ℕ → ℕ → ℕ → ℕ → ℕ

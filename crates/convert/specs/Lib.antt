@@ -2,4 +2,3 @@ pub mod T871
 pub mod Kernels
 pub mod Pixels
 pub mod Forms
-pub mod Stores

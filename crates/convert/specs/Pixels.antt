@@ -1,10 +1,8 @@
--- What the single-pixel calls answer, and the block of sixteen. Definitions only.
-use mathlib.Core.Path.{_≡_}
+-- What the single-pixel calls answer. Definitions only.
 use mathlib.Core.Bool.{Bool, true, false, _||_}
 use mathlib.Core.List.{List, [], _∷_}
-use Prim.Native.Nat.{ℕ, _<_}
+use Prim.Native.Nat.{ℕ}
 use lib.Dec.{ltb, eqb}
-use lib.ListN.{getD}
 use Rattle.laws.specs.declared.Answer.{Answer}
 use Rattle.laws.specs.declared.Answer.the-variants.{Accepted, Refused}
 use Rattle.laws.specs.Refusals.{Test, first}
@@ -38,15 +36,3 @@ exactPixel d y cb256 cr256 = pixelOf (first (exactTests d y cb256 cr256)) (exact
 
 unfoldable pub fixedPixel : ℕ → ℕ → ℕ → Pixel
 fixedPixel y cb cr = pixelOf (first (fixedTests y cb cr)) (fixed255 y cb cr)
-
--- ---- "blocks of sixteen pixels, three colour rows each"
-
--- entry k of row n
-abbrev pub entry : List (List ℕ) → ℕ → ℕ → ℕ
-entry rows n k = getD (getD rows n []) k 0
-
--- row 0 is red, row 1 green, row 2 blue, of the exact kernel at each pixel
-pub record BlockOf (rows : List (List ℕ)) (y cb256 cr256 : List ℕ) : Type 0 where
-  pub red : (k : ℕ) → k < 16 → entry rows 0 k ≡ exact255 (getD y k 0) (getD cb256 k 0) (getD cr256 k 0) .red
-  pub green : (k : ℕ) → k < 16 → entry rows 1 k ≡ exact255 (getD y k 0) (getD cb256 k 0) (getD cr256 k 0) .green
-  pub blue : (k : ℕ) → k < 16 → entry rows 2 k ≡ exact255 (getD y k 0) (getD cb256 k 0) (getD cr256 k 0) .blue

@@ -1,18 +1,15 @@
-// The colour of one pixel, and of a block of sixteen: the kernels of the original's src/convert.rs.
+// The colour of one pixel: the kernels of the original's src/convert.rs.
 ghost use mathlib.Core.Path.{_≡_};
 ghost use mathlib.Core.List.{[], _∷_};
 ghost use Rattle.convert.specs.Pixels.{exactPixel, fixedPixel, exactTests, fixedTests};
 
-mod block;
 mod bytes;
 mod exact;
 mod fixed;
 mod offsets;
-mod store;
 
-pub use block::Block;
-pub use block::rgb_block;
 pub use bytes::Rgb;
+pub use bytes::limit8;
 pub use exact::ycbcr_frac_to_rgb8_8bit;
 pub use exact::ycbcr_frac_to_rgb8_at;
 pub use fixed::ycbcr_to_rgb8_fixed;
@@ -20,10 +17,6 @@ use image::either;
 use image::outside;
 pub use offsets::Bias;
 pub use offsets::Multiplier;
-pub use offsets::chroma_offset;
-pub use offsets::green_offset;
-pub use store::put_block;
-pub use store::put_pixel;
 
 // A colour, or the number of a refusal.
 pub enum Pixel {

@@ -14,8 +14,8 @@ use Rattle.laws.proofs.Refusals.{accepted-is}
 use Rattle.laws.proofs.Rows.{row-fits}
 use Rattle.image.specs.Picture.{pictureOf}
 use Rattle.convert.specs.Kernels.{Colour}
-use Rattle.convert.specs.Stores.{channel}
-use Rattle.convert.proofs.Puts.{length-pixels, pixels-other, before, after, pixels-channel}
+use Rattle.blocks.specs.Stores.{channel}
+use Rattle.blocks.proofs.Puts.{length-pixels, pixels-other, before, after, pixels-channel}
 use Rattle.fill.specs.Fill.{FillCall, FillGiven, fillColour, pixelRows}
 use Rattle.fill.specs.Steps.{FillLent}
 use Rattle.fill.proofs.Acceptance.{ready}

@@ -16,8 +16,8 @@ use Rattle.image.proofs.Pictures.{inside-is}
 use Rattle.image.specs.Scratch.{scratchNeed}
 use Rattle.guided.specs.Scratch.{finishedAt}
 use Rattle.convert.specs.Kernels.{Colour}
-use Rattle.convert.specs.Stores.{pixels}
-use Rattle.convert.proofs.Puts.{length-pixels, pixels-same}
+use Rattle.blocks.specs.Stores.{pixels}
+use Rattle.blocks.proofs.Puts.{length-pixels, pixels-same}
 use Rattle.colour_rows.specs.declared.YcbcrKernel.{YcbcrKernel}
 use Rattle.colour_rows.specs.Colours.{rowColour, colourRow}
 use Rattle.fill.specs.declared.ChromaUpsampling.{ChromaUpsampling}

@@ -16,7 +16,7 @@ use Rattle.image.specs.Scratch.{scratchNeed}
 use Rattle.guidance.specs.Guided.{guidedSample}
 use Rattle.guided_rows.specs.Rows.{guidedRows}
 use Rattle.convert.specs.Kernels.{Colour}
-use Rattle.convert.specs.Stores.{pixels}
+use Rattle.blocks.specs.Stores.{pixels}
 use Rattle.colour_rows.specs.declared.YcbcrKernel.{YcbcrKernel}
 use Rattle.colour_rows.specs.declared.YcbcrKernel.the-variants.{Exact, FixedPoint16}
 use Rattle.colour_rows.specs.Colours.{colourBy}

@@ -1,7 +1,7 @@
 use mathlib.Core.Path.{_∙_}
 use Prim.Native.Nat.{_+_}
 use borrow.Author.Needs.{needs}
-use Rattle.convert.proofs.Blocks.{block-pixel}
+use Rattle.blocks.proofs.Blocks.{block-pixel}
 use Rattle.colour_rows.proofs.Colouring.{exact-pixel}
 use Rattle.colour_rows.proofs.exact.block_at.Statement.{statement}
 use Rattle.colour_rows.proofs.exact.block_at.Tie as tie

@@ -2,7 +2,7 @@ use mathlib.Core.Path.{_≡_, ap, _∙_}
 use Prim.Native.Nat.{ℕ, _*_}
 use native.Mathlib.Omega.{arith}
 use borrow.Author.Needs.{needs}
-use Rattle.convert.specs.Stores.{pixels}
+use Rattle.blocks.specs.Stores.{pixels}
 use Rattle.colour_rows.specs.Colours.{rowColour}
 use Rattle.colour_rows.specs.declared.YcbcrKernel.the-variants.{Exact}
 use Rattle.colour_rows.proofs.exact.blocks.Statement.{statement}

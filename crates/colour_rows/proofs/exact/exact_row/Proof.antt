@@ -4,8 +4,8 @@ use Prim.Native.Nat.{_/_, ℕ, _+_, _-_, _*_, _≤_}
 use native.Mathlib.Omega.{arith}
 use lib.ListN.{length}
 use borrow.Author.Needs.{needs}
-use Rattle.convert.proofs.Puts.{length-pixels, pixels-add}
-use Rattle.convert.specs.Stores.{pixels}
+use Rattle.blocks.proofs.Puts.{length-pixels, pixels-add}
+use Rattle.blocks.specs.Stores.{pixels}
 use Rattle.colour_rows.specs.Colours.{rowColour, colourRow}
 use Rattle.colour_rows.specs.declared.YcbcrKernel.the-variants.{Exact}
 use Rattle.colour_rows.proofs.exact.exact_row.Statement.{statement}

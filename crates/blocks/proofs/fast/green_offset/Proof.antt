@@ -1,7 +1,8 @@
 use borrow.Author.Needs.{needs}
-use Rattle.convert.proofs.Channels.{green-biased, green-fast}
-use Rattle.convert.proofs.offsets.green_offset.Statement.{statement}
-use Rattle.convert.proofs.offsets.green_offset.Tie as tie
+use Rattle.convert.proofs.Channels.{green-biased}
+use Rattle.blocks.proofs.Offsets.{green-fast}
+use Rattle.blocks.proofs.fast.green_offset.Statement.{statement}
+use Rattle.blocks.proofs.fast.green_offset.Tie as tie
 
 add-both : tie.Need-add-both
 add-both c = search needs

@@ -5,12 +5,12 @@ use Prim.Native.Nat.{ℕ, _+_, _<_, _≤_}
 use native.Mathlib.Nat.{zero-add}
 use lib.ListN.{length, getD, set}
 use Rattle.laws.proofs.Lists.{Run, run-more, run-inside}
 use Rattle.convert.specs.declared.bytes.Rgb.{Rgb}
 use Rattle.convert.specs.Kernels.{exact255}
-use Rattle.convert.specs.Pixels.{BlockOf}
+use Rattle.blocks.specs.Blocks.{BlockOf}
 use Rattle.convert.specs.Forms.{colourOf}
-use Rattle.convert.specs.Stores.{pixels, blockPixel}
-use Rattle.convert.proofs.Puts.{pixels-same}
+use Rattle.blocks.specs.Stores.{pixels, blockPixel}
+use Rattle.blocks.proofs.Puts.{pixels-same}
 
 module _ {xs ys : List ℕ} {n : ℕ} {f : ℕ → ℕ} (r : Run xs ys 0 n f) where
   -- one store more

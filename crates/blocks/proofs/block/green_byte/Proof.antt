@@ -1,9 +1,9 @@
 use mathlib.Core.Path.{sym, _∙_}
 use borrow.Author.Needs.{needs}
 use Rattle.convert.specs.Kernels.{exact255}
 use Rattle.convert.proofs.Channels.{add-limited}
-use Rattle.convert.proofs.block.green_byte.Statement.{statement}
-use Rattle.convert.proofs.block.green_byte.Tie as tie
+use Rattle.blocks.proofs.block.green_byte.Statement.{statement}
+use Rattle.blocks.proofs.block.green_byte.Tie as tie
 
 green-offset-requires : tie.Need-green-offset-requires
 green-offset-requires c κs = search needs

@@ -2,10 +2,10 @@ use Prim.Native.Nat.{_-_, _≤_}
 use native.Mathlib.Omega.{arith}
 use lib.ListN.{getD}
 use Rattle.laws.proofs.Lists.{Run, run-none}
 use Rattle.convert.specs.Forms.{plusChroma}
-use Rattle.convert.proofs.Blocks.{front-more, front-at}
-use Rattle.convert.proofs.block.chroma_row.Statement.{statement}
-use Rattle.convert.proofs.block.chroma_row.Tie as tie
+use Rattle.blocks.proofs.Blocks.{front-more, front-at}
+use Rattle.blocks.proofs.block.chroma_row.Statement.{statement}
+use Rattle.blocks.proofs.block.chroma_row.Tie as tie
 
 abbrev Inv-loop : tie.InvT-loop
 Inv-loop k bias y c row₀ i₀ row i = (i ≤ 16) × Run row₀ row 0 i (λ j. plusChroma k (getD y j 0) (getD c j 0))

@@ -2,14 +2,14 @@
 ghost use mathlib.Core.Path.{_≡_};
 ghost use Prim.Native.Nat.{ℕ, _<_, _≤_};
 ghost use lib.ListN.{getD};
 ghost use Rattle.convert.specs.Kernels.{exact255};
-ghost use Rattle.convert.specs.Pixels.{BlockOf};
-ghost use Rattle.convert.specs.Forms.{Suits, plusChroma, InLimits};
-use crate::bytes::limit8;
-use crate::offsets::Bias;
-use crate::offsets::Multiplier;
-use crate::offsets::chroma_offset;
-use crate::offsets::green_offset;
+ghost use Rattle.blocks.specs.Blocks.{BlockOf, InLimits};
+ghost use Rattle.convert.specs.Forms.{Suits, plusChroma};
+use crate::fast::chroma_offset;
+use crate::fast::green_offset;
+use convert::Bias;
+use convert::Multiplier;
+use convert::limit8;
 
 // A block of pixels.
 pub struct Block;

@@ -1,9 +1,9 @@
 use mathlib.Core.Path.{sym, _∙_}
 use borrow.Author.Needs.{needs}
 use Rattle.convert.specs.Forms.{plusChroma}
 use Rattle.convert.proofs.Channels.{add-limited}
-use Rattle.convert.proofs.block.chroma_byte.Statement.{statement}
-use Rattle.convert.proofs.block.chroma_byte.Tie as tie
+use Rattle.blocks.proofs.block.chroma_byte.Statement.{statement}
+use Rattle.blocks.proofs.block.chroma_byte.Tie as tie
 
 chroma-offset-requires : tie.Need-chroma-offset-requires
 chroma-offset-requires c κs = search needs

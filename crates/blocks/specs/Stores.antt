@@ -2,11 +2,8 @@
 use mathlib.Core.List.{List}
 use Prim.Native.Nat.{ℕ, zero, suc, _+_, _*_}
 use lib.ListN.{set}
-use Rattle.convert.specs.Kernels.{Colour}
-use Rattle.convert.specs.Pixels.{entry}
-
-abbrev pub rgb : ℕ → ℕ → ℕ → Colour
-rgb r g b = record { red = r; green = g; blue = b }
+use Rattle.convert.specs.Kernels.{Colour, rgb}
+use Rattle.blocks.specs.Blocks.{entry}
 
 -- l after a pixel was stored from `at` on
 unfoldable pub pixel : List ℕ → ℕ → Colour → List ℕ

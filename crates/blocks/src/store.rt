@@ -2,7 +2,8 @@
 ghost use mathlib.Core.Path.{_≡_};
 ghost use Prim.Native.Nat.{_+_, _*_, _≤_};
 ghost use lib.ListN.{length};
-ghost use Rattle.convert.specs.Stores.{rgb, pixel, pixels, blockPixel};
+ghost use Rattle.blocks.specs.Stores.{pixel, pixels, blockPixel};
+ghost use Rattle.convert.specs.Kernels.{rgb};
 use crate::block::Block;
 
 // Inner: the colour bytes of the pixel that starts at `at`.

@@ -2,10 +2,10 @@ use Prim.Native.Nat.{_-_, _≤_}
 use native.Mathlib.Omega.{arith}
 use lib.ListN.{getD}
 use Rattle.laws.proofs.Lists.{Run, run-none}
 use Rattle.convert.specs.Kernels.{exact255}
-use Rattle.convert.proofs.Blocks.{front-more, front-at}
-use Rattle.convert.proofs.block.green_row.Statement.{statement}
-use Rattle.convert.proofs.block.green_row.Tie as tie
+use Rattle.blocks.proofs.Blocks.{front-more, front-at}
+use Rattle.blocks.proofs.block.green_row.Statement.{statement}
+use Rattle.blocks.proofs.block.green_row.Tie as tie
 
 abbrev Inv-loop : tie.InvT-loop
 Inv-loop y cb cr row₀ i₀ row i = (i ≤ 16) × Run row₀ row 0 i (λ j. exact255 (getD y j 0) (getD cb j 0) (getD cr j 0) .green)

@@ -1,8 +1,8 @@
 use borrow.Author.Needs.{needs}
 use Rattle.convert.specs.Kernels.{redOffset, blueOffset, exact255}
 use Rattle.convert.specs.Forms.{chromaOffset, plusChroma}
-use Rattle.convert.proofs.block.rgb_block.Statement.{statement}
-use Rattle.convert.proofs.block.rgb_block.Tie as tie
+use Rattle.blocks.proofs.block.rgb_block.Statement.{statement}
+use Rattle.blocks.proofs.block.rgb_block.Tie as tie
 
 chroma-row-requires : tie.Need-chroma-row-requires
 chroma-row-requires c κs = (search needs, λ i h. (c .pre i h .0, c .pre i h .2))

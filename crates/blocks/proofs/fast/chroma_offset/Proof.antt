@@ -1,7 +1,7 @@
 use borrow.Author.Needs.{needs}
-use Rattle.convert.proofs.Channels.{red-biased, blue-biased}
-use Rattle.convert.proofs.offsets.chroma_offset.Statement.{statement}
-use Rattle.convert.proofs.offsets.chroma_offset.Tie as tie
+use Rattle.blocks.proofs.Offsets.{red-biased, blue-biased}
+use Rattle.blocks.proofs.fast.chroma_offset.Statement.{statement}
+use Rattle.blocks.proofs.fast.chroma_offset.Tie as tie
 
 mul-result : tie.Need-mul-result
 mul-result c = search needs

@@ -8,8 +8,8 @@ use native.Mathlib.Numerals.{add-one}
 use native.Mathlib.Omega.{arith}
 use lib.ListN.{length, getD, set, length-set}
 use lib.Seq.{getD-set-same, getD-set-other}
 use Rattle.convert.specs.Kernels.{Colour}
-use Rattle.convert.specs.Stores.{pixel, pixels, channel}
+use Rattle.blocks.specs.Stores.{pixel, pixels, channel}
 
 -- ---- one pixel
 

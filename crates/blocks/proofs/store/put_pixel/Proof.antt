@@ -2,9 +2,9 @@ use mathlib.Core.Path.{refl}
 use native.Mathlib.Omega.{arith}
 use lib.ListN.{length-set}
 use borrow.Author.Needs.{needs}
-use Rattle.convert.specs.Stores.{pixel}
-use Rattle.convert.proofs.store.put_pixel.Statement.{statement}
-use Rattle.convert.proofs.store.put_pixel.Tie as tie
+use Rattle.blocks.specs.Stores.{pixel}
+use Rattle.blocks.proofs.store.put_pixel.Statement.{statement}
+use Rattle.blocks.proofs.store.put_pixel.Tie as tie
 
 slice-write-dst : tie.Need-slice-write-dst
 slice-write-dst c = search needs

@@ -3,10 +3,10 @@ use Prim.Native.Nat.{_+_, _-_, _*_, _≤_}
 use native.Mathlib.Nat.{mul-le-mul-right}
 use native.Mathlib.Omega.{arith}
 use lib.ListN.{length}
-use Rattle.convert.specs.Stores.{pixels, blockPixel}
-use Rattle.convert.proofs.Puts.{length-pixels, pixels-none, pixels-more}
-use Rattle.convert.proofs.store.put_block.Statement.{statement}
-use Rattle.convert.proofs.store.put_block.Tie as tie
+use Rattle.blocks.specs.Stores.{pixels, blockPixel}
+use Rattle.blocks.proofs.Puts.{length-pixels, pixels-none, pixels-more}
+use Rattle.blocks.proofs.store.put_block.Statement.{statement}
+use Rattle.blocks.proofs.store.put_block.Tie as tie
 
 abbrev Inv-loop : tie.InvT-loop
 Inv-loop dst₀ at size rows p₀ i₀ dst p i = (i ≤ 16) × (p ≡ at + i * size) × (dst ≡ pixels dst₀ at size (blockPixel rows) i)
