@@ -82,14 +82,14 @@ pub fn fill(
     out: &mut [u8],
 ) -> Result<(), Refusal> {
     let layout = *picture.layout();
-    Refusal::check(ffi::fill(
+    ffi::fill(
         layout,
         picture.planes(),
         (upsampling as u32, kernel as u32),
         size,
         scratch.of(&layout),
         out,
-    ))
+    )
 }
 
 /// One whole chroma plane, interpolated linearly: `w * h` values into `out`, rounded halves up
@@ -109,7 +109,7 @@ pub fn linear_plane(
     scratch: &mut Scratch,
     out: &mut [u16],
 ) -> Result<(), Refusal> {
-    Refusal::check(ffi::linear_plane(layout, plane, scratch.of(&layout), out))
+    ffi::linear_plane(layout, plane, scratch.of(&layout), out)
 }
 
 /// One whole chroma plane, guided by the luma plane `y`: `w * h` values into `out`, rounded and
@@ -132,13 +132,7 @@ pub fn guided_plane(
     scratch: &mut Scratch,
     out: &mut [u16],
 ) -> Result<(), Refusal> {
-    Refusal::check(ffi::guided_plane(
-        layout,
-        y,
-        plane,
-        scratch.of(&layout),
-        out,
-    ))
+    ffi::guided_plane(layout, y, plane, scratch.of(&layout), out)
 }
 
 /// One whole chroma plane, triangular, in whole numbers: `w * h` values into `out`. Refusals 2, 3,
@@ -156,12 +150,7 @@ pub fn guided_plane(
 /// # Ok::<(), Refusal>(())
 /// ```
 pub fn triangular_plane(layout: Layout, plane: Plane, out: &mut [u16]) -> Result<(), Refusal> {
-    Refusal::check(ffi::triangular_plane(layout, plane, out))
-}
-
-fn colour(p: ffi::RawPixel) -> Result<[u8; 3], Refusal> {
-    Refusal::check(p.refusal)?;
-    Ok([p.r, p.g, p.b])
+    ffi::triangular_plane(layout, plane, out)
 }
 
 /// The colour of one pixel by the exact kernel: chroma in 256ths, samples in `0..=maxval`.
@@ -171,7 +160,7 @@ fn colour(p: ffi::RawPixel) -> Result<[u8; 3], Refusal> {
 /// assert_eq!(chroma::exact_pixel(230, 3 * 256, 128 * 256, 255), Ok([230, 255, 9]));
 /// ```
 pub fn exact_pixel(y: u32, cb256: u32, cr256: u32, maxval: u32) -> Result<[u8; 3], Refusal> {
-    colour(ffi::exact_pixel(y, cb256, cr256, maxval))
+    ffi::exact_pixel(y, cb256, cr256, maxval)
 }
 
 /// The colour of one pixel by the fixed kernel, for maxval 255: whole chroma. Refusal 13.
@@ -180,7 +169,7 @@ pub fn exact_pixel(y: u32, cb256: u32, cr256: u32, maxval: u32) -> Result<[u8; 3
 /// assert_eq!(chroma::fixed_pixel(230, 3, 128), Ok([230, 255, 8]));
 /// ```
 pub fn fixed_pixel(y: u32, cb: u32, cr: u32) -> Result<[u8; 3], Refusal> {
-    colour(ffi::fixed_pixel(y, cb, cr))
+    ffi::fixed_pixel(y, cb, cr)
 }
 
 /// Three PGM images one after another (Y, Cb, Cr; maxval 255, width at most 128, 49,152 bytes in
@@ -196,8 +185,7 @@ pub fn ppm(input: &[u8]) -> Result<Vec<u8>, Refusal> {
     const SCRATCH: usize = 9_216;
     const OUTPUT: usize = 147_472;
     let mut out = vec![0; OUTPUT];
-    let written = ffi::picture(input, &mut vec![0.0; SCRATCH], &mut out);
-    Refusal::check(written.refusal)?;
-    out.truncate(written.len);
+    let written = ffi::picture(input, &mut vec![0.0; SCRATCH], &mut out)?;
+    out.truncate(written);
     Ok(out)
 }

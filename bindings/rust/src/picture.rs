@@ -1,6 +1,6 @@
 //! What the calls are lent: layouts, planes, pictures and scratch.
 
-use crate::ffi::{self, Planes, RawReader};
+use crate::ffi::{self, Planes};
 use crate::{Reader, Refusal};
 
 /// A picture's numbers. Any numbers may stand here; the calls look at them.
@@ -121,11 +121,10 @@ impl<'a> Picture<'a> {
     ) -> Result<Picture<'a>, Refusal> {
         let planes = [y, cb, cr];
         // With no scratch an open is always refused: 9 where nothing else is wrong.
-        let reply = ffi::open(layout, &planes, &[], RawReader::default());
-        match Refusal::check(reply.refusal) {
+        match ffi::open(layout, &planes, &[]) {
             Err(Refusal::ShortScratch) => Ok(Picture { layout, planes }),
             Err(refusal) => Err(refusal),
-            Ok(()) => unreachable!("an open with no scratch is refused"),
+            Ok(_) => unreachable!("an open with no scratch is refused"),
         }
     }
 
