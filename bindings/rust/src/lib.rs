@@ -2,8 +2,12 @@
 //! whose every function is proved to meet its contract. This crate is a thin safe wrapper over
 //! its C interface (include/chroma.h); slices and lifetimes keep what C callers must.
 //!
-//! The library is linked from target/staticlib, where `rt staticlib ffi` writes it, or from the
-//! folder that CHROMA_LIB_DIR names.
+//! The library is linked from the repository's target/staticlib, where `rt staticlib ffi` writes
+//! it, or from the folder that CHROMA_LIB_DIR names when cargo runs. A crate of your own needs
+//! `chroma = { path = "…/bindings/rust" }` among its dependencies and nothing else.
+//!
+//! [`fill`] gives a whole picture as RGB, a [`Reader`] rows of chroma, [`linear_plane`] and the
+//! like one plane of chroma.
 //!
 //! ```
 //! use chroma::{fill, Kernel, Layout, Picture, Plane, Scratch, Upsampling};
@@ -45,14 +49,15 @@ pub enum Upsampling {
 /// Which kernel makes the colour.
 #[derive(Clone, Copy, Debug, PartialEq, Eq)]
 pub enum Kernel {
-    /// T.871's equations, each colour rounded once.
+    /// T.871's equations, each colour rounded once, on chroma in 256ths.
     Exact = 0,
-    /// 16-bit fixed point on whole chroma, for maxval 255.
+    /// 16-bit fixed point on chroma rounded to whole samples, for maxval 255.
     FixedPoint16 = 1,
 }
 
 /// The picture's pixels into `out`, row by row, `size` bytes each (3 or 4): red, green, blue; a
-/// fourth byte keeps what it held. Refusals 4 (fixed kernel, maxval not 255), 8 and 10.
+/// fourth byte keeps what it held. Colour is T.871's (JFIF: BT.601's coefficients, full range), in
+/// 8 bits whatever maxval is. Refusals 4 (fixed kernel, maxval not 255), 8 and 10.
 ///
 /// ```
 /// use chroma::{fill, Kernel, Layout, Picture, Plane, Refusal, Scratch, Upsampling};
@@ -92,8 +97,8 @@ pub fn fill(
     )
 }
 
-/// One whole chroma plane, interpolated linearly: `w * h` values into `out`, rounded halves up
-/// and limited to `0..=maxval`. Refusals 2, 3, 4, 5, 7 and 10.
+/// One whole chroma plane (Cb or Cr), interpolated linearly: `w * h` values into `out`, row by row,
+/// rounded halves up and limited to `0..=maxval`. Refusals 2, 3, 4, 5, 7 and 10.
 ///
 /// ```
 /// use chroma::{linear_plane, Layout, Plane, Scratch};
@@ -112,8 +117,8 @@ pub fn linear_plane(
     ffi::linear_plane(layout, plane, scratch.of(&layout), out)
 }
 
-/// One whole chroma plane, guided by the luma plane `y`: `w * h` values into `out`, rounded and
-/// limited as those of [`linear_plane`]. Refusals 2, 3, 4, 5, 7 and 10.
+/// One whole chroma plane, guided by the luma plane `y`: `w * h` values into `out`, laid out,
+/// rounded and limited as those of [`linear_plane`]. Refusals 2, 3, 4, 5, 7 and 10.
 ///
 /// ```
 /// use chroma::{guided_plane, Layout, Plane, Scratch};
@@ -135,8 +140,8 @@ pub fn guided_plane(
     ffi::guided_plane(layout, y, plane, scratch.of(&layout), out)
 }
 
-/// One whole chroma plane, triangular, in whole numbers: `w * h` values into `out`. Refusals 2, 3,
-/// 4, 5, 6, 7 and 10.
+/// One whole chroma plane, triangular, in whole numbers: `w * h` values into `out`, row by row.
+/// Refusals 2, 3, 4, 5, 6, 7 and 10.
 ///
 /// ```
 /// use chroma::{triangular_plane, Layout, Plane, Refusal};

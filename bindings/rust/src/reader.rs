@@ -88,8 +88,9 @@ impl<'a> Reader<'a> {
         Ok(())
     }
 
-    /// Row `row` of Cb and of Cr into the first `w` values of `cb` and of `cr`. The row may be
-    /// the place or any after it. Refusals 10, 11 and 12, after which everything is as it was.
+    /// Row `row` of Cb and of Cr into the first `w` values of `cb` and of `cr`, in the samples'
+    /// units, not rounded, each within the extremes of the 3 by 3 cells round its own. The row may
+    /// be the place or any after it. Refusals 10, 11 and 12, after which everything is as it was.
     pub fn row(&mut self, row: usize, cb: &mut [f32], cr: &mut [f32]) -> Result<(), Refusal> {
         let layout = *self.picture.layout();
         let scratch = self.scratch.of(&layout);
