@@ -2,45 +2,12 @@
 //! original's functions, same input, one thread, turn by turn in one process; thread CPU time,
 //! the best of several turns. A ratio above 1 says that the library is ahead.
 //! Usage: bench [TURNS [CELL...]]; a CELL is a part of a cell's name.
+#[allow(dead_code)]
+#[path = "../bindings/rust/src/raw.rs"]
+mod raw;
+
 use oracle::{Bytes, Chroma, GuidedReader, Kernel, Numbers, Picture, Upsampling};
-
-#[repr(C)]
-#[derive(Clone, Copy)]
-struct Layout {
-    w: usize,
-    h: usize,
-    rh: usize,
-    rv: usize,
-    cw: usize,
-    ch: usize,
-    sample_bytes: usize,
-    maxval: u32,
-}
-
-#[repr(C)]
-#[derive(Clone, Copy)]
-struct Strides {
-    y: usize,
-    cb: usize,
-    cr: usize,
-}
-
-/// A reader's state, which is handed on and not looked at.
-#[repr(C)]
-#[derive(Clone, Copy, Default)]
-struct Reader {
-    sides: [usize; 6],
-    phases: [(u32, f32); 4],
-    sample_bytes: usize,
-    maxval: u32,
-    place: [usize; 3],
-}
-
-#[repr(C)]
-struct Reply {
-    refusal: u32,
-    reader: Reader,
-}
+use raw::{ChromaLayout, ChromaReader, ChromaStrides};
 
 #[repr(C)]
 struct Timespec {
@@ -49,34 +16,6 @@ struct Timespec {
 }
 
 extern "C" {
-    fn chroma_fill(
-        layout: Layout, y: *const u8, y_len: usize, cb: *const u8, cb_len: usize,
-        cr: *const u8, cr_len: usize, strides: Strides, upsampling: u32, kernel: u32, size: usize,
-        s: *mut f32, s_len: usize, out: *mut u8, out_len: usize,
-    ) -> u32;
-    fn chroma_open(
-        layout: Layout, y: *const u8, y_len: usize, cb: *const u8, cb_len: usize,
-        cr: *const u8, cr_len: usize, strides: Strides, s: *const f32, s_len: usize, reader: Reader,
-    ) -> Reply;
-    fn chroma_seek(reader: Reader, row: usize) -> Reply;
-    fn chroma_row(
-        reader: Reader, y: *const u8, y_len: usize, cb: *const u8, cb_len: usize,
-        cr: *const u8, cr_len: usize, strides: Strides, row: usize, s: *mut f32, s_len: usize,
-        out_cb: *mut f32, out_cb_len: usize, out_cr: *mut f32, out_cr_len: usize,
-    ) -> Reply;
-    fn chroma_linear_plane(
-        layout: Layout, plane: *const u8, plane_len: usize, stride: usize,
-        s: *mut f32, s_len: usize, out: *mut u16, out_len: usize,
-    ) -> u32;
-    fn chroma_guided_plane(
-        layout: Layout, y: *const u8, y_len: usize, y_stride: usize,
-        c: *const u8, c_len: usize, c_stride: usize,
-        s: *mut f32, s_len: usize, out: *mut u16, out_len: usize,
-    ) -> u32;
-    fn chroma_triangular_plane(
-        layout: Layout, plane: *const u8, plane_len: usize, stride: usize,
-        out: *mut u16, out_len: usize,
-    ) -> u32;
     fn clock_gettime(clock: i32, time: *mut Timespec) -> i32;
 }
 
@@ -89,9 +28,9 @@ fn now() -> f64 {
 }
 
 struct Input {
-    layout: Layout,
+    layout: ChromaLayout,
     planes: [Vec<u8>; 3],
-    strides: Strides,
+    strides: ChromaStrides,
     beside: Picture,
     scratch: Vec<f32>,
 }
@@ -112,11 +51,11 @@ fn input(w: usize, h: usize, rh: usize, rv: usize, sample_bytes: usize, maxval: 
         data
     };
     let planes = [plane(w, h), plane(cw, ch), plane(cw, ch)];
-    let strides = Strides { y: w * sample_bytes, cb: cw * sample_bytes, cr: cw * sample_bytes };
+    let strides = ChromaStrides { y: w * sample_bytes, cb: cw * sample_bytes, cr: cw * sample_bytes };
     let all = [strides.y, strides.cb, strides.cr];
     let bytes = [0, 1, 2].map(|k| Bytes { data: &planes[k], stride: all[k] });
     let beside = Picture::new(Numbers { w, h, rh, rv, bps: sample_bytes, maxval }, bytes).expect("a picture");
-    let layout = Layout { w, h, rh, rv, cw, ch, sample_bytes, maxval };
+    let layout = ChromaLayout { w, h, rh, rv, cw, ch, sample_bytes, maxval };
     Input { layout, planes, strides, beside, scratch: vec![0.0; 64 * cw + 8 * w] }
 }
 
@@ -159,7 +98,7 @@ impl Cell {
                 let mut out = out.borrow_mut();
                 // SAFETY: each pointer and length are one slice's.
                 let n = unsafe {
-                    chroma_fill(
+                    raw::chroma_fill(
                         l, y.as_ptr(), y.len(), cb.as_ptr(), cb.len(), cr.as_ptr(), cr.len(), i.strides,
                         !linear as u32, fixed as u32, size, s.as_mut_ptr(), s.len(), out.as_mut_ptr(), out.len(),
                     )
@@ -184,16 +123,16 @@ impl Cell {
                 let (b, r) = &mut *last.borrow_mut();
                 // SAFETY: each pointer and length are one slice's.
                 unsafe {
-                    let mut at = chroma_open(
+                    let mut at = raw::chroma_open(
                         l, y.as_ptr(), y.len(), cb.as_ptr(), cb.len(), cr.as_ptr(), cr.len(), i.strides,
-                        s.as_ptr(), s.len(), Reader::default(),
+                        s.as_ptr(), s.len(), ChromaReader::default(),
                     );
                     let mut before = 0;
                     for &row in order {
                         if row < before || before + 8 < row {
-                            at = chroma_seek(at.reader, row);
+                            at = raw::chroma_seek(at.reader, row);
                         }
-                        at = chroma_row(
+                        at = raw::chroma_row(
                             at.reader, y.as_ptr(), y.len(), cb.as_ptr(), cb.len(), cr.as_ptr(), cr.len(),
                             i.strides, row, s.as_mut_ptr(), s.len(),
                             b.as_mut_ptr(), b.len(), r.as_mut_ptr(), r.len(),
@@ -233,12 +172,14 @@ impl Cell {
                 // SAFETY: each pointer and length are one slice's.
                 let refusal = unsafe {
                     match kind {
-                        0 => chroma_linear_plane(l, cb.as_ptr(), cb.len(), i.strides.cb, s.as_mut_ptr(), s.len(), o, n),
-                        1 => chroma_guided_plane(
+                        0 => raw::chroma_linear_plane(
+                            l, cb.as_ptr(), cb.len(), i.strides.cb, s.as_mut_ptr(), s.len(), o, n,
+                        ),
+                        1 => raw::chroma_guided_plane(
                             l, y.as_ptr(), y.len(), i.strides.y, cb.as_ptr(), cb.len(), i.strides.cb,
                             s.as_mut_ptr(), s.len(), o, n,
                         ),
-                        _ => chroma_triangular_plane(l, cb.as_ptr(), cb.len(), i.strides.cb, o, n),
+                        _ => raw::chroma_triangular_plane(l, cb.as_ptr(), cb.len(), i.strides.cb, o, n),
                     }
                 };
                 assert!(refusal == 0);

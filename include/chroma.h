@@ -1,12 +1,14 @@
 /* Chroma reconstruction and colour conversion: from Y, Cb and Cr planes to RGB.
+ * tests/c/example.c is a first program.
  *
  * Every function here is proved to meet a contract (crates/ffi, over crates/reconstruction
  * and crates/picture). It answers for everything it can be handed: any number, any content of
  * a slice or of a state. It reads and writes nothing outside the slices it is lent, keeps
- * nothing between calls, allocates nothing, and always returns. A call that is refused
- * changes no slice.
+ * nothing between calls (so threads may call at once), allocates nothing, and always returns. A
+ * call that is refused changes no slice.
  *
- * Link target/staticlib/libffi.a, which `rt staticlib ffi` writes (x86-64).
+ * Link target/staticlib/libffi.a, which `rt staticlib ffi` writes (x86-64). Of other libraries it
+ * needs memcpy alone.
  *
  * What a caller must keep, since no proof can see it:
  *   - A slice is a pointer and, right behind it, how many elements it has (not bytes). The
@@ -15,6 +17,8 @@
  *   - A slice that is written (no `const`) overlaps no other slice of the call, and nothing
  *     else reads or writes it during the call. Slices that are only read may overlap.
  *   - Two-byte samples are little-endian.
+ *   - Floats are rounded to nearest, and subnormal ones kept, as a program starts. The proofs are
+ *     about that arithmetic: after fesetround(FE_UPWARD), say, other values come out.
  *   - For rows that belong to the opened picture: hand chroma_seek and chroma_row the state
  *     that the last accepted call gave, and chroma_row the planes that were opened and the
  *     scratch as the last accepted chroma_row left it. Other states, scratch and planes are
@@ -61,7 +65,8 @@ enum ChromaRefusal {
 };
 
 /* A picture's numbers: w by h pixels, rh by rv of them to a chroma cell, cw by ch cells, bytes
- * of a sample, and the largest sample. */
+ * of a sample, and the largest sample. 4:2:0 is rh 2 and rv 2, 4:2:2 is 2 and 1, 4:4:4 is 1 and
+ * 1. A cell sits in the middle of its pixels, as JPEG has it. */
 typedef struct ChromaLayout {
     size_t w, h;
     size_t rh, rv;
@@ -114,8 +119,9 @@ typedef struct ChromaWritten {
     size_t len;
 } ChromaWritten;
 
-/* How many floats of scratch every call with a `scratch` asks for (chroma_picture too, where
- * CHROMA_PICTURE_SCRATCH always suffices). Scratch may hold anything at first. */
+/* How many floats (not bytes) of scratch every call with a `scratch` asks for (chroma_picture
+ * too, where CHROMA_PICTURE_SCRATCH always suffices). Scratch may hold anything at first; calloc
+ * quiets compilers that warn of memory never written. */
 static inline size_t chroma_scratch_need(size_t cw, size_t w) {
     return 64 * cw + 8 * w;
 }
@@ -127,7 +133,8 @@ static inline size_t chroma_scratch_need(size_t cw, size_t w) {
 
 /* Opens a picture: gives its reader at row 0. `scratch` is the slice that the row calls will
  * be lent; only its length is looked at. `reader` may hold anything, and comes back where the
- * call is refused. Refusals 2, 3, 4, 5, 7, 9. */
+ * call is refused; `static ChromaReader none;` is one to begin with, in C and in C++.
+ * Refusals 2, 3, 4, 5, 7, 9. */
 ChromaReply chroma_open(ChromaLayout layout,
                         const uint8_t *y, size_t y_len,
                         const uint8_t *cb, size_t cb_len,
@@ -139,9 +146,10 @@ ChromaReply chroma_open(ChromaLayout layout,
 /* Moves a reader to any row of its picture, back as well. Refusals 1, 11. */
 ChromaReply chroma_seek(ChromaReader reader, size_t row);
 
-/* Row `row` of Cb and of Cr, guided by luma: the first w values of out_cb and of out_cr. The
- * row may be the reader's place or any after it; the place is then that row. The row follows
- * from the picture and the row number alone, whatever was read before.
+/* Row `row` of Cb and of Cr, guided by luma: the first w values of out_cb and of out_cr. They
+ * are in the samples' units, not rounded, each within the extremes of the 3 by 3 cells round its
+ * own. The row may be the reader's place or any after it; the place is then that row. The row
+ * follows from the picture and the row number alone, whatever was read before.
  * Refusals 1, 7, 9, 10 (either output shorter than w), 11, 12. */
 ChromaReply chroma_row(ChromaReader reader,
                        const uint8_t *y, size_t y_len,
@@ -153,14 +161,16 @@ ChromaReply chroma_row(ChromaReader reader,
                        float *out_cb, size_t out_cb_len,
                        float *out_cr, size_t out_cr_len);
 
-/* One whole chroma plane, interpolated linearly: w * h values into out, rounded halves up and
- * limited to 0..maxval. Refusals 2, 3, 4, 5, 7, 9, 10. */
+/* One whole chroma plane, interpolated linearly: w * h values into out, row by row without gaps,
+ * rounded halves up and limited to 0..maxval. `plane` is Cb or Cr.
+ * Refusals 2, 3, 4, 5, 7, 9, 10. */
 uint32_t chroma_linear_plane(ChromaLayout layout,
                              const uint8_t *plane, size_t plane_len, size_t stride,
                              float *scratch, size_t scratch_len,
                              uint16_t *out, size_t out_len);
 
-/* One whole chroma plane, guided by luma: w * h values into out, rounded and limited as above.
+/* One whole chroma plane, guided by luma: w * h values into out, laid out, rounded and limited as
+ * above.
  * Refusals 2, 3, 4, 5, 7, 9, 10. */
 uint32_t chroma_guided_plane(ChromaLayout layout,
                              const uint8_t *y, size_t y_len, size_t y_stride,
@@ -168,16 +178,19 @@ uint32_t chroma_guided_plane(ChromaLayout layout,
                              float *scratch, size_t scratch_len,
                              uint16_t *out, size_t out_len);
 
-/* One whole chroma plane, triangular, in whole numbers: w * h values into out.
+/* One whole chroma plane, triangular, in whole numbers: w * h values into out, row by row.
  * Refusals 2, 3, 4, 5, 6, 7, 10. */
 uint32_t chroma_triangular_plane(ChromaLayout layout,
                                  const uint8_t *plane, size_t plane_len, size_t stride,
                                  uint16_t *out, size_t out_len);
 
 /* The picture's w * h pixels into out, row by row, `size` bytes each (3 or 4): red, green,
- * blue; a fourth byte keeps what it held. `upsampling`: 0 linear, 1 guided. `kernel`: 0 exact,
- * 1 fixed (maxval 255). Refusals 255 (either is another number), then 2, 3, 4, 5, 7, 8, 9,
- * 10 (out shorter than w * h * size). */
+ * blue; a fourth byte keeps what it held. Colour is T.871's (JFIF: BT.601's coefficients, full
+ * range), in 8 bits whatever maxval is; chroma is neutral at (maxval + 1) / 2.
+ * `upsampling`: 0 linear, 1 guided. `kernel`: 0 exact, T.871's equations on chroma in 256ths; 1
+ * fixed, 16-bit fixed point on chroma rounded to whole samples (maxval 255).
+ * Refusals 255 (either is another number), then 2, 3, 4, 5, 7, 8, 9, 10 (out shorter than
+ * w * h * size). */
 uint32_t chroma_fill(ChromaLayout layout,
                      const uint8_t *y, size_t y_len,
                      const uint8_t *cb, size_t cb_len,

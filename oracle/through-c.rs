@@ -1,7 +1,10 @@
 //! The calls that compare.rs makes, under the same names, through include/chroma.h: the static
 //! library beside the original. Every slice that a call writes is lent out of a longer one, and
 //! what stands round it must be as it was afterwards.
-#![allow(improper_ctypes_definitions)]
+
+#[allow(dead_code)]
+#[path = "../bindings/rust/src/raw.rs"]
+mod raw;
 
 const ROUND: usize = 64;
 
@@ -45,7 +48,8 @@ pub mod laws {
 }
 
 pub mod image {
-    #[repr(C)]
+    use crate::raw::ChromaLayout;
+
     #[derive(Clone, Copy, Debug, PartialEq)]
     pub struct Layout {
         pub w: usize,
@@ -57,14 +61,11 @@ pub mod image {
         pub sample_bytes: usize,
         pub maxval: u32,
     }
-}
 
-#[repr(C)]
-#[derive(Clone, Copy)]
-struct Strides {
-    y: usize,
-    cb: usize,
-    cr: usize,
+    pub(crate) fn raw(l: Layout) -> ChromaLayout {
+        let Layout { w, h, rh, rv, cw, ch, sample_bytes, maxval } = l;
+        ChromaLayout { w, h, rh, rv, cw, ch, sample_bytes, maxval }
+    }
 }
 
 pub mod taps {
@@ -76,15 +77,9 @@ pub mod taps {
 }
 
 pub mod resample {
-    use crate::image::Layout;
+    use crate::image::{raw, Layout};
     use crate::laws::{answer, Answer};
-
-    extern "C" {
-        fn chroma_linear_plane(
-            layout: Layout, plane: *const u8, plane_len: usize, stride: usize,
-            s: *mut f32, s_len: usize, out: *mut u16, out_len: usize,
-        ) -> u32;
-    }
+    use crate::raw::chroma_linear_plane;
 
     pub fn linear_plane(layout: Layout, plane: &[u8], stride: usize, s: &mut [f32], out: &mut [u16]) -> Answer {
         crate::guarded_floats(s, |s| {
@@ -92,7 +87,7 @@ pub mod resample {
                 // SAFETY: each pointer and length are one slice's.
                 answer(unsafe {
                     chroma_linear_plane(
-                        layout, plane.as_ptr(), plane.len(), stride,
+                        raw(layout), plane.as_ptr(), plane.len(), stride,
                         s.as_mut_ptr(), s.len(), out.as_mut_ptr(), out.len(),
                     )
                 })
@@ -102,37 +97,24 @@ pub mod resample {
 }
 
 pub mod upsample {
-    use crate::image::Layout;
+    use crate::image::{raw, Layout};
     use crate::laws::{answer, Answer};
-
-    extern "C" {
-        fn chroma_triangular_plane(
-            layout: Layout, plane: *const u8, plane_len: usize, stride: usize,
-            out: *mut u16, out_len: usize,
-        ) -> u32;
-    }
+    use crate::raw::chroma_triangular_plane;
 
     pub fn triangular_plane(layout: Layout, plane: &[u8], stride: usize, out: &mut [u16]) -> Answer {
         crate::guarded(out, 4_660, |out| {
             // SAFETY: each pointer and length are one slice's.
             answer(unsafe {
-                chroma_triangular_plane(layout, plane.as_ptr(), plane.len(), stride, out.as_mut_ptr(), out.len())
+                chroma_triangular_plane(raw(layout), plane.as_ptr(), plane.len(), stride, out.as_mut_ptr(), out.len())
             })
         })
     }
 }
 
 pub mod planes {
-    use crate::image::Layout;
+    use crate::image::{raw, Layout};
     use crate::laws::{answer, Answer};
-
-    extern "C" {
-        fn chroma_guided_plane(
-            layout: Layout, y: *const u8, y_len: usize, y_stride: usize,
-            c: *const u8, c_len: usize, c_stride: usize,
-            s: *mut f32, s_len: usize, out: *mut u16, out_len: usize,
-        ) -> u32;
-    }
+    use crate::raw::chroma_guided_plane;
 
     pub fn guided_plane(
         layout: Layout, y: &[u8], y_stride: usize, c: &[u8], c_stride: usize, s: &mut [f32], out: &mut [u16],
@@ -142,7 +124,7 @@ pub mod planes {
                 // SAFETY: each pointer and length are one slice's.
                 answer(unsafe {
                     chroma_guided_plane(
-                        layout, y.as_ptr(), y.len(), y_stride, c.as_ptr(), c.len(), c_stride,
+                        raw(layout), y.as_ptr(), y.len(), y_stride, c.as_ptr(), c.len(), c_stride,
                         s.as_mut_ptr(), s.len(), out.as_mut_ptr(), out.len(),
                     )
                 })
@@ -186,49 +168,19 @@ pub mod guided {
 mod states {
     use crate::guided::{Geometry, Reader, Reply};
     use crate::laws::answer;
+    use crate::raw::{ChromaPhase, ChromaReader, ChromaReply};
     use crate::taps::Phase;
 
-    #[repr(C)]
-    #[derive(Clone, Copy)]
-    struct RawPhase {
-        left: u32,
-        f: f32,
-    }
-
-    #[repr(C)]
-    #[derive(Clone, Copy)]
-    pub struct RawReader {
-        w: usize,
-        h: usize,
-        rh: usize,
-        rv: usize,
-        cw: usize,
-        ch: usize,
-        phases: [RawPhase; 4],
-        sample_bytes: usize,
-        maxval: u32,
-        place: usize,
-        h_next: usize,
-        f_next: usize,
-    }
-
-    #[repr(C)]
-    #[derive(Clone, Copy)]
-    pub struct RawReply {
-        refusal: u32,
-        reader: RawReader,
-    }
-
-    pub fn raw(r: Reader) -> RawReader {
+    pub(crate) fn raw(r: Reader) -> ChromaReader {
         let g = r.geometry;
-        RawReader {
+        ChromaReader {
             w: g.w,
             h: g.h,
             rh: g.rh,
             rv: g.rv,
             cw: g.cw,
             ch: g.ch,
-            phases: g.phases.map(|p| RawPhase { left: p.left as u32, f: p.f }),
+            phases: g.phases.map(|p| ChromaPhase { left: p.left as u32, f: p.f }),
             sample_bytes: r.sample_bytes,
             maxval: r.maxval,
             place: r.place,
@@ -237,7 +189,7 @@ mod states {
         }
     }
 
-    pub fn reply(r: RawReply) -> Reply {
+    pub(crate) fn reply(r: ChromaReply) -> Reply {
         let s = r.reader;
         let phases = s.phases.map(|p| {
             assert!(p.left < 2, "a phase that is neither");
@@ -258,11 +210,8 @@ mod states {
 
 pub mod state {
     use crate::guided::{Reader, Reply};
-    use crate::states::{raw, reply, RawReader, RawReply};
-
-    extern "C" {
-        fn chroma_seek(reader: RawReader, row: usize) -> RawReply;
-    }
+    use crate::raw::chroma_seek;
+    use crate::states::{raw, reply};
 
     pub fn seek(reader: Reader, y: usize) -> Reply {
         // SAFETY: no pointer is passed.
@@ -272,33 +221,20 @@ pub mod state {
 
 pub mod reader {
     use crate::guided::{Reader, Reply};
-    use crate::image::Layout;
-    use crate::states::{raw, reply, RawReader, RawReply};
-    use crate::Strides;
-
-    extern "C" {
-        fn chroma_open(
-            layout: Layout, y: *const u8, y_len: usize, cb: *const u8, cb_len: usize,
-            cr: *const u8, cr_len: usize, strides: Strides, s: *const f32, s_len: usize,
-            reader: RawReader,
-        ) -> RawReply;
-        fn chroma_row(
-            reader: RawReader, y: *const u8, y_len: usize, cb: *const u8, cb_len: usize,
-            cr: *const u8, cr_len: usize, strides: Strides, row: usize, s: *mut f32, s_len: usize,
-            out_cb: *mut f32, out_cb_len: usize, out_cr: *mut f32, out_cr_len: usize,
-        ) -> RawReply;
-    }
+    use crate::image::{self, Layout};
+    use crate::raw::{chroma_open, chroma_row, ChromaStrides};
+    use crate::states::{raw, reply};
 
     #[allow(clippy::too_many_arguments)]
     pub fn open(
         layout: Layout, y: &[u8], y_stride: usize, cb: &[u8], cb_stride: usize, cr: &[u8], cr_stride: usize,
         s: &[f32], reader: Reader,
     ) -> Reply {
-        let strides = Strides { y: y_stride, cb: cb_stride, cr: cr_stride };
+        let strides = ChromaStrides { y: y_stride, cb: cb_stride, cr: cr_stride };
         // SAFETY: each pointer and length are one slice's, and nothing is written.
         reply(unsafe {
             chroma_open(
-                layout, y.as_ptr(), y.len(), cb.as_ptr(), cb.len(), cr.as_ptr(), cr.len(), strides,
+                image::raw(layout), y.as_ptr(), y.len(), cb.as_ptr(), cb.len(), cr.as_ptr(), cr.len(), strides,
                 s.as_ptr(), s.len(), raw(reader),
             )
         })
@@ -309,7 +245,7 @@ pub mod reader {
         reader: Reader, y: &[u8], y_stride: usize, cb: &[u8], cb_stride: usize, cr: &[u8], cr_stride: usize,
         row: usize, s: &mut [f32], out_cb: &mut [f32], out_cr: &mut [f32],
     ) -> Reply {
-        let strides = Strides { y: y_stride, cb: cb_stride, cr: cr_stride };
+        let strides = ChromaStrides { y: y_stride, cb: cb_stride, cr: cr_stride };
         crate::guarded_floats(s, |s| {
             crate::guarded_floats(out_cb, |b| {
                 crate::guarded_floats(out_cr, |r| {
@@ -328,26 +264,15 @@ pub mod reader {
 }
 
 pub mod convert {
+    use crate::raw::{chroma_exact_pixel, chroma_fixed_pixel, ChromaPixel};
+
     #[derive(Clone, Copy, Debug, PartialEq)]
     pub enum Pixel {
         Rgb(u8, u8, u8),
         Refused(u8),
     }
 
-    #[repr(C)]
-    struct RawPixel {
-        refusal: u32,
-        r: u8,
-        g: u8,
-        b: u8,
-    }
-
-    extern "C" {
-        fn chroma_exact_pixel(y: u32, cb256: u32, cr256: u32, maxval: u32) -> RawPixel;
-        fn chroma_fixed_pixel(y: u32, cb: u32, cr: u32) -> RawPixel;
-    }
-
-    fn pixel(p: RawPixel) -> Pixel {
+    fn pixel(p: ChromaPixel) -> Pixel {
         match p.refusal {
             0 => Pixel::Rgb(p.r, p.g, p.b),
             n => Pixel::Refused(n as u8),
@@ -375,9 +300,9 @@ pub mod colour_rows {
 
 pub mod fill {
     use crate::colour_rows::YcbcrKernel;
-    use crate::image::Layout;
+    use crate::image::{raw, Layout};
     use crate::laws::{answer, Answer};
-    use crate::Strides;
+    use crate::raw::{chroma_fill, ChromaStrides};
 
     #[derive(Clone, Copy)]
     pub enum ChromaUpsampling {
@@ -385,26 +310,18 @@ pub mod fill {
         LumaGuided = 1,
     }
 
-    extern "C" {
-        fn chroma_fill(
-            layout: Layout, y: *const u8, y_len: usize, cb: *const u8, cb_len: usize,
-            cr: *const u8, cr_len: usize, strides: Strides, upsampling: u32, kernel: u32, size: usize,
-            s: *mut f32, s_len: usize, out: *mut u8, out_len: usize,
-        ) -> u32;
-    }
-
     #[allow(clippy::too_many_arguments)]
     pub fn fill(
         layout: Layout, y: &[u8], y_stride: usize, cb: &[u8], cb_stride: usize, cr: &[u8], cr_stride: usize,
         upsampling: ChromaUpsampling, kernel: YcbcrKernel, size: usize, s: &mut [f32], out: &mut [u8],
     ) -> Answer {
-        let strides = Strides { y: y_stride, cb: cb_stride, cr: cr_stride };
+        let strides = ChromaStrides { y: y_stride, cb: cb_stride, cr: cr_stride };
         crate::guarded_floats(s, |s| {
             crate::guarded(out, 165, |out| {
                 // SAFETY: each pointer and length are one slice's; the copies overlap nothing.
                 answer(unsafe {
                     chroma_fill(
-                        layout, y.as_ptr(), y.len(), cb.as_ptr(), cb.len(), cr.as_ptr(), cr.len(), strides,
+                        raw(layout), y.as_ptr(), y.len(), cb.as_ptr(), cb.len(), cr.as_ptr(), cr.len(), strides,
                         upsampling as u32, kernel as u32, size,
                         s.as_mut_ptr(), s.len(), out.as_mut_ptr(), out.len(),
                     )

@@ -2,8 +2,12 @@
 //! whose every function is proved to meet its contract. This crate is a thin safe wrapper over
 //! its C interface (include/chroma.h); slices and lifetimes keep what C callers must.
 //!
-//! The library is linked from target/staticlib, where `rt staticlib ffi` writes it, or from the
-//! folder that CHROMA_LIB_DIR names.
+//! The library is linked from the repository's target/staticlib, where `rt staticlib ffi` writes
+//! it, or from the folder that CHROMA_LIB_DIR names when cargo runs. A crate of your own needs
+//! `chroma = { path = "…/bindings/rust" }` among its dependencies and nothing else.
+//!
+//! [`fill`] gives a whole picture as RGB, a [`Reader`] rows of chroma, [`linear_plane`] and the
+//! like one plane of chroma.
 //!
 //! ```
 //! use chroma::{fill, Kernel, Layout, Picture, Plane, Scratch, Upsampling};
@@ -45,14 +49,15 @@ pub enum Upsampling {
 /// Which kernel makes the colour.
 #[derive(Clone, Copy, Debug, PartialEq, Eq)]
 pub enum Kernel {
-    /// T.871's equations, each colour rounded once.
+    /// T.871's equations, each colour rounded once, on chroma in 256ths.
     Exact = 0,
-    /// 16-bit fixed point on whole chroma, for maxval 255.
+    /// 16-bit fixed point on chroma rounded to whole samples, for maxval 255.
     FixedPoint16 = 1,
 }
 
 /// The picture's pixels into `out`, row by row, `size` bytes each (3 or 4): red, green, blue; a
-/// fourth byte keeps what it held. Refusals 4 (fixed kernel, maxval not 255), 8 and 10.
+/// fourth byte keeps what it held. Colour is T.871's (JFIF: BT.601's coefficients, full range), in
+/// 8 bits whatever maxval is. Refusals 4 (fixed kernel, maxval not 255), 8 and 10.
 ///
 /// ```
 /// use chroma::{fill, Kernel, Layout, Picture, Plane, Refusal, Scratch, Upsampling};
@@ -82,18 +87,18 @@ pub fn fill(
     out: &mut [u8],
 ) -> Result<(), Refusal> {
     let layout = *picture.layout();
-    Refusal::check(ffi::fill(
+    ffi::fill(
         layout,
         picture.planes(),
         (upsampling as u32, kernel as u32),
         size,
         scratch.of(&layout),
         out,
-    ))
+    )
 }
 
-/// One whole chroma plane, interpolated linearly: `w * h` values into `out`, rounded halves up
-/// and limited to `0..=maxval`. Refusals 2, 3, 4, 5, 7 and 10.
+/// One whole chroma plane (Cb or Cr), interpolated linearly: `w * h` values into `out`, row by row,
+/// rounded halves up and limited to `0..=maxval`. Refusals 2, 3, 4, 5, 7 and 10.
 ///
 /// ```
 /// use chroma::{linear_plane, Layout, Plane, Scratch};
@@ -109,11 +114,11 @@ pub fn linear_plane(
     scratch: &mut Scratch,
     out: &mut [u16],
 ) -> Result<(), Refusal> {
-    Refusal::check(ffi::linear_plane(layout, plane, scratch.of(&layout), out))
+    ffi::linear_plane(layout, plane, scratch.of(&layout), out)
 }
 
-/// One whole chroma plane, guided by the luma plane `y`: `w * h` values into `out`, rounded and
-/// limited as those of [`linear_plane`]. Refusals 2, 3, 4, 5, 7 and 10.
+/// One whole chroma plane, guided by the luma plane `y`: `w * h` values into `out`, laid out,
+/// rounded and limited as those of [`linear_plane`]. Refusals 2, 3, 4, 5, 7 and 10.
 ///
 /// ```
 /// use chroma::{guided_plane, Layout, Plane, Scratch};
@@ -132,17 +137,11 @@ pub fn guided_plane(
     scratch: &mut Scratch,
     out: &mut [u16],
 ) -> Result<(), Refusal> {
-    Refusal::check(ffi::guided_plane(
-        layout,
-        y,
-        plane,
-        scratch.of(&layout),
-        out,
-    ))
+    ffi::guided_plane(layout, y, plane, scratch.of(&layout), out)
 }
 
-/// One whole chroma plane, triangular, in whole numbers: `w * h` values into `out`. Refusals 2, 3,
-/// 4, 5, 6, 7 and 10.
+/// One whole chroma plane, triangular, in whole numbers: `w * h` values into `out`, row by row.
+/// Refusals 2, 3, 4, 5, 6, 7 and 10.
 ///
 /// ```
 /// use chroma::{triangular_plane, Layout, Plane, Refusal};
@@ -156,12 +155,7 @@ pub fn guided_plane(
 /// # Ok::<(), Refusal>(())
 /// ```
 pub fn triangular_plane(layout: Layout, plane: Plane, out: &mut [u16]) -> Result<(), Refusal> {
-    Refusal::check(ffi::triangular_plane(layout, plane, out))
-}
-
-fn colour(p: ffi::RawPixel) -> Result<[u8; 3], Refusal> {
-    Refusal::check(p.refusal)?;
-    Ok([p.r, p.g, p.b])
+    ffi::triangular_plane(layout, plane, out)
 }
 
 /// The colour of one pixel by the exact kernel: chroma in 256ths, samples in `0..=maxval`.
@@ -171,7 +165,7 @@ fn colour(p: ffi::RawPixel) -> Result<[u8; 3], Refusal> {
 /// assert_eq!(chroma::exact_pixel(230, 3 * 256, 128 * 256, 255), Ok([230, 255, 9]));
 /// ```
 pub fn exact_pixel(y: u32, cb256: u32, cr256: u32, maxval: u32) -> Result<[u8; 3], Refusal> {
-    colour(ffi::exact_pixel(y, cb256, cr256, maxval))
+    ffi::exact_pixel(y, cb256, cr256, maxval)
 }
 
 /// The colour of one pixel by the fixed kernel, for maxval 255: whole chroma. Refusal 13.
@@ -180,7 +174,7 @@ pub fn exact_pixel(y: u32, cb256: u32, cr256: u32, maxval: u32) -> Result<[u8; 3
 /// assert_eq!(chroma::fixed_pixel(230, 3, 128), Ok([230, 255, 8]));
 /// ```
 pub fn fixed_pixel(y: u32, cb: u32, cr: u32) -> Result<[u8; 3], Refusal> {
-    colour(ffi::fixed_pixel(y, cb, cr))
+    ffi::fixed_pixel(y, cb, cr)
 }
 
 /// Three PGM images one after another (Y, Cb, Cr; maxval 255, width at most 128, 49,152 bytes in
@@ -196,8 +190,7 @@ pub fn ppm(input: &[u8]) -> Result<Vec<u8>, Refusal> {
     const SCRATCH: usize = 9_216;
     const OUTPUT: usize = 147_472;
     let mut out = vec![0; OUTPUT];
-    let written = ffi::picture(input, &mut vec![0.0; SCRATCH], &mut out);
-    Refusal::check(written.refusal)?;
-    out.truncate(written.len);
+    let written = ffi::picture(input, &mut vec![0.0; SCRATCH], &mut out)?;
+    out.truncate(written);
     Ok(out)
 }

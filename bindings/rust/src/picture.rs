@@ -1,9 +1,11 @@
 //! What the calls are lent: layouts, planes, pictures and scratch.
 
-use crate::ffi::{self, Planes, RawReader};
+use crate::ffi::{self, Planes};
 use crate::{Reader, Refusal};
 
-/// A picture's numbers. Any numbers may stand here; the calls look at them.
+/// A picture's numbers. Any numbers may stand here; the calls look at them. Ratios of 2 by 2 are
+/// 4:2:0, 2 by 1 is 4:2:2, 1 by 1 is 4:4:4. A cell sits in the middle of its pixels, as JPEG has
+/// it.
 #[derive(Clone, Copy, Debug, PartialEq, Eq)]
 pub struct Layout {
     /// Width in pixels.
@@ -29,8 +31,14 @@ impl Layout {
     /// and samples of one byte with maxval 255. (A ratio of 0 gives no cell, and is refused.)
     ///
     /// ```
-    /// let l = chroma::Layout::new(5, 4, 2, 2);
+    /// use chroma::Layout;
+    ///
+    /// let l = Layout::new(5, 4, 2, 2);
     /// assert_eq!((l.cw, l.ch), (3, 2));
+    ///
+    /// // Samples of two bytes:
+    /// let deep = Layout { sample_bytes: 2, maxval: 4_095, ..l };
+    /// assert_eq!(deep.cw, 3);
     /// ```
     pub fn new(w: usize, h: usize, rh: usize, rv: usize) -> Layout {
         let cells = |n: usize, r: usize| if r == 0 { 0 } else { n.div_ceil(r) };
@@ -121,11 +129,10 @@ impl<'a> Picture<'a> {
     ) -> Result<Picture<'a>, Refusal> {
         let planes = [y, cb, cr];
         // With no scratch an open is always refused: 9 where nothing else is wrong.
-        let reply = ffi::open(layout, &planes, &[], RawReader::default());
-        match Refusal::check(reply.refusal) {
+        match ffi::open(layout, &planes, &[]) {
             Err(Refusal::ShortScratch) => Ok(Picture { layout, planes }),
             Err(refusal) => Err(refusal),
-            Ok(()) => unreachable!("an open with no scratch is refused"),
+            Ok(_) => unreachable!("an open with no scratch is refused"),
         }
     }
 

@@ -1,6 +1,6 @@
 //! The reader of guided rows.
 
-use crate::ffi::{self, RawReader};
+use crate::ffi::{self, State};
 use crate::{Picture, Refusal, Scratch};
 
 /// Reads rows of Cb and Cr, guided by luma, from the picture it borrows.
@@ -52,23 +52,18 @@ use crate::{Picture, Refusal, Scratch};
 pub struct Reader<'a> {
     picture: Picture<'a>,
     scratch: Scratch,
-    state: RawReader,
+    state: State,
 }
 
 impl<'a> Reader<'a> {
     pub(crate) fn open(picture: Picture<'a>, mut scratch: Scratch) -> Reader<'a> {
         let layout = *picture.layout();
-        let reply = ffi::open(
-            layout,
-            picture.planes(),
-            scratch.of(&layout),
-            RawReader::default(),
-        );
-        Refusal::check(reply.refusal).expect("the picture was checked, and scratch suffices");
+        let state = ffi::open(layout, picture.planes(), scratch.of(&layout))
+            .expect("the picture was checked, and scratch suffices");
         Reader {
             picture,
             scratch,
-            state: reply.reader,
+            state,
         }
     }
 
@@ -84,25 +79,22 @@ impl<'a> Reader<'a> {
 
     /// The row that it is at: the last one sought or given, 0 at first.
     pub fn place(&self) -> usize {
-        self.state.place
+        self.state.place()
     }
 
     /// Moves to any row, back as well. Refusal 11.
     pub fn seek(&mut self, row: usize) -> Result<(), Refusal> {
-        let reply = ffi::seek(self.state, row);
-        Refusal::check(reply.refusal)?;
-        self.state = reply.reader;
+        self.state = ffi::seek(self.state, row)?;
         Ok(())
     }
 
-    /// Row `row` of Cb and of Cr into the first `w` values of `cb` and of `cr`. The row may be
-    /// the place or any after it. Refusals 10, 11 and 12, after which everything is as it was.
+    /// Row `row` of Cb and of Cr into the first `w` values of `cb` and of `cr`, in the samples'
+    /// units, not rounded, each within the extremes of the 3 by 3 cells round its own. The row may
+    /// be the place or any after it. Refusals 10, 11 and 12, after which everything is as it was.
     pub fn row(&mut self, row: usize, cb: &mut [f32], cr: &mut [f32]) -> Result<(), Refusal> {
         let layout = *self.picture.layout();
         let scratch = self.scratch.of(&layout);
-        let reply = ffi::row(self.state, self.picture.planes(), row, scratch, cb, cr);
-        Refusal::check(reply.refusal)?;
-        self.state = reply.reader;
+        self.state = ffi::row(self.state, self.picture.planes(), row, scratch, cb, cr)?;
         Ok(())
     }
 }

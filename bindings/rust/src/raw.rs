@@ -1,0 +1,159 @@
+//! include/chroma.h in Rust: its structs and its functions, under its names and in its order. The
+//! header says what they mean. oracle/ and bench/ take this file too.
+
+#[repr(C)]
+#[derive(Clone, Copy)]
+pub(super) struct ChromaLayout {
+    pub(super) w: usize,
+    pub(super) h: usize,
+    pub(super) rh: usize,
+    pub(super) rv: usize,
+    pub(super) cw: usize,
+    pub(super) ch: usize,
+    pub(super) sample_bytes: usize,
+    pub(super) maxval: u32,
+}
+
+#[repr(C)]
+#[derive(Clone, Copy)]
+pub(super) struct ChromaStrides {
+    pub(super) y: usize,
+    pub(super) cb: usize,
+    pub(super) cr: usize,
+}
+
+#[repr(C)]
+#[derive(Clone, Copy, Debug, Default)]
+pub(super) struct ChromaPhase {
+    pub(super) left: u32,
+    pub(super) f: f32,
+}
+
+#[repr(C)]
+#[derive(Clone, Copy, Debug, Default)]
+pub(super) struct ChromaReader {
+    pub(super) w: usize,
+    pub(super) h: usize,
+    pub(super) rh: usize,
+    pub(super) rv: usize,
+    pub(super) cw: usize,
+    pub(super) ch: usize,
+    pub(super) phases: [ChromaPhase; 4],
+    pub(super) sample_bytes: usize,
+    pub(super) maxval: u32,
+    pub(super) place: usize,
+    pub(super) h_next: usize,
+    pub(super) f_next: usize,
+}
+
+#[repr(C)]
+pub(super) struct ChromaReply {
+    pub(super) refusal: u32,
+    pub(super) reader: ChromaReader,
+}
+
+#[repr(C)]
+pub(super) struct ChromaPixel {
+    pub(super) refusal: u32,
+    pub(super) r: u8,
+    pub(super) g: u8,
+    pub(super) b: u8,
+}
+
+#[repr(C)]
+pub(super) struct ChromaWritten {
+    pub(super) refusal: u32,
+    pub(super) len: usize,
+}
+
+extern "C" {
+    pub(super) fn chroma_open(
+        layout: ChromaLayout,
+        y: *const u8,
+        y_len: usize,
+        cb: *const u8,
+        cb_len: usize,
+        cr: *const u8,
+        cr_len: usize,
+        strides: ChromaStrides,
+        scratch: *const f32,
+        scratch_len: usize,
+        reader: ChromaReader,
+    ) -> ChromaReply;
+    pub(super) fn chroma_seek(reader: ChromaReader, row: usize) -> ChromaReply;
+    pub(super) fn chroma_row(
+        reader: ChromaReader,
+        y: *const u8,
+        y_len: usize,
+        cb: *const u8,
+        cb_len: usize,
+        cr: *const u8,
+        cr_len: usize,
+        strides: ChromaStrides,
+        row: usize,
+        scratch: *mut f32,
+        scratch_len: usize,
+        out_cb: *mut f32,
+        out_cb_len: usize,
+        out_cr: *mut f32,
+        out_cr_len: usize,
+    ) -> ChromaReply;
+    pub(super) fn chroma_linear_plane(
+        layout: ChromaLayout,
+        plane: *const u8,
+        plane_len: usize,
+        stride: usize,
+        scratch: *mut f32,
+        scratch_len: usize,
+        out: *mut u16,
+        out_len: usize,
+    ) -> u32;
+    pub(super) fn chroma_guided_plane(
+        layout: ChromaLayout,
+        y: *const u8,
+        y_len: usize,
+        y_stride: usize,
+        plane: *const u8,
+        plane_len: usize,
+        stride: usize,
+        scratch: *mut f32,
+        scratch_len: usize,
+        out: *mut u16,
+        out_len: usize,
+    ) -> u32;
+    pub(super) fn chroma_triangular_plane(
+        layout: ChromaLayout,
+        plane: *const u8,
+        plane_len: usize,
+        stride: usize,
+        out: *mut u16,
+        out_len: usize,
+    ) -> u32;
+    pub(super) fn chroma_fill(
+        layout: ChromaLayout,
+        y: *const u8,
+        y_len: usize,
+        cb: *const u8,
+        cb_len: usize,
+        cr: *const u8,
+        cr_len: usize,
+        strides: ChromaStrides,
+        upsampling: u32,
+        kernel: u32,
+        size: usize,
+        scratch: *mut f32,
+        scratch_len: usize,
+        out: *mut u8,
+        out_len: usize,
+    ) -> u32;
+    pub(super) fn chroma_exact_pixel(y: u32, cb256: u32, cr256: u32, maxval: u32) -> ChromaPixel;
+    pub(super) fn chroma_fixed_pixel(y: u32, cb: u32, cr: u32) -> ChromaPixel;
+    pub(super) fn chroma_picture(
+        input: *const u8,
+        input_len: usize,
+        scratch: *mut f32,
+        scratch_len: usize,
+        out: *mut u8,
+        out_len: usize,
+    ) -> ChromaWritten;
+}
