@@ -219,10 +219,10 @@ pub mod state {
     }
 }
 
-pub mod reader {
+pub mod opening {
     use crate::guided::{Reader, Reply};
     use crate::image::{self, Layout};
-    use crate::raw::{chroma_open, chroma_row, ChromaStrides};
+    use crate::raw::{chroma_open, ChromaStrides};
     use crate::states::{raw, reply};
 
     #[allow(clippy::too_many_arguments)]
@@ -239,6 +239,12 @@ pub mod reader {
             )
         })
     }
+}
+
+pub mod reader {
+    use crate::guided::{Reader, Reply};
+    use crate::raw::{chroma_row, ChromaStrides};
+    use crate::states::{raw, reply};
 
     #[allow(clippy::too_many_arguments)]
     pub fn row(
