@@ -5,4 +5,5 @@ pub mod FixedPoint
 pub mod Colours
 pub mod Blocks
 pub mod Puts
+pub mod Packed
 pub mod Cases

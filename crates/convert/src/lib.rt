@@ -9,6 +9,7 @@ mod exact;
 mod fixed;
 mod offsets;
 mod store;
+mod words;
 
 pub use block::Block;
 pub use block::rgb_block;
@@ -24,6 +25,7 @@ pub use offsets::chroma_offset;
 pub use offsets::green_offset;
 pub use store::put_block;
 pub use store::put_pixel;
+pub use words::put_words;
 
 // A colour, or the number of a refusal.
 pub enum Pixel {
