@@ -2,3 +2,4 @@
 pub mod Offsets
 pub mod Blocks
 pub mod Puts
+pub mod Packed

@@ -2,6 +2,7 @@
 mod block;
 mod fast;
 mod store;
+mod words;
 
 pub use block::Block;
 pub use block::rgb_block;
@@ -9,3 +10,4 @@ pub use fast::chroma_offset;
 pub use fast::green_offset;
 pub use store::put_block;
 pub use store::put_pixel;
+pub use words::put_words;

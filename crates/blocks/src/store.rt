@@ -16,7 +16,7 @@ pub fn put_pixel(dst: &mut [u8], at: usize, r: u8, g: u8, b: u8)
     dst[at + 2] = b;
 }
 
-// Inner: the pixels of a block from `at` on, `size` bytes each. Called with the size as a constant, 3 or 4, it compiles to plain stores.
+// Inner: the pixels of a block from `at` on, `size` bytes each. Called with the size as a constant, it compiles to wide stores.
 pub fn put_block(dst: &mut [u8], at: usize, size: usize, rows: [[u8; Block::LEN]; 3])
     requires { do n ← ⟦Block::LEN⟧; ⌜ (3 ≤ size) × (at + n * size ≤ length (now dst)) ⌝ }
     ensures { λ _. do n ← ⟦Block::LEN⟧ .entry; ⌜ now (dst .exit) ≡ pixels (now (dst .entry)) at size (blockPixel rows) n ⌝ }

@@ -58,7 +58,7 @@ fn blocks3(
     }
 }
 
-// The same with four bytes a pixel.
+// The same with four bytes a pixel, stored as words; `low` has the bits of their colour bytes.
 fn blocks4(
     layout: Layout,
     plane: &[u8],
@@ -67,22 +67,23 @@ fn blocks4(
     s: &[f32],
     out: &mut [u8],
     at: usize,
+    low: u32,
     m: usize,
 )
     requires { ⌜ RowLent layout (record { bytes = now plane; stride = stride }) row (length (now s)) ⌝ }
-    requires { ⌜ (layout .maxval ≡ 255) × (16 * m ≤ layout .w) × (at + layout .w * 4 ≤ length (now out)) ⌝ }
+    requires { ⌜ (layout .maxval ≡ 255) × (16 * m ≤ layout .w) × (at + layout .w * 4 ≤ length (now out)) × (low ≡ 16777215) ⌝ }
     ensures { λ _. ⌜ now (out .exit) ≡ pixels (now (out .entry)) at 4 (rowColour Exact layout (record { bytes = now (plane .entry); stride = stride }) row (now (s .entry))) (16 * m) ⌝ }
 {
     let mut b = 0;
     while b < m {
         let x = Block::LEN * b;
         let rows = block_at(layout, plane, stride, row, s, x);
-        blocks::put_block(out, at + x * 4, 4, rows);
+        blocks::put_words(out, at + x * 4, low, rows);
         b += 1;
     }
 }
 
-// The first m blocks, the pixel size chosen outside the loop.
+// The first m blocks, the pixel size chosen outside the loop. Four bytes a pixel have 2^24 - 1 as `low`, from the size, since it mustn't be a constant.
 fn blocks(
     layout: Layout,
     size: usize,
@@ -102,7 +103,8 @@ fn blocks(
         blocks3(layout, plane, stride, row, s, out, at, m);
         return;
     }
-    blocks4(layout, plane, stride, row, s, out, at, m);
+    let low = size as u32 * 4_194_304 - 1;
+    blocks4(layout, plane, stride, row, s, out, at, low, m);
 }
 
 // The pixel in column x, by the plain form.

@@ -23,11 +23,20 @@ returns c =
     let e : 3 ≡ a .size = omega arith in
     c .before .before .blocks3 .ensures ∙ ap (λ (n : ℕ). pixels (a .out .now) (a .at) n (rowColour Exact (a .layout) (record { bytes = a .plane .now; stride = a .stride }) (a .row) (a .s .now)) (16 * a .m)) e
 
+cast-low : tie.Need-cast-low
+cast-low c = search needs
+
+mul-low : tie.Need-mul-low
+mul-low c = search needs
+
+sub-low : tie.Need-sub-low
+sub-low c = search needs
+
 blocks4-requires : tie.Need-blocks4-requires
 blocks4-requires c κs =
     let p = c .before .before .before .before .before .pre in
     let e : c .before .before .before .before .before .args .size ≡ 4 = omega arith in
-    (p .0, (p .1 .0, p .1 .1, rw e at (p .1 .4)))
+    (p .0, (p .1 .0, p .1 .1, rw e at (p .1 .4), omega arith))
 
 same-length-2 : tie.Need-same-length-2
 same-length-2 c = search needs
@@ -41,4 +50,4 @@ returns-2 c =
 pub blocks-spec : {M : Type 1} → statement M
 blocks-spec =
     tie.close
-    (tie.spec blocks3-requires same-length returns blocks4-requires same-length-2 returns-2)
+    (tie.spec blocks3-requires same-length returns cast-low mul-low sub-low blocks4-requires same-length-2 returns-2)

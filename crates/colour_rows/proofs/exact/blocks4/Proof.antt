@@ -10,10 +10,10 @@ use Rattle.colour_rows.proofs.exact.blocks4.Statement.{statement}
 use Rattle.colour_rows.proofs.exact.blocks4.Tie as tie
 
 abbrev Inv-loop : tie.InvT-loop
-Inv-loop layout plane stride row s out₀ at m b₀ out b = (b ≤ m) × Stored out₀ out at 4 (16 * b) (rowColour Exact layout (record { bytes = plane; stride = stride }) row s)
+Inv-loop layout plane stride row s out₀ at low m b₀ out b = (b ≤ m) × Stored out₀ out at 4 (16 * b) (rowColour Exact layout (record { bytes = plane; stride = stride }) row s)
 
 abbrev μ-loop : tie.MeasureT-loop
-μ-loop layout plane stride row s out₀ at m b₀ out b = m - b
+μ-loop layout plane stride row s out₀ at low m b₀ out b = m - b
 
 -- block b fits the output
 room : (c : tie.In-loop Inv-loop μ-loop) → (let a = c .before .before .before .before .before .args in a .at + 16 * c .before .loop .b * 4 + 16 * 4 ≤ length (c .before .loop .out))
@@ -33,14 +33,14 @@ mul-x c = omega arith
 block-at-requires : tie.Need-block-at-requires Inv-loop μ-loop
 block-at-requires c κs = let p = c .before .before .before .before .before .pre in (p .0, (p .1 .0, omega arith))
 
-mul-put-block : tie.Need-mul-put-block Inv-loop μ-loop
-mul-put-block c = let h = room (c .before .before) in omega arith
+mul-put-words : tie.Need-mul-put-words Inv-loop μ-loop
+mul-put-words c = let h = room (c .before .before) in omega arith
 
-add-put-block : tie.Need-add-put-block Inv-loop μ-loop
-add-put-block c = let h = room (c .before .before) in omega arith
+add-put-words : tie.Need-add-put-words Inv-loop μ-loop
+add-put-words c = let h = room (c .before .before) in omega arith
 
-put-block-requires : tie.Need-put-block-requires Inv-loop μ-loop
-put-block-requires c κs = (omega arith, room (c .before .before))
+put-words-requires : tie.Need-put-words-requires Inv-loop μ-loop
+put-words-requires c κs = (c .before .before .before .before .before .before .before .pre .1 .3, room (c .before .before))
 
 add-b : tie.Need-add-b Inv-loop μ-loop
 add-b c = omega arith
@@ -49,7 +49,7 @@ loop-less : tie.Need-loop-less Inv-loop μ-loop
 loop-less c = omega arith
 
 loop-again : tie.Need-loop-again Inv-loop μ-loop
-loop-again c = (omega arith, stored-block (c .before .before .before .before .before .before .loop .inv .1) _ _ _ 16 _ (c .before .before .put-block .ensures) refl (omega arith) (c .before .before .before .before .block-at .ensures))
+loop-again c = (omega arith, stored-block (c .before .before .before .before .before .before .loop .inv .1) _ _ _ 16 _ (c .before .before .put-words .ensures) refl (omega arith) (c .before .before .before .before .block-at .ensures))
 
 same-length : tie.Need-same-length Inv-loop μ-loop
 same-length c = c .before .loop .inv .1 .len
@@ -66,9 +66,9 @@ blocks4-spec =
     loop-holds
     mul-x
     block-at-requires
-    mul-put-block
-    add-put-block
-    put-block-requires
+    mul-put-words
+    add-put-words
+    put-words-requires
     add-b
     loop-less
     loop-again
