@@ -14,6 +14,11 @@ const PIECES: usize = 41;
 
 const PIECE: usize = 12;
 
+struct Count {
+    ran: u64,
+    differ: u64,
+}
+
 // The source's bytes from, .. to - 1, at the front of a room; how many there was room for.
 fn copied(source: &[u8], from: usize, to: usize, room: &mut [u8]) -> usize
     ensures { λ r. ⌜ r ≤ length (now (room .exit)) ⌝ }
@@ -78,13 +83,13 @@ fn built(text: &[u8], base: &[u8], input: &mut [u8]) -> usize
     len
 }
 
-// Where the line at a place ends, in a list of n bytes.
-fn line_end(list: &[u8], n: usize, at: usize) -> usize
-    requires { ⌜ (at ≤ n) × (n ≤ length (now list)) ⌝ }
-    ensures { λ r. ⌜ (at ≤ r) × (r ≤ n) ⌝ }
+// Where the line at a place ends.
+fn line_end(list: &[u8], at: usize) -> usize
+    requires { ⌜ at ≤ length (now list) ⌝ }
+    ensures { λ r. ⌜ (at ≤ r) × (r ≤ length (now (list .entry))) ⌝ }
 {
     let mut end = at;
-    while end < n {
+    while end < list.len() {
         if list[end] == b'\n' {
             return end;
         }
@@ -107,21 +112,23 @@ fn says(text: &[u8], answer: usize, len: usize, sum: u32) -> bool {
     answered && sum as usize == cases::long(text, 3)
 }
 
-// Whether an outcome and what it left in out are the line's.
-fn agrees(text: &[u8], outcome: Outcome, out: &[u8]) -> bool {
+// Whether an outcome and what it left in out are the line's. On refusal scratch, too, must have the sum that it had before.
+fn agrees(text: &[u8], outcome: Outcome, before: u32, s: &[f32], out: &[u8]) -> bool {
     match outcome {
         Outcome::Written(len) => says(text, 0, len, cases::sum_bytes(0, out)),
-        Outcome::Refused(n) => says(text, n as usize, 0, refused_sum(n, out)),
+        Outcome::Refused(n) => {
+            let kept = cases::sum_floats(0, s) == before;
+            kept && says(text, n as usize, 0, refused_sum(n, out))
+        }
     }
 }
 
-// Whether the program's call does as its line says: scratch, too, is as it was on refusal.
+// Whether the program's call does as its line says.
 fn agreed(text: &[u8], input: &[u8], s: &mut [f32], out: &mut [u8]) -> bool {
     cases::mark_bytes(out, UNWRITTEN);
     let before = cases::sum_floats(0, s);
     let outcome = picture::picture(input, s, out);
-    let kept = cases::word(text, 0) == 0 || before == cases::sum_floats(0, s);
-    kept && agrees(text, outcome, out)
+    agrees(text, outcome, before, s, out)
 }
 
 // The case of a line, lent the front of each buffer: as much as the line says, or all that there is.
@@ -134,31 +141,39 @@ fn right(text: &[u8], base: &[u8], input: &mut [u8], s: &mut [f32], out: &mut [u
     agreed(text, &input[..len], &mut s[..space], &mut out[..room])
 }
 
+// All lines of the list: another base, or a case.
+fn replayed(list: &[u8], base: &mut [u8], input: &mut [u8], s: &mut [f32], out: &mut [u8]) -> Count
+    requires { ⌜ length (now list) ≤ 400000 ⌝ }
+{
+    let mut base_len = 0;
+    let mut ran = 0u64;
+    let mut differ = 0u64;
+    let mut at = 0;
+    while at < list.len() {
+        let end = line_end(list, at);
+        let text = &list[at..end];
+        at = end + 1;
+        if cases::byte(text, 0) == b'=' {
+            base_len = built(text, b"", base);
+            continue;
+        }
+        ran += 1;
+        differ += cases::more(right(text, &base[..base_len], input, s, out));
+    }
+    Count { ran, differ }
+}
+
 fn main() {
     let mut list = [0u8; 400_000];
     let mut base = [0u8; 49_200];
     let mut input = [0u8; 49_200];
     let mut s = [0.0f32; 9_216];
     let mut out = [0u8; 147_472];
-    let mut base_len = 0;
-    let mut ran = 0u64;
-    let mut differ = 0u64;
-    let mut at = 0;
     cases::mark_floats(&mut s, 0.0 / 0.0);
     let n = io::read_full(STDIN_FILENO, &mut list);
-    while at < n {
-        let end = line_end(&list, n, at);
-        let text = &list[at..end];
-        at = end + 1;
-        if cases::byte(text, 0) == b'=' {
-            base_len = built(text, b"", &mut base);
-            continue;
-        }
-        ran += 1;
-        differ += cases::more(right(text, &base[..base_len], &mut input, &mut s, &mut out));
-    }
-    io::print_decimal(STDOUT_FILENO, ran);
+    let count = replayed(&list[..n], &mut base, &mut input, &mut s, &mut out);
+    io::print_decimal(STDOUT_FILENO, count.ran);
     io::write_all(STDOUT_FILENO, b" inputs ran, ");
-    io::print_decimal(STDOUT_FILENO, differ);
+    io::print_decimal(STDOUT_FILENO, count.differ);
     io::write_all(STDOUT_FILENO, b" differ\n");
 }

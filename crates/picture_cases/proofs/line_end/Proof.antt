@@ -1,13 +1,14 @@
 use Prim.Native.Nat.{_-_, _≤_}
 use native.Mathlib.Omega.{arith}
+use lib.ListN.{length}
 use Rattle.picture_cases.proofs.line_end.Statement.{statement}
 use Rattle.picture_cases.proofs.line_end.Tie as tie
 
 abbrev Inv-loop : tie.InvT-loop
-Inv-loop list n at end₀ end = (at ≤ end) × (end ≤ n)
+Inv-loop list at end₀ end = (at ≤ end) × (end ≤ length list)
 
 abbrev μ-loop : tie.MeasureT-loop
-μ-loop list n at end₀ end = n - end
+μ-loop list at end₀ end = length list - end
 
 loop-holds : tie.Need-loop-holds Inv-loop μ-loop
 loop-holds c = omega arith
