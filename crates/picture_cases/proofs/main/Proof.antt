@@ -4,11 +4,11 @@ use borrow.Author.Needs.{needs}
 use Rattle.picture_cases.proofs.main.Statement.{statement}
 use Rattle.picture_cases.proofs.main.Tie as tie
 
-slice-aggregate-fill : tie.Need-slice-aggregate-fill
-slice-aggregate-fill c = search needs
+slice-aggregate-mark-floats : tie.Need-slice-aggregate-mark-floats
+slice-aggregate-mark-floats c = search needs
 
-fill-requires : tie.Need-fill-requires
-fill-requires c κs = search needs
+mark-floats-requires : tie.Need-mark-floats-requires
+mark-floats-requires c κs = search needs
 
 slice-aggregate-read-full : tie.Need-slice-aggregate-read-full
 slice-aggregate-read-full c = search needs
@@ -62,8 +62,8 @@ pub main-spec : {M : Type 1} → statement M
 main-spec =
     tie.close
     (tie.spec
-    slice-aggregate-fill
-    fill-requires
+    slice-aggregate-mark-floats
+    mark-floats-requires
     slice-aggregate-read-full
     read-full-requires
     array-share-prefix-list

@@ -2,32 +2,23 @@ use mathlib.Core.Path.{sym}
 use native.Mathlib.Omega.{arith}
 use lib.Seq.{length-take-le}
 use borrow.Author.Needs.{needs}
-use Rattle.picture_cases.proofs.one_case.Statement.{statement}
-use Rattle.picture_cases.proofs.one_case.Tie as tie
-
-add-built : tie.Need-add-built
-add-built c = search needs
+use Rattle.picture_cases.proofs.right.Statement.{statement}
+use Rattle.picture_cases.proofs.right.Tie as tie
 
 built-requires : tie.Need-built-requires
 built-requires c κs = search needs
 
-add-word : tie.Need-add-word
-add-word c = search needs
-
 word-requires : tie.Need-word-requires
 word-requires c κs = search needs
 
-lent-requires : tie.Need-lent-requires
-lent-requires c κs = search needs
-
-add-long : tie.Need-add-long
-add-long c = search needs
+least-requires : tie.Need-least-requires
+least-requires c κs = search needs
 
 long-requires : tie.Need-long-requires
 long-requires c κs = search needs
 
-lent-requires-2 : tie.Need-lent-requires-2
-lent-requires-2 c κs = search needs
+least-requires-2 : tie.Need-least-requires-2
+least-requires-2 c κs = search needs
 
 slice-reshare-prefix-agreed : tie.Need-slice-reshare-prefix-agreed
 slice-reshare-prefix-agreed c = search needs
@@ -62,18 +53,15 @@ same-length-3 c = search needs
 returns : tie.Need-returns
 returns c = search needs
 
-pub one-case-spec : {M : Type 1} → statement M
-one-case-spec =
+pub right-spec : {M : Type 1} → statement M
+right-spec =
     tie.close
     (tie.spec
-    add-built
     built-requires
-    add-word
     word-requires
-    lent-requires
-    add-long
+    least-requires
     long-requires
-    lent-requires-2
+    least-requires-2
     slice-reshare-prefix-agreed
     slice-aggregate-agreed
     slice-relend-prefix-agreed
