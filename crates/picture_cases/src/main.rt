@@ -66,7 +66,10 @@ fn put_piece(piece: &[u8], base: &[u8], room: &mut [u8]) -> usize
         (b / 256) as u8,
         (b % 256) as u8,
     ];
-    copied(&bytes, 0, (kind % 16) as usize, room)
+    if kind < b'0' {
+        return 0;
+    }
+    copied(&bytes, 0, (kind - b'0') as usize, room)
 }
 
 // The input of a line: its pieces one after another; how long it is.
