@@ -1,25 +1,14 @@
--- A block's rows: filled from the front, and its pixels.
+-- A block's pixels.
 use mathlib.Core.Path.{_≡_, refl}
 use mathlib.Core.List.{List}
-use Prim.Native.Nat.{ℕ, _+_, _<_, _≤_}
-use native.Mathlib.Nat.{zero-add}
-use lib.ListN.{length, getD, set}
-use Rattle.laws.proofs.Lists.{Run, run-more, run-inside}
+use Prim.Native.Nat.{ℕ, _<_}
+use lib.ListN.{getD}
 use Rattle.convert.specs.declared.bytes.Rgb.{Rgb}
 use Rattle.convert.specs.Kernels.{exact255}
 use Rattle.blocks.specs.Blocks.{BlockOf}
 use Rattle.convert.specs.Forms.{colourOf}
 use Rattle.blocks.specs.Stores.{pixels, blockPixel}
 use Rattle.blocks.proofs.Puts.{pixels-same}
-
-module _ {xs ys : List ℕ} {n : ℕ} {f : ℕ → ℕ} (r : Run xs ys 0 n f) where
-  -- one store more
-  pub front-more : (v : ℕ) → v ≡ f n → Run xs (set ys n v) 0 (n + 1) f
-  front-more v e = rw (zero-add n) at (run-more r v e)
-
-  -- what was stored
-  pub front-at : (i : ℕ) → i < n → n ≤ length xs → getD ys i 0 ≡ f i
-  front-at i h b = rw (zero-add i) at (run-inside r i 0 h (rw (zero-add n) b))
 
 module _ {rows : List (List ℕ)} {y cb256 cr256 : List ℕ} (b : BlockOf rows y cb256 cr256) (k : ℕ) (h : k < 16) where
   -- pixel k of a block is the exact kernel's

@@ -1,3 +1,4 @@
 -- Laws that the proofs and callers cite.
 pub mod Nines
 pub mod Wholes
+pub mod Sixteens

@@ -1,10 +1,17 @@
 // The cells that have neighbours on both sides, in whole numbers: no edge is looked at, so that these loops compute many cells at a time.
 ghost use mathlib.Core.Path.{_≡_};
-ghost use Prim.Native.Nat.{_+_, _*_, _≤_, _<_};
-ghost use lib.ListN.{length};
+ghost use Prim.Native.Nat.{ℕ, _+_, _*_, _≤_, _<_};
+ghost use lib.ListN.{length, getD};
 ghost use Rattle.laws.specs.Floats.{f32};
 ghost use Rattle.laws.specs.Lists.{put};
 ghost use Rattle.extremes.specs.Extremes.{wholeOp, threeFrom, nineFrom};
+
+pub struct Cells;
+
+impl Cells {
+    // How many cells are computed at once.
+    pub const BLOCK: usize = 16;
+}
 
 // The greater or the smaller of two bytes.
 fn pick_byte(greatest: bool, a: u8, b: u8) -> u8
@@ -36,8 +43,8 @@ fn byte_nine(plane: &[u8], greatest: bool, u: usize, m: usize, d: usize) -> u8
     pick_byte(greatest, pick_byte(greatest, a, b), c)
 }
 
-// Inner: n cells of one-byte samples, to s from dst on; the left neighbours of the first begin at u, m and d.
-pub fn byte_run(
+// n cells of one-byte samples one by one, to s from dst on; the left neighbours of the first begin at u, m and d.
+fn byte_cells(
     plane: &[u8],
     greatest: bool,
     u: usize,
@@ -55,6 +62,71 @@ pub fn byte_run(
         s[dst + i] = byte_nine(plane, greatest, u + i, m + i, d + i) as f32;
         i += 1;
     }
+}
+
+// Sixteen cells of one-byte samples; the left neighbours of the first begin at u, m and d.
+fn byte_block(plane: &[u8], greatest: bool, u: usize, m: usize, d: usize) -> [u8; Cells::BLOCK]
+    requires { ⌜ (u + 18 ≤ length (now plane)) × (m + 18 ≤ length (now plane)) × (d + 18 ≤ length (now plane)) ⌝ }
+    ensures { λ r. ⌜ ((k : ℕ) → k < 16 → getD r k 0 ≡ nineFrom greatest 1 (now (plane .entry)) (u + k) (m + k) (d + k)) ⌝ }
+{
+    let mut block = [0u8; Cells::BLOCK];
+    for k in 0..Cells::BLOCK {
+        block[k] = byte_nine(plane, greatest, u + k, m + k, d + k);
+    }
+    block
+}
+
+// A block as floats, to s from `at` on.
+fn put_floats(s: &mut [f32], at: usize, block: [u8; Cells::BLOCK])
+    requires { ⌜ at + 16 ≤ length (now s) ⌝ }
+    ensures { λ _. ⌜ now (s .exit) ≡ put (now (s .entry)) at 16 (λ k. f32 (getD block k 0)) ⌝ }
+{
+    for k in 0..Cells::BLOCK {
+        s[at + k] = block[k] as f32;
+    }
+}
+
+// n blocks, to s from dst on.
+fn byte_blocks(
+    plane: &[u8],
+    greatest: bool,
+    u: usize,
+    m: usize,
+    d: usize,
+    n: usize,
+    s: &mut [f32],
+    dst: usize,
+)
+    requires { ⌜ (u + 16 * n + 2 ≤ length (now plane)) × (m + 16 * n + 2 ≤ length (now plane)) × (d + 16 * n + 2 ≤ length (now plane)) × (dst + 16 * n ≤ length (now s)) ⌝ }
+    ensures { λ _. ⌜ now (s .exit) ≡ put (now (s .entry)) dst (16 * n) (λ i. f32 (nineFrom greatest 1 (now (plane .entry)) (u + i) (m + i) (d + i))) ⌝ }
+{
+    let mut b = 0;
+    while b < n {
+        let i = Cells::BLOCK * b;
+        let block = byte_block(plane, greatest, u + i, m + i, d + i);
+        put_floats(s, dst + i, block);
+        b += 1;
+    }
+}
+
+// Inner: n cells of one-byte samples by sixteens, and the rest one by one, to s from dst on; the left neighbours of the first begin at u, m and d.
+pub fn byte_run(
+    plane: &[u8],
+    greatest: bool,
+    u: usize,
+    m: usize,
+    d: usize,
+    n: usize,
+    s: &mut [f32],
+    dst: usize,
+)
+    requires { ⌜ (u + n + 2 ≤ length (now plane)) × (m + n + 2 ≤ length (now plane)) × (d + n + 2 ≤ length (now plane)) × (dst + n ≤ length (now s)) ⌝ }
+    ensures { λ _. ⌜ now (s .exit) ≡ put (now (s .entry)) dst n (λ i. f32 (nineFrom greatest 1 (now (plane .entry)) (u + i) (m + i) (d + i))) ⌝ }
+{
+    let k = n / Cells::BLOCK;
+    let i = Cells::BLOCK * k;
+    byte_blocks(plane, greatest, u, m, d, k, s, dst);
+    byte_cells(plane, greatest, u + i, m + i, d + i, n - i, s, dst + i);
 }
 
 // The greater or the smaller of two samples.

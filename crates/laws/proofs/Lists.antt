@@ -156,6 +156,14 @@ module _ {A : Type 0} {xs ys : List A} {at n : ℕ} {f : ℕ → A} (r : Run xs 
   pub run-inside : (i : ℕ) (d : A) → i < n → at + n ≤ length xs → getD ys (at + i) d ≡ f i
   run-inside i d h b = ap (λ (l : List A). getD l (at + i) d) (r .eq) ∙ put-inside xs at n f i d h b
 
+-- an array that is filled from the front
+module _ {A : Type 0} {xs ys : List A} {n : ℕ} {f : ℕ → A} (r : Run xs ys 0 n f) where
+  pub front-more : (v : A) → v ≡ f n → Run xs (set ys n v) 0 (n + 1) f
+  front-more v e = rw (zero-add n) at (run-more r v e)
+
+  pub front-at : (i : ℕ) (d : A) → i < n → n ≤ length xs → getD ys i d ≡ f i
+  front-at i d h b = rw (zero-add i) at (run-inside r i d h (rw (zero-add n) b))
+
 -- ---- runs that are written by a callee, or two values at a time
 
 -- what a callee wrote is a run

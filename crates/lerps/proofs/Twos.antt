@@ -50,10 +50,6 @@ pair-turn F i b u v p q =
     let h : 2 + (2 * (i + b) + 1) ≡ 2 + 2 * i + (2 * b + 1) = omega arith in
     (p ∙ ap F e, q ∙ ap F h)
 
--- what a block of pixels holds, once it is filled from the front
-pub block-at : {xs ys : List Float} {f : ℕ → Float} (n : ℕ) → Run xs ys 0 n f → (k : ℕ) → k < n → n ≤ length xs → getD ys k nan ≡ f k
-block-at n r k h b = rw (zero-add k) at (run-inside r k nan h (rw (zero-add n) b))
-
 -- a block behind the n blocks that were stored: pixel k of it is F of 2 + 16·n + k
 pub lanes-more : {xs ys : List Float} {at : ℕ} (n : ℕ) (F : ℕ → Float) → Run xs ys at (16 * n) (λ k. F (2 + k)) → (zs block : List Float) → zs ≡ put ys (at + 16 * n) 16 (λ k. getD block k nan) → ((k : ℕ) → k < 16 → getD block k nan ≡ F (2 + 2 * (8 * n) + k))
     → Run xs zs at (16 * (n + 1)) (λ k. F (2 + k))

@@ -1,8 +1,8 @@
 use native.Mathlib.Omega.{arith}
 use Rattle.details.proofs.blocks.detail_block.Statement.{statement}
-use Rattle.laws.proofs.Lists.{Run, run-at, run-none, run-two}
+use Rattle.laws.proofs.Lists.{Run, run-at, run-none, run-two, front-at}
 use Prim.Native.Nat.{_*_, _+_, _-_, _≤_}
-use Rattle.lerps.proofs.Twos.{block-at, pair-turn}
+use Rattle.lerps.proofs.Twos.{pair-turn}
 use Rattle.details.proofs.Details.{detail-pair-at}
 use Rattle.details.specs.Pixels.{detailIn}
 use mathlib.Core.Path.{refl}
@@ -58,7 +58,7 @@ loop-again c = let a = c .before .before .before .before .before .args in
     (omega arith, run-two (l .inv .1) _ _ (2 * (l .b + 1)) _ _ refl (omega arith) (omega arith) (t .0) (t .1))
 
 returns : tie.Need-returns Inv-loop μ-loop
-returns c = λ k h. block-at 16 (run-at (c .before .loop .inv .1) 16 (omega arith)) k h (omega arith)
+returns c = λ k h. front-at (run-at (c .before .loop .inv .1) 16 (omega arith)) k nan h (omega arith)
 
 pub detail-block-spec : {M : Type 1} → statement M
 detail-block-spec =

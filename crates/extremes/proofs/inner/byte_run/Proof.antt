@@ -1,78 +1,52 @@
-use mathlib.Core.Path.{ap}
-use Prim.Native.Nat.{_+_, _-_, _≤_}
+use Prim.Native.Nat.{_-_, _*_, _/_}
 use native.Mathlib.Omega.{arith}
-use Rattle.extremes.proofs.inner.byte_run.Statement.{statement}
-use Rattle.laws.proofs.Lists.{Run, run-end, run-more, run-none}
-use Rattle.laws.specs.Floats.{f32}
 use borrow.Author.Needs.{needs}
 use Rattle.extremes.specs.Extremes.{nineFrom}
+use Rattle.extremes.proofs.Sixteens.{rest-behind}
+use Rattle.extremes.proofs.inner.byte_run.Statement.{statement}
 use Rattle.extremes.proofs.inner.byte_run.Tie as tie
 
-abbrev Inv-loop : tie.InvT-loop
-Inv-loop plane greatest u m d n s₀ dst i₀ s i = (i ≤ n) × Run s₀ s dst i (λ k. f32 (nineFrom greatest 1 plane (u + k) (m + k) (d + k)))
+mul-i : tie.Need-mul-i
+mul-i c = search needs
 
-abbrev μ-loop : tie.MeasureT-loop
-μ-loop plane greatest u m d n s₀ dst i₀ s i = n - i
+byte-blocks-requires : tie.Need-byte-blocks-requires
+byte-blocks-requires c κs = search needs
 
-loop-holds : tie.Need-loop-holds Inv-loop μ-loop
-loop-holds c = (omega arith, run-none _ _ _)
+add-byte-cells : tie.Need-add-byte-cells
+add-byte-cells c = search needs
 
-add-byte-nine : tie.Need-add-byte-nine Inv-loop μ-loop
-add-byte-nine c = omega arith
+add-byte-cells-2 : tie.Need-add-byte-cells-2
+add-byte-cells-2 c = search needs
 
-add-byte-nine-2 : tie.Need-add-byte-nine-2 Inv-loop μ-loop
-add-byte-nine-2 c = omega arith
+add-byte-cells-3 : tie.Need-add-byte-cells-3
+add-byte-cells-3 c = search needs
 
-add-byte-nine-3 : tie.Need-add-byte-nine-3 Inv-loop μ-loop
-add-byte-nine-3 c = omega arith
+sub-byte-cells : tie.Need-sub-byte-cells
+sub-byte-cells c = search needs
 
-byte-nine-requires : tie.Need-byte-nine-requires Inv-loop μ-loop
-byte-nine-requires c κs = search needs
+add-byte-cells-4 : tie.Need-add-byte-cells-4
+add-byte-cells-4 c = search needs
 
-int-to-float-s : tie.Need-int-to-float-s Inv-loop μ-loop
-int-to-float-s c = search needs
+byte-cells-requires : tie.Need-byte-cells-requires
+byte-cells-requires c κs = search needs
 
-add-s : tie.Need-add-s Inv-loop μ-loop
-add-s c = omega arith
+same-length : tie.Need-same-length
+same-length c = search needs
 
-mul-s : tie.Need-mul-s Inv-loop μ-loop
-mul-s c = omega arith
-
-slice-write-s : tie.Need-slice-write-s Inv-loop μ-loop
-slice-write-s c = omega arith
-
-add-i : tie.Need-add-i Inv-loop μ-loop
-add-i c = omega arith
-
-loop-less : tie.Need-loop-less Inv-loop μ-loop
-loop-less c = omega arith
-
-loop-again : tie.Need-loop-again Inv-loop μ-loop
-loop-again c = (omega arith, run-more (c .before .before .before .loop .inv .1) _ (ap f32 (c .before .byte-nine .ensures)))
-
-same-length : tie.Need-same-length Inv-loop μ-loop
-same-length c = c .before .loop .inv .1 .len
-
-returns : tie.Need-returns Inv-loop μ-loop
-returns c = run-end (c .before .loop .inv .1) _ (omega arith) (omega arith)
+returns : tie.Need-returns
+returns c = let a = c .before .before .before .before .before .before .before .before .before .before .args in rest-behind (nineFrom (a .greatest) 1 (a .plane .now)) (a .u) (a .m) (a .d) (a .s .now) _ _ (a .dst) (16 * (a .n / 16)) (a .n - 16 * (a .n / 16)) (a .n) (c .before .before .before .before .before .before .byte-blocks .ensures) (c .before .before .byte-cells .ensures) (omega arith)
 
 pub byte-run-spec : {M : Type 1} → statement M
 byte-run-spec =
     tie.close
     (tie.spec
-    Inv-loop
-    μ-loop
-    loop-holds
-    add-byte-nine
-    add-byte-nine-2
-    add-byte-nine-3
-    byte-nine-requires
-    int-to-float-s
-    add-s
-    mul-s
-    slice-write-s
-    add-i
-    loop-less
-    loop-again
+    mul-i
+    byte-blocks-requires
+    add-byte-cells
+    add-byte-cells-2
+    add-byte-cells-3
+    sub-byte-cells
+    add-byte-cells-4
+    byte-cells-requires
     same-length
     returns)

@@ -2,8 +2,8 @@ use mathlib.Core.Path.{refl}
 use Prim.Native.Nat.{_+_, _-_, _*_, _≤_}
 use native.Mathlib.Omega.{arith}
 use Rattle.values.proofs.blocks.value_block.Statement.{statement}
-use Rattle.laws.proofs.Lists.{Run, run-at, run-none, run-two}
-use Rattle.lerps.proofs.Twos.{block-at, pair-turn}
+use Rattle.laws.proofs.Lists.{Run, run-at, run-none, run-two, front-at}
+use Rattle.lerps.proofs.Twos.{pair-turn}
 use Rattle.values.proofs.Twos.{value-pair-at}
 use Rattle.values.specs.Values.{valueAt}
 use Rattle.values.proofs.blocks.value_block.Tie as tie
@@ -58,7 +58,7 @@ loop-again c = let a = c .before .before .before .before .args in
     (omega arith, run-two (l .inv .1) _ _ (2 * (l .b + 1)) _ _ refl (omega arith) (omega arith) (t .0) (t .1))
 
 returns : tie.Need-returns Inv-loop μ-loop
-returns c = λ k h. block-at 16 (run-at (c .before .loop .inv .1) 16 (omega arith)) k h (omega arith)
+returns c = λ k h. front-at (run-at (c .before .loop .inv .1) 16 (omega arith)) k nan h (omega arith)
 
 pub value-block-spec : {M : Type 1} → statement M
 value-block-spec =
