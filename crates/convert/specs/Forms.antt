@@ -1,9 +1,7 @@
 -- What the inner forms give, red and blue as one over their multiplier. Definitions only.
 use mathlib.Core.Path.{_≡_}
 use mathlib.Core.Logic.{_≢_}
-use mathlib.Core.List.{List}
 use Prim.Native.Nat.{ℕ, _+_, _-_, _*_, _<_, _≤_}
-use lib.ListN.{getD}
 use lib.IntN.{ℤ, pos, _+ℤ_, _*ℤ_}
 use Rattle.laws.specs.Differences.{floorDiv, limit}
 use Rattle.convert.specs.declared.bytes.Rgb.{Rgb}

@@ -1,25 +1,16 @@
 -- Cells lerped across, and the pixels that are made of them: only the cells of the row are looked at.
 use mathlib.Core.Path.{_≡_, refl, ap, _∙_}
-use mathlib.Core.List.{List}
-use Prim.Native.Nat.{ℕ, _+_, _-_, _*_, _/_, _%_, _≤_, _<_, min}
+use Prim.Native.Nat.{ℕ, _+_, _-_, _/_, _%_, _<_, min}
 use native.Mathlib.Omega.{arith}
 use lib.Ieee.{Float}
-use Rattle.laws.specs.Floats.{f32, _⊖_}
-use Rattle.laws.specs.Lists.{put}
-use Rattle.laws.proofs.Lists.{put-same}
 use Rattle.image.specs.declared.layout.Layout.{Layout}
 use Rattle.image.specs.Tests.{Sound}
-use Rattle.image.specs.Samples.{Plane, sampleAt}
+use Rattle.image.specs.Samples.{Plane}
 use Rattle.taps.specs.declared.taps.Phase.{Phase}
 use Rattle.taps.specs.Taps.{phaseOf}
-use Rattle.image.specs.Scratch.{cellAt, scratchNeed}
-use Rattle.guidance.specs.Guided.{acrossTo, detailOf}
-use Rattle.guided.specs.Scratch.{detailAt, columnAt}
+use Rattle.guidance.specs.Guided.{acrossTo}
 use Rattle.guided.proofs.Taken.{own-column}
-use Rattle.guided.proofs.Places.{column-behind}
-use Rattle.lerps.specs.Columns.{ColumnGiven}
 use Rattle.lerps.specs.Across.{phased}
-use Rattle.laws.proofs.Counts.{none-plus, plus-none}
 
 -- rows that are alike in their n cells are lerped alike
 pub phased-same : (g h : ℕ → Float) (n : ℕ) (p : Phase) (i : ℕ) → i < n → ((k : ℕ) → k < n → g k ≡ h k) → phased g n p i ≡ phased h n p i

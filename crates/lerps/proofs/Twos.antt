@@ -2,24 +2,19 @@
 use mathlib.Core.Path.{_≡_, refl, sym, ap, _∙_}
 use mathlib.Core.List.{List}
 use Prim.Native.Nat.{ℕ, _+_, _-_, _*_, _/_, _%_, _≤_, _<_, min}
-use native.Mathlib.Nat.{zero-add}
 use native.Mathlib.Omega.{arith}
-use lib.ListN.{getD, length}
+use lib.ListN.{getD}
 use lib.Ieee.{Float, nan}
-use Rattle.laws.specs.Floats.{f32, _⊖_}
 use Rattle.laws.specs.Lists.{put}
-use Rattle.laws.proofs.Lists.{put-same, put-after, put-chain, Run, run-inside, run-run}
+use Rattle.laws.proofs.Lists.{put-same, put-after, put-chain, Run, run-run}
 use Rattle.image.specs.declared.layout.Layout.{Layout}
 use Rattle.image.specs.Tests.{Sound}
-use Rattle.image.specs.Samples.{Plane, sampleAt}
-use Rattle.image.specs.Scratch.{cellAt}
+use Rattle.image.specs.Samples.{Plane}
 use Rattle.taps.specs.Taps.{lerpOf, fractionOf, phaseOf}
-use Rattle.guidance.specs.Guided.{acrossTo, detailOf}
+use Rattle.guidance.specs.Guided.{acrossTo}
 use Rattle.lerps.specs.declared.pairs.Pair.{Pair}
 use Rattle.lerps.specs.Across.{pairOf}
-use Rattle.lerps.proofs.Lerps.{across-same}
 use Rattle.lerps.proofs.Phases.{Runs}
-use Rattle.laws.proofs.Fractions.{chain}
 use Rattle.laws.proofs.Counts.{plus-plus}
 
 -- the pixels of cell i + 1

@@ -1,8 +1,7 @@
 -- The steps of a linear row over lent scratch, as the inner functions' contracts say them. Definitions only.
 use mathlib.Core.List.{List}
 use Prim.Native.Nat.{ℕ, _+_, _-_, _*_, _/_, _%_}
-use lib.ListN.{getD}
-use lib.Ieee.{Float, nan}
+use lib.Ieee.{Float}
 use Rattle.laws.specs.Floats.{f32}
 use Rattle.laws.specs.Lists.{put}
 use Rattle.image.specs.Samples.{sampleOf}

@@ -1,6 +1,6 @@
 -- 'Triangular' of document 01: a whole chroma plane in whole numbers, and the reasons for turning the call down. Definitions only.
 use mathlib.Core.Path.{_≡_}
-use mathlib.Core.Bool.{Bool, true, false, _&&_, _||_, not, cond}
+use mathlib.Core.Bool.{Bool, false, _&&_, _||_, not, cond}
 use mathlib.Core.List.{List, [], _∷_, _++_}
 use Prim.Native.Nat.{ℕ, _+_, _*_, _/_}
 use lib.Dec.{ltb, leb, eqb}

@@ -1,3 +1,4 @@
+use lib.Ieee.{nan}
 use native.Mathlib.Omega.{arith}
 use Rattle.details.proofs.blocks.detail_block.Statement.{statement}
 use Rattle.laws.proofs.Lists.{Run, run-at, run-none, run-two, front-at}

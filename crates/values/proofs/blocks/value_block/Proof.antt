@@ -1,5 +1,6 @@
 use mathlib.Core.Path.{refl}
 use Prim.Native.Nat.{_+_, _-_, _*_, _≤_}
+use lib.Ieee.{nan}
 use native.Mathlib.Omega.{arith}
 use Rattle.values.proofs.blocks.value_block.Statement.{statement}
 use Rattle.laws.proofs.Lists.{Run, run-at, run-none, run-two, front-at}
