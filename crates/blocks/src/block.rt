@@ -5,11 +5,11 @@ ghost use lib.ListN.{getD};
 ghost use Rattle.convert.specs.Kernels.{exact255};
 ghost use Rattle.blocks.specs.Blocks.{BlockOf, InLimits};
 ghost use Rattle.convert.specs.Forms.{Suits, plusChroma};
+use super::limits::limit_pack;
 use crate::fast::chroma_offset;
 use crate::fast::green_offset;
 use convert::Bias;
 use convert::Multiplier;
-use convert::limit8;
 
 // A block of pixels.
 pub struct Block;
@@ -23,7 +23,7 @@ fn chroma_byte(k: u32, bias: u32, y: u32, c: u32) -> u8
     requires { ⌜ Suits k bias × (y ≤ 65535) × (c ≤ 65536) ⌝ }
     ensures { λ r. ⌜ r ≡ plusChroma k y c ⌝ }
 {
-    limit8(y + chroma_offset(k, bias, c), bias)
+    limit_pack(y + chroma_offset(k, bias, c), bias)
 }
 
 // Green of one pixel.
@@ -31,7 +31,7 @@ fn green_byte(y: u32, cb: u32, cr: u32) -> u8
     requires { ⌜ (y ≤ 65535) × (cb ≤ 65536) × (cr ≤ 65536) ⌝ }
     ensures { λ r. ⌜ r ≡ exact255 y cb cr .green ⌝ }
 {
-    limit8(y + green_offset(cb, cr), Bias::GREEN)
+    limit_pack(y + green_offset(cb, cr), Bias::GREEN)
 }
 
 // The red or the blue row.

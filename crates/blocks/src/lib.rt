@@ -1,6 +1,7 @@
 // The colour of sixteen pixels at a time at maxval 255, and pixels stored.
 mod block;
 mod fast;
+mod limits;
 mod store;
 mod words;
 

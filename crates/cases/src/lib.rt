@@ -26,6 +26,12 @@ pub use text::scratch_part;
 pub use text::size;
 pub use text::word;
 
+// How many lines of a list ran, and how many differed.
+pub struct Count {
+    pub ran: u64,
+    pub differ: u64,
+}
+
 // Inner: an answer as a line says it: 0, or the refusal's number.
 pub fn number(answer: Answer) -> usize {
     match answer {

@@ -1,7 +1,6 @@
 // Three bytes of colour, and numbers limited to one byte.
 ghost use mathlib.Core.Path.{_≡_};
-ghost use Prim.Native.Nat.{_-_, _/_, _<_, _≤_, min};
-ghost use Rattle.laws.specs.Differences.{limit};
+ghost use Prim.Native.Nat.{_-_, _/_, _<_, min};
 
 // The colour bytes of a pixel.
 pub struct Rgb {
@@ -10,25 +9,18 @@ pub struct Rgb {
     pub b: u8,
 }
 
-// z limited to 0..=255. Signed and with the upper limit first, so that sixteen of them compile to packs that limit.
-fn limit_byte(z: i32) -> u8
-    ensures { λ r. ⌜ r ≡ limit 255 z ⌝ }
-{
-    if 255 < z {
-        return 255;
-    }
-    if z < 0 {
-        return 0;
-    }
-    z as u8
-}
-
 // Inner: v less its bias, limited to 0..=255.
 pub fn limit8(v: u32, bias: u32) -> u8
-    requires { ⌜ (v ≤ 2147483647) × (bias ≤ 2147483647) ⌝ }
     ensures { λ r. ⌜ r ≡ min (v - bias) 255 ⌝ }
 {
-    limit_byte(v as i32 - bias as i32)
+    if v <= bias {
+        return 0;
+    }
+    let x = v - bias;
+    if 255 <= x {
+        return 255;
+    }
+    x as u8
 }
 
 // Inner: (p - n) / q, limited to 0..=255.

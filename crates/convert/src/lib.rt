@@ -9,7 +9,6 @@ mod fixed;
 mod offsets;
 
 pub use bytes::Rgb;
-pub use bytes::limit8;
 pub use exact::ycbcr_frac_to_rgb8_8bit;
 pub use exact::ycbcr_frac_to_rgb8_at;
 pub use fixed::ycbcr_to_rgb8_fixed;

@@ -2,6 +2,7 @@
 // oracle/fill-cases made the list: a line of 137 bytes for each call, a kind and 27 words of four hex digits. A fill's:
 // w h rh rv cw ch sample_bytes maxval(2) y_stride cb_stride cr_stride y_len cb_len cr_len seed y_shape cb_shape cr_shape
 // kernel size space(2) room answer sum(2). A pixel's: y(2) cb(2) cr(2) maxval(2), sixteen of 0, answer colour(2).
+use cases::Count;
 use colour_rows::YcbcrKernel;
 use convert::Pixel;
 use fill::ChromaUpsampling;
@@ -158,24 +159,30 @@ fn right(
     }
 }
 
-fn main() {
+// All lines of the list, over the buffers that they share.
+fn replayed(y: &mut [u8], cb: &mut [u8], cr: &mut [u8], s: &mut [f32], out: &mut [u8]) -> Count {
     let mut ran = 0u64;
     let mut differ = 0u64;
     let mut text = [0u8; 137];
-    let mut y = [0u8; 20_000];
-    let mut cb = [0u8; 20_000];
-    let mut cr = [0u8; 20_000];
-    let mut s = [0.0f32; 600_000];
-    let mut out = [0u8; 40_000];
     for _ in 0..65_536usize {
         if io::read_full(STDIN_FILENO, &mut text) < 137 {
             break;
         }
         ran += 1;
-        differ += cases::more(right(&text, &mut y, &mut cb, &mut cr, &mut s, &mut out));
+        differ += cases::more(right(&text, y, cb, cr, s, out));
     }
-    io::print_decimal(STDOUT_FILENO, ran);
+    Count { ran, differ }
+}
+
+fn main() {
+    let mut y = [0u8; 20_000];
+    let mut cb = [0u8; 20_000];
+    let mut cr = [0u8; 20_000];
+    let mut s = [0.0f32; 600_000];
+    let mut out = [0u8; 40_000];
+    let count = replayed(&mut y, &mut cb, &mut cr, &mut s, &mut out);
+    io::print_decimal(STDOUT_FILENO, count.ran);
     io::write_all(STDOUT_FILENO, b" cases ran, ");
-    io::print_decimal(STDOUT_FILENO, differ);
+    io::print_decimal(STDOUT_FILENO, count.differ);
     io::write_all(STDOUT_FILENO, b" differ\n");
 }

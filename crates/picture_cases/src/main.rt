@@ -2,6 +2,7 @@
 // All share one scratch, which is not-a-number at first and never cleared. oracle/picture-cases made the list; its head says what a line is.
 ghost use Prim.Native.Nat.{_≤_};
 ghost use lib.ListN.{length};
+use cases::Count;
 use libc::STDIN_FILENO;
 use libc::STDOUT_FILENO;
 use picture::Outcome;
@@ -13,11 +14,6 @@ const UNWRITTEN: u8 = 160;
 const PIECES: usize = 41;
 
 const PIECE: usize = 12;
-
-struct Count {
-    ran: u64,
-    differ: u64,
-}
 
 // The source's bytes from, .. to - 1, at the front of a room; how many there was room for.
 fn copied(source: &[u8], from: usize, to: usize, room: &mut [u8]) -> usize

@@ -1,6 +1,7 @@
 // Replays the fixed list of whole planes on standard input, triangular, linear and guided, and writes how many ran and how many differ.
 // oracle/plane-cases made the list: a line of 92 bytes for each call, a kind and 18 words of four hex digits:
 // w h rh rv cw ch sample_bytes maxval(2) stride plane_len space(2) room seed answer sum(2).
+use cases::Count;
 use laws::Answer;
 use libc::STDIN_FILENO;
 use libc::STDOUT_FILENO;
@@ -119,24 +120,30 @@ fn right(text: &[u8], luma: &[u8], plane: &mut [u8], s: &mut [f32], out: &mut [u
     )
 }
 
-fn main() {
+// All lines of the list, over the buffers that they share.
+fn replayed(luma: &[u8], plane: &mut [u8], s: &mut [f32], out: &mut [u16]) -> Count {
     let mut ran = 0u64;
     let mut differ = 0u64;
     let mut text = [0u8; 92];
-    let mut luma = [0u8; 20_000];
-    let mut plane = [0u8; 20_000];
-    let mut s = [0.0f32; 200_000];
-    let mut out = [0u16; 20_000];
-    cases::grow(&mut luma, LUMA, 0);
     for _ in 0..65_536usize {
         if io::read_full(STDIN_FILENO, &mut text) < 92 {
             break;
         }
         ran += 1;
-        differ += cases::more(right(&text, &luma, &mut plane, &mut s, &mut out));
+        differ += cases::more(right(&text, luma, plane, s, out));
     }
-    io::print_decimal(STDOUT_FILENO, ran);
+    Count { ran, differ }
+}
+
+fn main() {
+    let mut luma = [0u8; 20_000];
+    let mut plane = [0u8; 20_000];
+    let mut s = [0.0f32; 200_000];
+    let mut out = [0u16; 20_000];
+    cases::grow(&mut luma, LUMA, 0);
+    let count = replayed(&luma, &mut plane, &mut s, &mut out);
+    io::print_decimal(STDOUT_FILENO, count.ran);
     io::write_all(STDOUT_FILENO, b" cases ran, ");
-    io::print_decimal(STDOUT_FILENO, differ);
+    io::print_decimal(STDOUT_FILENO, count.differ);
     io::write_all(STDOUT_FILENO, b" differ\n");
 }

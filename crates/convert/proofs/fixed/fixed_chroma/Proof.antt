@@ -31,7 +31,7 @@ add-limit8 : tie.Need-add-limit8
 add-limit8 c = omega (arith, product-most (c .args .k) (c .args .c) 116130 65535 (c .pre .0) (omega arith))
 
 limit8-requires : tie.Need-limit8-requires
-limit8-requires c κs = (omega (arith, product-most (c .args .k) (c .args .c) 116130 65535 (c .pre .0) (omega arith)), omega arith)
+limit8-requires c κs = search needs
 
 returns : tie.Need-returns
 returns c = let s = c .before in c .limit8 .ensures ∙ sym (plus-fixed (s .args .k) (s .args .bias) (s .args .y) (s .args .c) (s .pre .2))

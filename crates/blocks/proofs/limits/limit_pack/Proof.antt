@@ -9,8 +9,8 @@ use mir.ValLaws.{toZ-pos, toZ-ofZ}
 use borrow.Author.Needs.{needs}
 use Rattle.laws.specs.Differences.{Diff, limit}
 use Rattle.laws.proofs.Differences.{of-pos, move, minus, limited}
-use Rattle.convert.proofs.bytes.limit8.Statement.{statement}
-use Rattle.convert.proofs.bytes.limit8.Tie as tie
+use Rattle.blocks.proofs.limits.limit_pack.Statement.{statement}
+use Rattle.blocks.proofs.limits.limit_pack.Tie as tie
 
 read : (n : ℕ) → n ≤ 2147483647 → Diff (toZ w32 n) n 0
 read n h = subst (λ (z : ℤ). Diff z n 0) (sym (toZ-pos w32 n (omega arith))) (of-pos n)
@@ -43,7 +43,7 @@ returns c =
     let p = s .pre in
     c .limit-byte .ensures ∙ ap (limit 255) (toZ-ofZ w32 _ (fits s)) ∙ limited 255 (less _ _ (p .0) (p .1))
 
-pub limit8-spec : {M : Type 1} → statement M
-limit8-spec =
+pub limit-pack-spec : {M : Type 1} → statement M
+limit-pack-spec =
     tie.close
     (tie.spec cast-limit-byte cast-limit-byte-2 sub-limit-byte limit-byte-requires returns)

@@ -10,8 +10,8 @@ use mir.Val.{Fits, toZ, ofZ}
 use mir.ValLaws.{toZ-ofZ}
 use borrow.Author.Tests.{ltb-true, ltb-false}
 use Rattle.laws.specs.Differences.{limit}
-use Rattle.convert.proofs.bytes.limit_byte.Statement.{statement}
-use Rattle.convert.proofs.bytes.limit_byte.Tie as tie
+use Rattle.blocks.proofs.limits.limit_byte.Statement.{statement}
+use Rattle.blocks.proofs.limits.limit_byte.Tie as tie
 
 high : (z : ℤ) → ltZ (pos 255) z ≡ true → 255 ≡ limit 255 z
 unfolding limit

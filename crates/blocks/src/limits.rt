@@ -1,0 +1,25 @@
+// Numbers limited to one byte, in a form for many at a time.
+ghost use mathlib.Core.Path.{_≡_};
+ghost use Prim.Native.Nat.{_-_, _≤_, min};
+ghost use Rattle.laws.specs.Differences.{limit};
+
+// z limited to 0..=255. Signed and with the upper limit first, so that sixteen of them compile to packs that limit.
+fn limit_byte(z: i32) -> u8
+    ensures { λ r. ⌜ r ≡ limit 255 z ⌝ }
+{
+    if 255 < z {
+        return 255;
+    }
+    if z < 0 {
+        return 0;
+    }
+    z as u8
+}
+
+// v less its bias, limited to 0..=255.
+pub fn limit_pack(v: u32, bias: u32) -> u8
+    requires { ⌜ (v ≤ 2147483647) × (bias ≤ 2147483647) ⌝ }
+    ensures { λ r. ⌜ r ≡ min (v - bias) 255 ⌝ }
+{
+    limit_byte(v as i32 - bias as i32)
+}
