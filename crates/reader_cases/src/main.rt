@@ -3,6 +3,7 @@
 // oracle/reader-cases made the list: a line of 142 bytes for each call, a kind and 28 words of four hex digits:
 // w h rh rv cw ch sample_bytes maxval(2) y_stride cb_stride cr_stride y_len cb_len cr_len seed shape
 // space(2) room_cb room_cr row change value(2) answer sum(2).
+use cases::Count;
 use guided::Geometry;
 use guided::Reader;
 use guided::Reply;
@@ -290,38 +291,42 @@ fn unopened() -> Reader {
     }
 }
 
-fn main() {
+// All lines of the list. The reader is handed on from call to call.
+fn list_replayed(
+    y: &mut [u8],
+    cb: &mut [u8],
+    cr: &mut [u8],
+    s: &mut [f32],
+    out_cb: &mut [f32],
+    out_cr: &mut [f32],
+) -> Count {
     let mut ran = 0u64;
     let mut differ = 0u64;
     let mut text = [0u8; 142];
+    let mut reader = unopened();
+    for _ in 0..65_536usize {
+        if io::read_full(STDIN_FILENO, &mut text) < 142 {
+            break;
+        }
+        ran += 1;
+        let step = replayed(&text, reader, y, cb, cr, s, out_cb, out_cr);
+        reader = step.reader;
+        differ += cases::more(step.right);
+    }
+    Count { ran, differ }
+}
+
+fn main() {
     let mut y = [0u8; 9_000];
     let mut cb = [0u8; 9_000];
     let mut cr = [0u8; 9_000];
     let mut s = [0.0f32; 200_000];
     let mut out_cb = [0.0f32; 9_000];
     let mut out_cr = [0.0f32; 9_000];
-    let mut reader = unopened();
     cases::mark_floats(&mut s, 0.0 / 0.0);
-    for _ in 0..65_536usize {
-        if io::read_full(STDIN_FILENO, &mut text) < 142 {
-            break;
-        }
-        ran += 1;
-        let step = replayed(
-            &text,
-            reader,
-            &mut y,
-            &mut cb,
-            &mut cr,
-            &mut s,
-            &mut out_cb,
-            &mut out_cr,
-        );
-        reader = step.reader;
-        differ += cases::more(step.right);
-    }
-    io::print_decimal(STDOUT_FILENO, ran);
+    let count = list_replayed(&mut y, &mut cb, &mut cr, &mut s, &mut out_cb, &mut out_cr);
+    io::print_decimal(STDOUT_FILENO, count.ran);
     io::write_all(STDOUT_FILENO, b" calls ran, ");
-    io::print_decimal(STDOUT_FILENO, differ);
+    io::print_decimal(STDOUT_FILENO, count.differ);
     io::write_all(STDOUT_FILENO, b" differ\n");
 }
