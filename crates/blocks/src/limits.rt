@@ -16,7 +16,7 @@ fn limit_byte(z: i32) -> u8
     z as u8
 }
 
-// v less its bias, limited to 0..=255.
+// Inner: v less its bias, limited to 0..=255.
 pub fn limit_pack(v: u32, bias: u32) -> u8
     requires { ⌜ (v ≤ 2147483647) × (bias ≤ 2147483647) ⌝ }
     ensures { λ r. ⌜ r ≡ min (v - bias) 255 ⌝ }

@@ -106,7 +106,7 @@ fn detail_pairs(
     }
 }
 
-// Of n cells, from cell 1 on, at ratio 2: blocks, then pairs.
+// Inner: the detail of n cells, from cell 1 on, at ratio 2: blocks, then pairs.
 pub fn detail_twos(
     layout: Layout,
     plane: &[u8],

@@ -57,8 +57,8 @@ fn put_pixels(
     );
 }
 
-// Inner: the picture that was read, and this header before it.
-pub fn put_ppm(
+// The picture that was read, and this header before it.
+pub(crate) fn put_ppm(
     input: &[u8],
     layout: Layout,
     y: usize,

@@ -47,7 +47,7 @@ pub fn bands_of(layout: Layout, cr: bool) -> Bands
     }
 }
 
-// A value raised to the least and lowered to the greatest.
+// Inner: a value raised to the least and lowered to the greatest.
 pub fn limited(v: f32, least: f32, greatest: f32) -> f32
     ensures { λ r. ⌜ r ≡ fmin (fmax v least) greatest ⌝ }
 {

@@ -78,7 +78,7 @@ fn value_pairs(layout: Layout, s: &mut [f32], t: Bands, dst: usize, from: usize,
     }
 }
 
-// Of n cells, from cell 1 on, at ratio 2: blocks, then pairs.
+// Inner: a component's values of n cells, from cell 1 on, at ratio 2: blocks, then pairs.
 pub fn value_twos(layout: Layout, s: &mut [f32], t: Bands, dst: usize, n: usize)
     requires { ⌜ Sound layout × BandsInside t (3 * layout .w) (layout .cw) (length (now s)) ⌝ }
     requires { ⌜ (layout .rh ≡ 2) × (n + 2 ≤ layout .cw) × (2 + 2 * n ≤ layout .w) × (dst ≤ layout .w) ⌝ }
