@@ -10,85 +10,59 @@ use Rattle.laws.specs.Lists.{put}
 use Rattle.laws.proofs.Lists.{length-put, put-inside}
 use Rattle.image.specs.Tests.{Sound}
 use Rattle.image.specs.Picture.{Chroma, Cb, Cr, Picture}
-use Rattle.fround.specs.Rounding.{fmin, fmax}
 use Rattle.image.specs.Scratch.{scratchNeed, cellAt}
-use Rattle.guidance.specs.Guided.{Across, Luma, Cell, acrossVal, extreme, downTo, detailOf, slope, guidedSample}
-use Rattle.guided.specs.Scratch.{finishedAt, detailAt, slotAt, columnAt, columnOf, numAcross, numSlope, readAcross, readSlope, lumaColumn, detailRow, componentColumns}
+use Rattle.guidance.specs.Guided.{Across, Luma, Cell, acrossVal, downTo, detailOf, slope, guidedSample}
+use Rattle.guided.specs.Scratch.{finishedAt, detailAt, slotAt, columnAt, columnOf, Down, Slope, numAcross, numDown, readAcross, readDown, lumaColumn, detailRow, componentColumns}
 use Rattle.guided.specs.Calls.{topOf, doneH, doneF}
 use Rattle.guided.proofs.Places.{Kept, kept-then, kept-column, kept-front, column-same, column-other, column-front, detail-place, front-fits, slot-number}
 use Rattle.guided.proofs.Taken.{taken}
 use Rattle.guided.proofs.Congruence.{down-cong, detail-cong}
-use Rattle.guided.proofs.Held.{Has, Makes, across-small, slope-small}
+use Rattle.guided.proofs.Held.{Has, Makes, componentOf, downVal, across-small, down-small}
 use Rattle.guided.proofs.Window.{Win}
 
--- what keeps the first 33 buffers keeps the window
+-- what keeps the first 45 buffers keeps the window
 pub win-kept : (p : Picture) (ks : List Chroma) (t h f : ℕ) (xs ys : List Float) → Kept (p .layout) xs ys → Win p ks t h f xs → Win p ks t h f ys
-unfolding readAcross readSlope slotAt
+unfolding readAcross readDown slotAt
 win-kept p ks t h f xs ys k w = record {
   room = rw (k .len) (w .room);
-  sums = λ r A B C q m i I. k .slots (r % 3 * 11 + numAcross q) i (slot-number (numAcross q) r (across-small q)) I ∙ w .sums r A B C q m i I;
-  slopes = λ r A B C m e i I. k .slots (r % 3 * 11 + numSlope m) i (slot-number (numSlope m) r (slope-small m)) I ∙ w .slopes r A B C m e i I;
+  sums = λ r A B C q m i I. k .slots (r % 3 * 15 + numAcross q) i (slot-number (numAcross q) r (across-small q)) I ∙ w .sums r A B C q m i I;
+  downs = λ r A B C d e i I. k .slots (r % 3 * 15 + numDown d) i (slot-number (numDown d) r (down-small d)) I ∙ w .downs r A B C d e i I;
 }
 
-column-small : (k : Chroma) → columnOf k + 3 < 9
+column-small : (k : Chroma) → columnOf k + 1 < 5
 column-small Cb = omega arith
 column-small Cr = omega arith
 
--- ---- a component's four rows of cells, then the finished row
+-- ---- a component's two rows of cells, then the finished row
 
 module _ (p : Picture) (y : ℕ) where
   module _ (k : Chroma) (xs : List Float) where
-    -- scratch after each of the four
+    -- scratch after the first of the two
     abbrev pub column : ℕ → ℕ
     column n = columnAt (p .layout) (columnOf k + n)
 
     abbrev pub after1 : List Float
     after1 = put xs (column 0) (p .layout .cw) (downTo (p .layout) (readAcross (p .layout) xs (Cell k)) y)
 
-    abbrev after2 : List Float
-    after2 = put after1 (column 1) (p .layout .cw) (downTo (p .layout) (readSlope (p .layout) after1 k) y)
-
-    abbrev after3 : List Float
-    after3 = put after2 (column 2) (p .layout .cw) (extreme p fmin k (y / p .layout .rv))
-
     -- they leave the window
     pub columns-kept : Kept (p .layout) xs (componentColumns p k y xs)
     unfolding componentColumns
-    columns-kept =
-        let l = p .layout in
-        kept-then l xs after3 _ (kept-then l xs after2 after3 (kept-then l xs after1 after2 (kept-column l xs _ _) (kept-column l after1 _ _)) (kept-column l after2 _ _)) (kept-column l after3 _ _)
+    columns-kept = kept-then (p .layout) xs after1 _ (kept-column (p .layout) xs _ _) (kept-column (p .layout) after1 _ _)
 
     -- and the finished rows and the detail
     pub columns-front : (n : ℕ) → n < 3 * p .layout .w → getD (componentColumns p k y xs) n nan ≡ getD xs n nan
     unfolding componentColumns
-    columns-front n h =
-        let l = p .layout in
-        column-front l after3 _ _ n h ∙ column-front l after2 _ _ n h ∙ column-front l after1 _ _ n h ∙ column-front l xs _ _ n h
+    columns-front n h = column-front (p .layout) after1 _ _ n h ∙ column-front (p .layout) xs _ _ n h
 
-    -- and what each of the four holds
+    -- and what each of the two holds
     module _ (L : scratchNeed (p .layout) ≤ length xs) (i : ℕ) (I : i < p .layout .cw) where
       pub read-cells : cellAt (componentColumns p k y xs) (column 0) i ≡ downTo (p .layout) (readAcross (p .layout) xs (Cell k)) y i
       unfolding componentColumns
-      read-cells =
-          let l = p .layout in
-          column-other l after3 _ _ _ i I (omega arith) ∙ column-other l after2 _ _ _ i I (omega arith) ∙ column-other l after1 _ _ _ i I (omega arith)
-          ∙ column-same l xs (columnOf k + 0) _ i (omega (arith, column-small k)) I L
+      read-cells = column-other (p .layout) after1 _ _ _ i I (omega arith) ∙ column-same (p .layout) xs (columnOf k + 0) _ i (omega (arith, column-small k)) I L
 
-      pub read-slopes : cellAt (componentColumns p k y xs) (column 1) i ≡ downTo (p .layout) (readSlope (p .layout) after1 k) y i
+      pub read-slopes : cellAt (componentColumns p k y xs) (column 1) i ≡ downTo (p .layout) (readDown (p .layout) after1 (Slope k)) y i
       unfolding componentColumns
-      read-slopes =
-          let l = p .layout in
-          column-other l after3 _ _ _ i I (omega arith) ∙ column-other l after2 _ _ _ i I (omega arith) ∙ column-same l after1 (columnOf k + 1) _ i (omega (arith, column-small k)) I (rw length-put L)
-
-      pub read-least : cellAt (componentColumns p k y xs) (column 2) i ≡ extreme p fmin k (y / p .layout .rv) i
-      unfolding componentColumns
-      read-least =
-          let l = p .layout in
-          column-other l after3 _ _ _ i I (omega arith) ∙ column-same l after2 (columnOf k + 2) _ i (omega (arith, column-small k)) I (rw (length-put, length-put) L)
-
-      pub read-greatest : cellAt (componentColumns p k y xs) (column 3) i ≡ extreme p fmax k (y / p .layout .rv) i
-      unfolding componentColumns
-      read-greatest = column-same (p .layout) after3 (columnOf k + 3) _ i (column-small k) I (rw (length-put, length-put, length-put) L)
+      read-slopes = column-same (p .layout) after1 (columnOf k + 1) _ i (column-small k) I (rw length-put L)
 
   -- ---- over the window at row y
 
@@ -103,10 +77,16 @@ module _ (p : Picture) (y : ℕ) where
         down-cong (p .layout) s y Y (readAcross (p .layout) xs q) (acrossVal p q) i (λ j A B. w .sums j (omega arith) (omega (arith, t .inside)) (omega (arith, t .near)) q m i I)
 
     -- and so is a slope
-    pub down-slope : (xs : List Float) → AtRow xs → (k : Chroma) → Has k ks → (i : ℕ) → i < p .layout .cw → downTo (p .layout) (readSlope (p .layout) xs k) y i ≡ downTo (p .layout) (slope p k) y i
+    pub down-slope : (xs : List Float) → AtRow xs → (k : Chroma) → Has k ks → (i : ℕ) → i < p .layout .cw → downTo (p .layout) (readDown (p .layout) xs (Slope k)) y i ≡ downTo (p .layout) (slope p k) y i
     down-slope xs w k m i I =
         let t = taken (p .layout) s y Y in
-        down-cong (p .layout) s y Y (readSlope (p .layout) xs k) (slope p k) i (λ j A B. w .slopes j A (omega arith) (omega (arith, t .near)) k m i I)
+        down-cong (p .layout) s y Y (readDown (p .layout) xs (Slope k)) (slope p k) i (λ j A B. w .downs j A (omega arith) (omega (arith, t .near)) (Slope k) m i I)
+
+    -- what was made down of the row's own chroma row is held too
+    pub own-down : (xs : List Float) → AtRow xs → (d : Down) → Has (componentOf d) ks → (i : ℕ) → i < p .layout .cw → readDown (p .layout) xs d (y / p .layout .rv) i ≡ downVal p d (y / p .layout .rv) i
+    own-down xs w d m i I =
+        let t = taken (p .layout) s y Y in
+        w .downs (y / p .layout .rv) (t .above) (omega (arith, t .below)) (omega (arith, t .above, t .near)) d m i I
 
     -- the detail is held, and component k's finished row
     abbrev pub Detailed : List Float → Type 0

@@ -13,18 +13,18 @@ use Rattle.image.specs.Picture.{Chroma, Picture}
 use Rattle.fround.specs.Rounding.{fmin, fmax}
 use Rattle.image.specs.Scratch.{cellAt}
 use Rattle.guidance.specs.Guided.{Luma, Cell, acrossVal, extreme, downTo, detailOf, valueOf, slope, guidedSample}
-use Rattle.guided.specs.Scratch.{finishedAt, detailAt, columnAt, columnOf, fsteps, lumaColumn, detailRow, componentColumns, finishedRow, componentsOver, rowSteps}
+use Rattle.guided.specs.Scratch.{finishedAt, detailAt, columnAt, columnOf, Down, Least, Greatest, readDown, fsteps, lumaColumn, detailRow, componentColumns, finishedRow, componentsOver, rowSteps}
 use Rattle.guided.specs.Calls.{topOf, doneH, doneF}
 use Rattle.guided.proofs.Places.{Kept, kept-then, kept-column, kept-front, finished-detail, finished-other, finished-place, detail-place, front-fits}
 use Rattle.guided.proofs.Taken.{own-column}
 use Rattle.guided.proofs.Congruence.{value-cong}
 use Rattle.guided.proofs.Held.{Has}
 use Rattle.guided.proofs.Window.{Win, Counters, length-fsteps, win-row}
-use Rattle.guided.proofs.Columns.{win-kept, after1, columns-kept, columns-front, read-cells, read-slopes, read-least, read-greatest, down-part, down-slope, Done, Stage, staged}
+use Rattle.guided.proofs.Columns.{win-kept, after1, columns-kept, columns-front, read-cells, read-slopes, down-part, down-slope, own-down, AtRow, Done, Stage, staged}
 
 module _ (p : Picture) (y : ℕ) where
   -- a component's part leaves the window
-  component-kept : (k : Chroma) (xs : List Float) → Kept (p .layout) xs (finishedRow p k (componentColumns p k y xs))
+  component-kept : (k : Chroma) (xs : List Float) → Kept (p .layout) xs (finishedRow p k y (componentColumns p k y xs))
   unfolding finishedRow
   component-kept k xs =
       let l = p .layout in
@@ -37,17 +37,17 @@ module _ (p : Picture) (y : ℕ) where
 
   -- the row put is the one asked for, or that one is as it was
   component-other : (k m : Chroma) (xs : List Float) (x : ℕ) → x < p .layout .w
-      → (k ≡ m) ⊎ (cellAt (finishedRow p k (componentColumns p k y xs)) (finishedAt (p .layout) m) x ≡ cellAt xs (finishedAt (p .layout) m) x)
+      → (k ≡ m) ⊎ (cellAt (finishedRow p k y (componentColumns p k y xs)) (finishedAt (p .layout) m) x ≡ cellAt xs (finishedAt (p .layout) m) x)
   unfolding finishedRow
   component-other k m xs x X =
       let l = p .layout in
       let ys = componentColumns p k y xs in
-      let o : (k ≡ m) ⊎ (cellAt (finishedRow p k ys) (finishedAt l m) x ≡ cellAt ys (finishedAt l m) x) = finished-other l ys k m _ x X in
+      let o : (k ≡ m) ⊎ (cellAt (finishedRow p k y ys) (finishedAt l m) x ≡ cellAt ys (finishedAt l m) x) = finished-other l ys k m _ x X in
       elim o [ inl e ↦ inl e | inr e ↦ inr (e ∙ columns-front p y k xs (finishedAt l m + x) (omega (arith, finished-place l m))) ]
 
   module _ (ks : List Chroma) (s : Sound (p .layout)) (Y : y < p .layout .h) where
     -- it makes its finished row,
-    component-made : (k : Chroma) → Has k ks → (xs : List Float) → Stage p y ks s Y xs → Done p y ks s Y k (finishedRow p k (componentColumns p k y xs))
+    component-made : (k : Chroma) → Has k ks → (xs : List Float) → Stage p y ks s Y xs → Done p y ks s Y k (finishedRow p k y (componentColumns p k y xs))
     unfolding finishedRow guidedSample
     component-made k h xs g x X =
         let l = p .layout in
@@ -55,17 +55,19 @@ module _ (p : Picture) (y : ℕ) where
         let L = g .win .room in
         let c = own-column l s x X in
         let row : ℕ → ℕ → Float = λ n. cellAt ys (columnAt l (columnOf k + n)) in
-        put-inside ys (finishedAt l k) (l .w) (λ x. valueOf l (row 0) (row 1) (row 2) (row 3) (cellAt ys (detailAt l) x) x) x nan X (omega (arith, finished-place l k, front-fits l, L, columns-kept p y k xs .len))
-        ∙ value-cong l s x X (row 0) (downTo l (acrossVal p (Cell k)) y) (row 1) (downTo l (slope p k) y) (row 2) (extreme p fmin k (y / l .rv)) (row 3) (extreme p fmax k (y / l .rv))
+        let own : Down → ℕ → Float = λ d. readDown l ys d (y / l .rv) in
+        let w : AtRow p y ks s Y ys = win-kept p ks _ _ _ xs _ (columns-kept p y k xs) (g .win) in
+        put-inside ys (finishedAt l k) (l .w) (λ x. valueOf l (row 0) (row 1) (own (Least k)) (own (Greatest k)) (cellAt ys (detailAt l) x) x) x nan X (omega (arith, finished-place l k, front-fits l, L, columns-kept p y k xs .len))
+        ∙ value-cong l s x X (row 0) (downTo l (acrossVal p (Cell k)) y) (row 1) (downTo l (slope p k) y) (own (Least k)) (extreme p fmin k (y / l .rv)) (own (Greatest k)) (extreme p fmax k (y / l .rv))
         (cellAt ys (detailAt l) x) (detailOf l (downTo l (acrossVal p Luma) y) (f32 (p .luma x y)) x)
         (λ i b. read-cells p y k xs L i (b .2) ∙ down-part p y ks s Y xs (g .win) (Cell k) h i (b .2))
         (λ i b. read-slopes p y k xs L i (b .2) ∙ down-slope p y ks s Y (after1 p y k xs) (win-kept p ks _ _ _ xs _ (kept-column l xs _ _) (g .win)) k h i (b .2))
-        (read-least p y k xs L (x / l .rh) c)
-        (read-greatest p y k xs L (x / l .rh) c)
+        (own-down p y ks s Y ys w (Least k) h (x / l .rh) c)
+        (own-down p y ks s Y ys w (Greatest k) h (x / l .rh) c)
         (columns-front p y k xs (detailAt l + x) (omega (arith, detail-place l .1)) ∙ g .detail x X)
 
     -- keeps the detail
-    component-stage : (k : Chroma) (xs : List Float) → Stage p y ks s Y xs → Stage p y ks s Y (finishedRow p k (componentColumns p k y xs))
+    component-stage : (k : Chroma) (xs : List Float) → Stage p y ks s Y xs → Stage p y ks s Y (finishedRow p k y (componentColumns p k y xs))
     unfolding finishedRow
     component-stage k xs g =
         let l = p .layout in
@@ -75,10 +77,10 @@ module _ (p : Picture) (y : ℕ) where
         }
 
     -- and every finished row that is already there
-    component-stays : (k : Chroma) (xs : List Float) → Stage p y ks s Y xs → (m : Chroma) → Has m ks → Done p y ks s Y m xs → Done p y ks s Y m (finishedRow p k (componentColumns p k y xs))
+    component-stays : (k : Chroma) (xs : List Float) → Stage p y ks s Y xs → (m : Chroma) → Has m ks → Done p y ks s Y m xs → Done p y ks s Y m (finishedRow p k y (componentColumns p k y xs))
     component-stays k xs g m h d x X =
         elim (component-other k m xs x X) [
-          | inl e ↦ subst (λ (n : Chroma). Done p y ks s Y m (finishedRow p n (componentColumns p n y xs))) (sym e) (component-made m h xs g) x X
+          | inl e ↦ subst (λ (n : Chroma). Done p y ks s Y m (finishedRow p n y (componentColumns p n y xs))) (sym e) (component-made m h xs g) x X
           | inr e ↦ e ∙ d x X
         ]
 
@@ -92,7 +94,7 @@ module _ (p : Picture) (y : ℕ) where
     unfolding componentsOver
     components-made [] xs g k h m = absurd m
     components-made (m ∷ ms) xs g k h (inl e) =
-        components-stay ms _ (component-stage m xs g) k h (subst (λ (n : Chroma). Done p y ks s Y k (finishedRow p n (componentColumns p n y xs))) e (component-made k h xs g))
+        components-stay ms _ (component-stage m xs g) k h (subst (λ (n : Chroma). Done p y ks s Y k (finishedRow p n y (componentColumns p n y xs))) e (component-made k h xs g))
     components-made (m ∷ ms) xs g k h (inr n) = components-made ms _ (component-stage m xs g) k h n
 
 -- ---- the whole of a row's steps

@@ -11,77 +11,83 @@ use Rattle.laws.specs.Lists.{put}
 use Rattle.laws.proofs.Lists.{length-put}
 use Rattle.image.specs.Picture.{Chroma, Picture}
 use Rattle.image.specs.Scratch.{scratchNeed, cellAt}
-use Rattle.guidance.specs.Guided.{Across, LumaSum, SquareSum, CellSum, ProductSum, acrossVal, slopeOf, slope}
-use Rattle.guided.specs.Scratch.{bufferAt, slotAt, numAcross, numSlope, readAcross, readSlope, parts, slopesOver, horizontal, finish}
+use Rattle.guidance.specs.Guided.{Across, LumaSum, SquareSum, CellSum, ProductSum, acrossVal, slopeOf, extreme, slope}
+use Rattle.guided.specs.Scratch.{bufferAt, slotAt, Down, Slope, Least, Greatest, numAcross, numDown, readAcross, readDown, parts, downs, downOf, downOver, horizontal, finish}
 use Rattle.guided.proofs.Places.{buffer-other, slot-same, slot-other}
 use Rattle.guided.proofs.Congruence.{Beside, slope-cong}
-use Rattle.guided.proofs.Held.{Has, Makes, made, HoldsPart, HoldsSlope, across-small, slope-small, same-slope, part-no-slope, length-across, across-other, part-made}
+use Rattle.guided.proofs.Held.{Has, Makes, made, componentOf, made-down, downVal, HoldsPart, HoldsDown, across-small, down-small, same-down, part-no-down, length-across, across-other, part-made}
 
--- a part's buffer is no slope's, in any two slots
-apart : (q : Across) (k : Chroma) (r j : ℕ) → r % 3 * 11 + numAcross q ≢ j % 3 * 11 + numSlope k
-apart q k r j e = part-no-slope q k (omega (arith, across-small q, slope-small k))
+-- a part's buffer is no result's, in any two slots
+apart : (q : Across) (d : Down) (r j : ℕ) → r % 3 * 15 + numAcross q ≢ j % 3 * 15 + numDown d
+apart q d r j e = part-no-down q d (omega (arith, across-small q, down-small d))
 
 module _ (p : Picture) where
-  -- component k's slopes of row j, from the sums that xs holds
-  abbrev sloped : ℕ → Chroma → List Float → List Float
-  sloped j k xs = put xs (slotAt (p .layout) (numSlope k) j) (p .layout .cw) (slopeOf (p .layout) (readAcross (p .layout) xs) k j)
+  -- the result d of row j, from the sums that xs holds
+  abbrev put-down : ℕ → Down → List Float → List Float
+  put-down j d xs = put xs (slotAt (p .layout) (numDown d) j) (p .layout .cw) (downOf p xs d j)
 
-  length-slopes : (j : ℕ) (ks : List Chroma) (xs : List Float) → length (slopesOver p j ks xs) ≡ length xs
-  unfolding slopesOver
-  length-slopes j [] xs = refl
-  length-slopes j (k ∷ ks) xs = length-slopes j ks (sloped j k xs) ∙ length-put xs (slotAt (p .layout) (numSlope k) j) (p .layout .cw) (slopeOf (p .layout) (readAcross (p .layout) xs) k j)
+  length-down : (j : ℕ) (ds : List Down) (xs : List Float) → length (downOver p j ds xs) ≡ length xs
+  unfolding downOver
+  length-down j [] xs = refl
+  length-down j (d ∷ ds) xs = length-down j ds (put-down j d xs) ∙ length-put xs (slotAt (p .layout) (numDown d) j) (p .layout .cw) (downOf p xs d j)
 
-  -- a buffer that is none of row j's slopes is as it was
-  slopes-other : (j : ℕ) (ks : List Chroma) (xs : List Float) (n i : ℕ) → i < p .layout .cw → ((k : Chroma) → n ≢ j % 3 * 11 + numSlope k)
-      → cellAt (slopesOver p j ks xs) (bufferAt (p .layout) n) i ≡ cellAt xs (bufferAt (p .layout) n) i
-  unfolding slopesOver slotAt
-  slopes-other j [] xs n i I d = refl
-  slopes-other j (k ∷ ks) xs n i I d = slopes-other j ks (sloped j k xs) n i I d ∙ buffer-other (p .layout) xs (j % 3 * 11 + numSlope k) n (slopeOf (p .layout) (readAcross (p .layout) xs) k j) i I (d k)
+  -- a buffer that is none of row j's results is as it was
+  down-other : (j : ℕ) (ds : List Down) (xs : List Float) (n i : ℕ) → i < p .layout .cw → ((d : Down) → n ≢ j % 3 * 15 + numDown d)
+      → cellAt (downOver p j ds xs) (bufferAt (p .layout) n) i ≡ cellAt xs (bufferAt (p .layout) n) i
+  unfolding downOver slotAt
+  down-other j [] xs n i I a = refl
+  down-other j (d ∷ ds) xs n i I a = down-other j ds (put-down j d xs) n i I a ∙ buffer-other (p .layout) xs (j % 3 * 15 + numDown d) n (downOf p xs d j) i I (a d)
 
   module _ (ks : List Chroma) where
     -- rows held, across and down
     abbrev pub HeldAcross : List Float → ℕ → Type 0
     HeldAcross xs r = (q : Across) → Makes ks q → HoldsPart p xs q r
 
-    abbrev pub HeldSlope : List Float → ℕ → Type 0
-    HeldSlope xs r = (k : Chroma) → Has k ks → HoldsSlope p xs k r
+    abbrev pub HeldDown : List Float → ℕ → Type 0
+    HeldDown xs r = (d : Down) → Has (componentOf d) ks → HoldsDown p xs d r
 
     -- the rows round row j, which its slopes are made from
     abbrev Round : List Float → ℕ → Type 0
     Round xs j = (r : ℕ) → Beside (p .layout .ch) j r → HeldAcross xs r
 
     module _ (j : ℕ) (J : j < p .layout .ch) where
-      -- a slope put is held, and leaves the sums
-      slope-put : (k : Chroma) (xs : List Float) → scratchNeed (p .layout) ≤ length xs → Has k ks → Round xs j → HoldsSlope p (sloped j k xs) k j
-      unfolding readSlope slope
-      slope-put k xs L h e i I =
-          slot-same (p .layout) xs (numSlope k) j (slopeOf (p .layout) (readAcross (p .layout) xs) k j) i (slope-small k) I L
-          ∙ slope-cong (p .layout) (readAcross (p .layout) xs) (acrossVal p) k j i J (λ r b. e r b LumaSum tt i I) (λ r b. e r b SquareSum tt i I) (λ r b. e r b (CellSum k) h i I) (λ r b. e r b (ProductSum k) h i I)
+      -- what is put is the picture's: a slope since the rows round it are held, an extreme at once
+      down-is : (d : Down) (xs : List Float) → Has (componentOf d) ks → Round xs j → (i : ℕ) → i < p .layout .cw → downOf p xs d j i ≡ downVal p d j i
+      unfolding downOf slope
+      down-is (Slope k) xs h e i I =
+          slope-cong (p .layout) (readAcross (p .layout) xs) (acrossVal p) k j i J (λ r b. e r b LumaSum tt i I) (λ r b. e r b SquareSum tt i I) (λ r b. e r b (CellSum k) h i I) (λ r b. e r b (ProductSum k) h i I)
+      down-is (Least k) xs h e i I = refl
+      down-is (Greatest k) xs h e i I = refl
 
-      slope-round : (k : Chroma) (xs : List Float) → Round xs j → Round (sloped j k xs) j
+      -- a result put is held, and leaves the sums
+      down-put : (d : Down) (xs : List Float) → scratchNeed (p .layout) ≤ length xs → Has (componentOf d) ks → Round xs j → HoldsDown p (put-down j d xs) d j
+      unfolding readDown
+      down-put d xs L h e i I = slot-same (p .layout) xs (numDown d) j (downOf p xs d j) i (down-small d) I L ∙ down-is d xs h e i I
+
+      down-round : (d : Down) (xs : List Float) → Round xs j → Round (put-down j d xs) j
       unfolding readAcross
-      slope-round k xs e r b q m i I = slot-other (p .layout) xs (numSlope k) j (numAcross q) r (slopeOf (p .layout) (readAcross (p .layout) xs) k j) i I (apart q k r j) ∙ e r b q m i I
+      down-round d xs e r b q m i I = slot-other (p .layout) xs (numDown d) j (numAcross q) r (downOf p xs d j) i I (apart q d r j) ∙ e r b q m i I
 
       -- one held stays so
-      slope-kept : (m : Chroma) (xs : List Float) (k : Chroma) → scratchNeed (p .layout) ≤ length xs → Has k ks → Round xs j → HoldsSlope p xs k j → HoldsSlope p (sloped j m xs) k j
-      unfolding readSlope
-      slope-kept m xs k L h e g i I =
-          elim (ℕ-discrete (numSlope m) (numSlope k)) [
-            | yes s ↦ subst (λ (n : Chroma). HoldsSlope p (sloped j n xs) k j) (sym (same-slope m k s)) (slope-put k xs L h e) i I
-            | no d ↦ slot-other (p .layout) xs (numSlope m) j (numSlope k) j (slopeOf (p .layout) (readAcross (p .layout) xs) m j) i I (λ s. d (omega arith)) ∙ g i I
+      down-kept : (m : Down) (xs : List Float) (d : Down) → scratchNeed (p .layout) ≤ length xs → Has (componentOf d) ks → Round xs j → HoldsDown p xs d j → HoldsDown p (put-down j m xs) d j
+      unfolding readDown
+      down-kept m xs d L h e g i I =
+          elim (ℕ-discrete (numDown m) (numDown d)) [
+            | yes s ↦ subst (λ (n : Down). HoldsDown p (put-down j n xs) d j) (sym (same-down m d s)) (down-put d xs L h e) i I
+            | no a ↦ slot-other (p .layout) xs (numDown m) j (numDown d) j (downOf p xs m j) i I (λ s. a (omega arith)) ∙ g i I
           ]
 
-      slope-stays : (ms : List Chroma) (xs : List Float) (k : Chroma) → scratchNeed (p .layout) ≤ length xs → Has k ks → Round xs j → HoldsSlope p xs k j → HoldsSlope p (slopesOver p j ms xs) k j
-      unfolding slopesOver
-      slope-stays [] xs k L h e g = g
-      slope-stays (m ∷ ms) xs k L h e g = slope-stays ms (sloped j m xs) k (rw length-put L) h (slope-round m xs e) (slope-kept m xs k L h e g)
+      down-stays : (ms : List Down) (xs : List Float) (d : Down) → scratchNeed (p .layout) ≤ length xs → Has (componentOf d) ks → Round xs j → HoldsDown p xs d j → HoldsDown p (downOver p j ms xs) d j
+      unfolding downOver
+      down-stays [] xs d L h e g = g
+      down-stays (m ∷ ms) xs d L h e g = down-stays ms (put-down j m xs) d (rw length-put L) h (down-round m xs e) (down-kept m xs d L h e g)
 
-      -- each slope of the list is held afterwards
-      slope-made : (ms : List Chroma) (xs : List Float) (k : Chroma) → scratchNeed (p .layout) ≤ length xs → Has k ks → Has k ms → Round xs j → HoldsSlope p (slopesOver p j ms xs) k j
-      unfolding slopesOver
-      slope-made [] xs k L h g e = absurd g
-      slope-made (m ∷ ms) xs k L h (inl s) e = slope-stays ms (sloped j m xs) k (rw length-put L) h (slope-round m xs e) (subst (λ (n : Chroma). HoldsSlope p (sloped j n xs) k j) s (slope-put k xs L h e))
-      slope-made (m ∷ ms) xs k L h (inr g) e = slope-made ms (sloped j m xs) k (rw length-put L) h g (slope-round m xs e)
+      -- each result of the list is held afterwards
+      down-made : (ms : List Down) (xs : List Float) (d : Down) → scratchNeed (p .layout) ≤ length xs → Has (componentOf d) ks → Has d ms → Round xs j → HoldsDown p (downOver p j ms xs) d j
+      unfolding downOver
+      down-made [] xs d L h g e = absurd g
+      down-made (m ∷ ms) xs d L h (inl s) e = down-stays ms (put-down j m xs) d (rw length-put L) h (down-round m xs e) (subst (λ (n : Down). HoldsDown p (put-down j n xs) d j) s (down-put d xs L h e))
+      down-made (m ∷ ms) xs d L h (inr g) e = down-made ms (put-down j m xs) d (rw length-put L) h g (down-round m xs e)
 
     -- ---- a row across
 
@@ -98,31 +104,31 @@ module _ (p : Picture) where
     -- rows in other slots stay held
     pub horizontal-keeps : (j : ℕ) (xs : List Float) (r : ℕ) → r % 3 ≢ j % 3 → HeldAcross xs r → HeldAcross (horizontal p ks j xs) r
     unfolding horizontal readAcross slotAt
-    horizontal-keeps j xs r d h q m i I = across-other p j (parts ks) xs (r % 3 * 11 + numAcross q) i I (λ n e. d (omega (arith, across-small q, across-small n))) ∙ h q m i I
+    horizontal-keeps j xs r d h q m i I = across-other p j (parts ks) xs (r % 3 * 15 + numAcross q) i I (λ n e. d (omega (arith, across-small q, across-small n))) ∙ h q m i I
 
-    -- and every slope
-    pub horizontal-slopes : (j : ℕ) (xs : List Float) (r : ℕ) → HeldSlope xs r → HeldSlope (horizontal p ks j xs) r
-    unfolding horizontal readSlope slotAt
-    horizontal-slopes j xs r h k m i I = across-other p j (parts ks) xs (r % 3 * 11 + numSlope k) i I (λ n e. apart n k j r (sym e)) ∙ h k m i I
+    -- and every result
+    pub horizontal-downs : (j : ℕ) (xs : List Float) (r : ℕ) → HeldDown xs r → HeldDown (horizontal p ks j xs) r
+    unfolding horizontal readDown slotAt
+    horizontal-downs j xs r h d m i I = across-other p j (parts ks) xs (r % 3 * 15 + numDown d) i I (λ n e. apart n d j r (sym e)) ∙ h d m i I
 
     -- ---- a row down
 
     -- it keeps the length
     pub length-finish : (j : ℕ) (xs : List Float) → length (finish p ks j xs) ≡ length xs
     unfolding finish
-    length-finish j xs = length-slopes j ks xs
+    length-finish j xs = length-down j (downs ks) xs
 
-    -- its own slopes are held afterwards, if the rows round it were
-    pub finish-makes : (j : ℕ) (xs : List Float) → scratchNeed (p .layout) ≤ length xs → j < p .layout .ch → ((r : ℕ) → Beside (p .layout .ch) j r → HeldAcross xs r) → HeldSlope (finish p ks j xs) j
+    -- its own results are held afterwards, if the rows round it were
+    pub finish-makes : (j : ℕ) (xs : List Float) → scratchNeed (p .layout) ≤ length xs → j < p .layout .ch → ((r : ℕ) → Beside (p .layout .ch) j r → HeldAcross xs r) → HeldDown (finish p ks j xs) j
     unfolding finish
-    finish-makes j xs L J e k h = slope-made j J ks xs k L h h e
+    finish-makes j xs L J e d h = down-made j J (downs ks) xs d L h (made-down ks d h) e
 
-    -- slopes in other slots stay held
-    pub finish-keeps : (j : ℕ) (xs : List Float) (r : ℕ) → r % 3 ≢ j % 3 → HeldSlope xs r → HeldSlope (finish p ks j xs) r
-    unfolding finish readSlope slotAt
-    finish-keeps j xs r d h k m i I = slopes-other j ks xs (r % 3 * 11 + numSlope k) i I (λ n e. d (omega (arith, slope-small k, slope-small n))) ∙ h k m i I
+    -- results in other slots stay held
+    pub finish-keeps : (j : ℕ) (xs : List Float) (r : ℕ) → r % 3 ≢ j % 3 → HeldDown xs r → HeldDown (finish p ks j xs) r
+    unfolding finish readDown slotAt
+    finish-keeps j xs r a h d m i I = down-other j (downs ks) xs (r % 3 * 15 + numDown d) i I (λ n e. a (omega (arith, down-small d, down-small n))) ∙ h d m i I
 
     -- and every row across
     pub finish-across : (j : ℕ) (xs : List Float) (r : ℕ) → HeldAcross xs r → HeldAcross (finish p ks j xs) r
     unfolding finish readAcross slotAt
-    finish-across j xs r h q m i I = slopes-other j ks xs (r % 3 * 11 + numAcross q) i I (λ k. apart q k r j) ∙ h q m i I
+    finish-across j xs r h q m i I = down-other j (downs ks) xs (r % 3 * 15 + numAcross q) i I (λ d. apart q d r j) ∙ h q m i I

@@ -14,7 +14,7 @@ use Rattle.image.specs.Scratch.{scratchNeed}
 use Rattle.guided.specs.Scratch.{horizontal, finish, hsteps, hAt, fsteps}
 use Rattle.guided.specs.Calls.{topOf, lastOf, freshH, freshF, doneH, doneF}
 use Rattle.guided.proofs.Taken.{taken, top-later, last-later}
-use Rattle.guided.proofs.Steps.{HeldAcross, HeldSlope, length-horizontal, horizontal-makes, horizontal-keeps, horizontal-slopes, length-finish, finish-makes, finish-keeps, finish-across}
+use Rattle.guided.proofs.Steps.{HeldAcross, HeldDown, length-horizontal, horizontal-makes, horizontal-keeps, horizontal-downs, length-finish, finish-makes, finish-keeps, finish-across}
 
 module _ (p : Picture) where
   -- `h_next` is never more than one past `f_next`, nor past the plane
@@ -34,15 +34,15 @@ module _ (p : Picture) (ks : List Chroma) where
   pub record Win (t h f : ℕ) (xs : List Float) : Type 0 where
     pub room : scratchNeed (p .layout) ≤ length xs
     pub sums : (r : ℕ) → t ≤ r + 1 → r < h → h ≤ r + 3 → HeldAcross p ks xs r
-    pub slopes : (r : ℕ) → t ≤ r → r < f → f ≤ r + 3 → HeldSlope p ks xs r
+    pub downs : (r : ℕ) → t ≤ r → r < f → f ≤ r + 3 → HeldDown p ks xs r
 
   -- after open or seek nothing is held, and nothing need be
   pub win-fresh : (t : ℕ) (xs : List Float) → scratchNeed (p .layout) ≤ length xs → Win t (t - 1) t xs
-  win-fresh t xs L = record { room = L; sums = λ r A B C. absurd (omega arith); slopes = λ r A B C. absurd (omega arith) }
+  win-fresh t xs L = record { room = L; sums = λ r A B C. absurd (omega arith); downs = λ r A B C. absurd (omega arith) }
 
   -- a later row asks for less
   win-later : (t u h f : ℕ) (xs : List Float) → t ≤ u → Win t h f xs → Win u h f xs
-  win-later t u h f xs l w = record { room = w .room; sums = λ r A B C. w .sums r (omega arith) B C; slopes = λ r A B C. w .slopes r (omega arith) B C }
+  win-later t u h f xs l w = record { room = w .room; sums = λ r A B C. w .sums r (omega arith) B C; downs = λ r A B C. w .downs r (omega arith) B C }
 
   -- ---- rows across
 
@@ -53,7 +53,7 @@ module _ (p : Picture) (ks : List Chroma) where
       | inl e ↦ rw e (horizontal-makes p ks h xs (w .room))
       | inr l ↦ horizontal-keeps p ks h xs r (omega arith) (w .sums r A l (omega arith))
     ];
-    slopes = λ r A B C. horizontal-slopes p ks h xs r (w .slopes r A B C);
+    downs = λ r A B C. horizontal-downs p ks h xs r (w .downs r A B C);
   }
 
   win-across : (t h f n : ℕ) (xs : List Float) → Win t h f xs → Win t (h + n) f (hsteps p ks h n xs)
@@ -67,9 +67,9 @@ module _ (p : Picture) (ks : List Chroma) where
   down-one t h f xs T F e w = record {
     room = rw length-finish (w .room);
     sums = λ r A B C. finish-across p ks f xs r (w .sums r A B C);
-    slopes = λ r A B C. elim (eq-or-lt-of-le (le-of-suc-le-suc B)) [
+    downs = λ r A B C. elim (eq-or-lt-of-le (le-of-suc-le-suc B)) [
       | inl d ↦ rw d (finish-makes p ks f xs (w .room) F (λ g b. w .sums g (omega arith) (omega arith) (omega arith)))
-      | inr l ↦ finish-keeps p ks f xs r (omega arith) (w .slopes r A l (omega arith))
+      | inr l ↦ finish-keeps p ks f xs r (omega arith) (w .downs r A l (omega arith))
     ];
   }
 

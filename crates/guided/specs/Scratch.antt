@@ -32,13 +32,13 @@ pitch cw = cond (leb 256 cw) (cw + 48) cw
 unfoldable pub bufferAt : Layout → ℕ → ℕ
 bufferAt l n = 3 * l .w + n * pitch (l .cw)
 
--- a window of three chroma rows, row r in slot r mod 3: eleven buffers to a slot
+-- a window of three chroma rows, row r in slot r mod 3: fifteen buffers to a slot
 unfoldable pub slotAt : Layout → ℕ → ℕ → ℕ
-slotAt l n r = bufferAt l (r % 3 * 11 + n)
+slotAt l n r = bufferAt l (r % 3 * 15 + n)
 
 abbrev pub firstOf : Chroma → ℕ
 firstOf Cb = 3
-firstOf Cr = 7
+firstOf Cr = 9
 
 abbrev pub numAcross : Across → ℕ
 numAcross Luma = 0
@@ -48,22 +48,28 @@ numAcross (Cell k) = firstOf k
 numAcross (CellSum k) = firstOf k + 1
 numAcross (ProductSum k) = firstOf k + 2
 
-abbrev pub numSlope : Chroma → ℕ
-numSlope k = firstOf k + 3
+-- what is made down of a chroma row for a component: the slopes, and the least and the greatest sample round each cell
+pub data Down : Type 0 where
+  Slope Least Greatest : Chroma → Down
 
--- behind the window the rows of cells of one picture row: luma's, then four for each component
+abbrev pub numDown : Down → ℕ
+numDown (Slope k) = firstOf k + 3
+numDown (Least k) = firstOf k + 4
+numDown (Greatest k) = firstOf k + 5
+
+-- behind the window the rows of cells of one picture row: luma's, then two for each component
 unfoldable pub columnAt : Layout → ℕ → ℕ
-columnAt l n = bufferAt l (33 + n)
+columnAt l n = bufferAt l (45 + n)
 
 abbrev pub columnOf : Chroma → ℕ
 columnOf Cb = 1
-columnOf Cr = 5
+columnOf Cr = 3
 
 unfoldable pub readAcross : Layout → List Float → Across → ℕ → ℕ → Float
 readAcross l xs q r i = cellAt xs (slotAt l (numAcross q) r) i
 
-unfoldable pub readSlope : Layout → List Float → Chroma → ℕ → ℕ → Float
-readSlope l xs k r i = cellAt xs (slotAt l (numSlope k) r) i
+unfoldable pub readDown : Layout → List Float → Down → ℕ → ℕ → Float
+readDown l xs d r i = cellAt xs (slotAt l (numDown d) r) i
 
 -- ---- the steps
 
@@ -75,23 +81,34 @@ chromaParts (k ∷ ks) = Cell k ∷ CellSum k ∷ ProductSum k ∷ chromaParts k
 unfoldable pub parts : List Chroma → List Across
 parts ks = Luma ∷ LumaSum ∷ SquareSum ∷ chromaParts ks
 
+-- and down for the components
+unfoldable pub downs : List Chroma → List Down
+downs [] = []
+downs (k ∷ ks) = Slope k ∷ Least k ∷ Greatest k ∷ downs ks
+
 module _ (p : Picture) where
   -- chroma row j across, each buffer in turn
   unfoldable pub acrossOver : ℕ → List Across → List Float → List Float
   acrossOver j [] xs = xs
   acrossOver j (q ∷ qs) xs = acrossOver j qs (put xs (slotAt (p .layout) (numAcross q) j) (p .layout .cw) (acrossVal p q j))
 
-  -- chroma row j down: the slopes, from the sums that scratch holds
-  unfoldable pub slopesOver : ℕ → List Chroma → List Float → List Float
-  slopesOver j [] xs = xs
-  slopesOver j (k ∷ ks) xs = slopesOver j ks (put xs (slotAt (p .layout) (numSlope k) j) (p .layout .cw) (slopeOf (p .layout) (readAcross (p .layout) xs) k j))
+  -- one of those of chroma row j: the slopes from the sums that scratch holds, the extremes from the picture
+  unfoldable pub downOf : List Float → Down → ℕ → ℕ → Float
+  downOf xs (Slope k) j = slopeOf (p .layout) (readAcross (p .layout) xs) k j
+  downOf xs (Least k) j = extreme p fmin k j
+  downOf xs (Greatest k) j = extreme p fmax k j
+
+  -- chroma row j down, each buffer in turn
+  unfoldable pub downOver : ℕ → List Down → List Float → List Float
+  downOver j [] xs = xs
+  downOver j (d ∷ ds) xs = downOver j ds (put xs (slotAt (p .layout) (numDown d) j) (p .layout .cw) (downOf xs d j))
 
   module _ (ks : List Chroma) where
     unfoldable pub horizontal : ℕ → List Float → List Float
     horizontal j xs = acrossOver j (parts ks) xs
 
     unfoldable pub finish : ℕ → List Float → List Float
-    finish j xs = slopesOver j ks xs
+    finish j xs = downOver j (downs ks) xs
 
     -- n rows across, from row j on
     unfoldable pub hsteps : ℕ → ℕ → List Float → List Float
@@ -115,26 +132,24 @@ module _ (p : Picture) where
   unfoldable pub detailRow : ℕ → List Float → List Float
   detailRow y xs = put xs (detailAt (p .layout)) (p .layout .w) (λ x. detailOf (p .layout) (cellAt xs (columnAt (p .layout) 0)) (f32 (p .luma x y)) x)
 
-  -- a component's four rows of cells: samples and slopes lerped down, least and greatest
+  -- a component's two rows of cells: samples and slopes lerped down
   unfoldable pub componentColumns : Chroma → ℕ → List Float → List Float
   componentColumns k y xs =
       let l = p .layout in
-      let at : ℕ → ℕ = λ n. columnAt l (columnOf k + n) in
-      let s0 = put xs (at 0) (l .cw) (downTo l (readAcross l xs (Cell k)) y) in
-      let s1 = put s0 (at 1) (l .cw) (downTo l (readSlope l s0 k) y) in
-      let s2 = put s1 (at 2) (l .cw) (extreme p fmin k (y / l .rv)) in
-      put s2 (at 3) (l .cw) (extreme p fmax k (y / l .rv))
+      let s0 = put xs (columnAt l (columnOf k + 0)) (l .cw) (downTo l (readAcross l xs (Cell k)) y) in
+      put s0 (columnAt l (columnOf k + 1)) (l .cw) (downTo l (readDown l s0 (Slope k)) y)
 
-  -- and the finished row from them and the detail
-  unfoldable pub finishedRow : Chroma → List Float → List Float
-  finishedRow k xs =
+  -- and the finished row from them, the extremes round its own chroma row, and the detail
+  unfoldable pub finishedRow : Chroma → ℕ → List Float → List Float
+  finishedRow k y xs =
       let l = p .layout in
       let row : ℕ → ℕ → Float = λ n. cellAt xs (columnAt l (columnOf k + n)) in
-      put xs (finishedAt l k) (l .w) (λ x. valueOf l (row 0) (row 1) (row 2) (row 3) (cellAt xs (detailAt l) x) x)
+      let own : Down → ℕ → Float = λ d. readDown l xs d (y / l .rv) in
+      put xs (finishedAt l k) (l .w) (λ x. valueOf l (row 0) (row 1) (own (Least k)) (own (Greatest k)) (cellAt xs (detailAt l) x) x)
 
   unfoldable pub componentsOver : ℕ → List Chroma → List Float → List Float
   componentsOver y [] xs = xs
-  componentsOver y (k ∷ ks) xs = componentsOver y ks (finishedRow k (componentColumns k y xs))
+  componentsOver y (k ∷ ks) xs = componentsOver y ks (finishedRow k y (componentColumns k y xs))
 
   -- scratch after row y of the components ks, from the counters h and f on, n rows being finished on the way
   unfoldable pub rowSteps : List Chroma → ℕ → ℕ → ℕ → ℕ → List Float → List Float

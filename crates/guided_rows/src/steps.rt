@@ -9,6 +9,7 @@ ghost use Rattle.guided.specs.Calls.{doneF};
 ghost use Rattle.guided.specs.Scratch.{hsteps, fsteps, rowSteps};
 ghost use Rattle.places.specs.Lent.{Lent, components};
 ghost use Rattle.guided_rows.specs.Rows.{beforeH, beforeF, guidedStep};
+use super::finish::finish;
 use super::row::guided_row;
 use image::Layout;
 use state::Counters;
@@ -92,7 +93,7 @@ pub fn catch_up(
             end,
             s,
         );
-        sums::finish(layout, both, j, s);
+        finish(layout, cb, cb_stride, cr, cr_stride, both, j, s);
         h_next = greatest(h_next, end);
         j += 1;
     }
@@ -132,18 +133,7 @@ pub fn row_steps(
         done.f_next,
         s,
     );
-    guided_row(
-        layout,
-        y,
-        y_stride,
-        cb,
-        cb_stride,
-        cr,
-        cr_stride,
-        both,
-        row,
-        s,
-    );
+    guided_row(layout, y, y_stride, both, row, s);
 }
 
 // The counters before row first + n of a run of rows that begins at first: those of a reader sought there, then those that the row before leaves.

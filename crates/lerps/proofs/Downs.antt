@@ -22,7 +22,7 @@ column-is l n m y t a b dst s e p q r =
     rw (p, q, r) (ap (λ (u : Tap). put s (columnAt l m) (l .cw) (λ i. lerpOf (cellAt s (slotAt l n (u .i0)) i) (cellAt s (slotAt l n (u .i1)) i) (u .f))) e)
 
 -- the window's rows lie before the rows of cells
-pub column-ready : (l : Layout) (n m i0 i1 a b dst len : ℕ) → n < 11 → ColumnGiven l m dst → a ≡ slotAt l n i0 → b ≡ slotAt l n i1 → scratchNeed l ≤ len
+pub column-ready : (l : Layout) (n m i0 i1 a b dst len : ℕ) → n < 15 → ColumnGiven l m dst → a ≡ slotAt l n i0 → b ≡ slotAt l n i1 → scratchNeed l ≤ len
     → (a + l .cw ≤ dst) × (b + l .cw ≤ dst) × (dst + l .cw ≤ len)
 column-ready l n m i0 i1 a b dst len h o p q k =
     let x : slotAt l n i0 + l .cw ≤ columnAt l m = slot-column l n i0 m h in

@@ -21,15 +21,15 @@ fn lerp_row(s: &mut [f32], a: usize, b: usize, f: f32, n: usize, dst: usize)
 
 // Inner: where row of cells m of a picture row begins.
 pub fn column_at(layout: Layout, m: usize) -> usize
-    requires { ⌜ Sound layout × (m < 9) ⌝ }
+    requires { ⌜ Sound layout × (m < 5) ⌝ }
     ensures { λ r. ⌜ ColumnGiven layout m r ⌝ }
 {
-    3 * layout.w + (33 + m) * places::pitch_of(layout.cw)
+    3 * layout.w + (45 + m) * places::pitch_of(layout.cw)
 }
 
 // Inner: buffer n of the window, lerped down for picture row y into row of cells m.
 pub fn down_column(layout: Layout, n: usize, m: usize, y: usize, s: &mut [f32])
-    requires { ⌜ Sound layout × (n < 11) × (m < 9) × (y < layout .h) × (scratchNeed layout ≤ length (now s)) ⌝ }
+    requires { ⌜ Sound layout × (n < 15) × (m < 5) × (y < layout .h) × (scratchNeed layout ≤ length (now s)) ⌝ }
     ensures { λ _. ⌜ now (s .exit) ≡ downColumn layout n m y (now (s .entry)) ⌝ }
 {
     let t = taps::tap_at(layout.rv, layout.ch, y);

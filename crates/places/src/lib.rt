@@ -6,6 +6,7 @@ mod samples;
 pub use neighbours::next;
 pub use neighbours::prev;
 pub use places::Window;
+pub use places::first_of;
 pub use places::pitch_of;
 pub use places::slot_at;
 pub use places::window_at;

@@ -2,8 +2,9 @@
 ghost use mathlib.Core.Path.{_≡_};
 ghost use Prim.Native.Nat.{_≤_, _<_};
 ghost use Rattle.image.specs.Tests.{Sound};
-ghost use Rattle.guided.specs.Scratch.{pitch};
+ghost use Rattle.guided.specs.Scratch.{pitch, firstOf};
 ghost use Rattle.places.specs.Buffers.{SlotGiven, windowOf};
+ghost use Rattle.places.specs.Lent.{chromaOf};
 use super::neighbours::next;
 use super::neighbours::prev;
 use image::Layout;
@@ -23,17 +24,24 @@ pub fn pitch_of(cw: usize) -> usize
     if cw < 256 { cw } else { cw + 48 }
 }
 
+// Inner: the number of a component's first row buffer.
+pub fn first_of(cr: bool) -> usize
+    ensures { λ r. ⌜ (r ≡ firstOf (chromaOf cr)) × (r ≤ 9) ⌝ }
+{
+    if cr { 9 } else { 3 }
+}
+
 // Inner: where buffer n of chroma row r begins.
 pub fn slot_at(layout: Layout, n: usize, r: usize) -> usize
-    requires { ⌜ Sound layout × (n < 11) ⌝ }
+    requires { ⌜ Sound layout × (n < 15) ⌝ }
     ensures { λ x. ⌜ SlotGiven layout n r x ⌝ }
 {
-    3 * layout.w + (r % 3 * 11 + n) * pitch_of(layout.cw)
+    3 * layout.w + (r % 3 * 15 + n) * pitch_of(layout.cw)
 }
 
 // Inner: buffer n round chroma row j.
 pub fn window_at(layout: Layout, n: usize, j: usize) -> Window
-    requires { ⌜ Sound layout × (n < 11) × (j < layout .ch) ⌝ }
+    requires { ⌜ Sound layout × (n < 15) × (j < layout .ch) ⌝ }
     ensures { λ t. ⌜ t ≡ windowOf layout n j ⌝ }
 {
     Window {

@@ -16,10 +16,9 @@ use Rattle.image.specs.Picture.{Chroma, Cb, Cr, Picture, Planes, chromaPlane, p
 use Rattle.image.proofs.Pictures.{inside-is}
 use Rattle.image.specs.Scratch.{scratchNeed, cellAt}
 use Rattle.guidance.specs.Guided.{three, lumaOf, cellLuma, cellOf, acrossVal}
-use Rattle.guided.specs.Scratch.{slotAt, firstOf, chromaParts, parts, acrossOver, slopesOver, horizontal, finish}
+use Rattle.guided.specs.Scratch.{slotAt, firstOf, chromaParts, parts, acrossOver, horizontal}
 use Rattle.sums.specs.Rows.{loadRun, cellsAt, productsAt, threeRow}
 use Rattle.luma.specs.Luma.{lumaRow}
-use Rattle.sums.specs.Slopes.{slopeRow}
 use Rattle.sums.specs.declared.across.Slots.{Slots}
 use Rattle.sums.specs.Parts.{SlotsGiven, statRows, lumaPart, chromaPart}
 use Rattle.places.specs.Lent.{components}
@@ -166,13 +165,3 @@ module _ (l : Layout) (ps : Planes) (j : ℕ) where
       ap (λ (xs : List Float). chromaPart l (sampleAt (l .«sample_bytes») (ps .cr)) Cr j (chromaPart l (sampleAt (l .«sample_bytes») (ps .cb)) Cb j xs)) (luma-across s)
       ∙ ap (chromaPart l (sampleAt (l .«sample_bytes») (ps .cr)) Cr j) (chroma-across Cb (lumaAcross s) d (luma-row s h))
       ∙ chroma-across Cr (chromaAcross Cb (lumaAcross s)) d (luma-kept (lumaAcross s) (luma-row s h)) ∙ both-is s
-
-  -- ---- down
-
-  pub finish-one : (s : List Float) → slopeRow l Cb j s ≡ finish picture (components false) j s
-  unfolding slopeRow finish slopesOver pictureOf
-  finish-one s = refl
-
-  pub finish-both : (s : List Float) → slopeRow l Cr j (slopeRow l Cb j s) ≡ finish picture (components true) j s
-  unfolding slopeRow finish slopesOver pictureOf
-  finish-both s = refl

@@ -16,7 +16,7 @@ use lib.Dec.{lit≤, lit<}
 use Rattle.image.specs.declared.layout.Layout.{Layout}
 use Rattle.image.specs.Picture.{Chroma, Cb, Cr}
 use Rattle.guidance.specs.Guided.{three, mean, slopeOf, epsilon}
-use Rattle.guided.specs.Scratch.{slotAt, firstOf, numSlope, readAcross}
+use Rattle.guided.specs.Scratch.{slotAt, firstOf, Slope, numDown, readAcross}
 use Rattle.places.specs.Buffers.{windowOf}
 use Rattle.sums.proofs.Blocks.{run-block}
 use Rattle.guided.proofs.Places.{slot-fits}
@@ -68,7 +68,7 @@ module _ (t : Stats) (eps : Float) (dst n : ℕ) (o : Clear t dst n) where
 
 -- ---- a component's row
 
-few : (k : Chroma) → firstOf k ≤ 7
+few : (k : Chroma) → firstOf k ≤ 9
 few Cb = lit≤ tt
 few Cr = lit≤ tt
 
@@ -83,7 +83,7 @@ stats-inside l k j =
     let h = few k in
     record { y = window-inside l 1 j (lit< tt); yy = window-inside l 2 j (lit< tt); c = window-inside l (firstOf k + 1) j (omega arith); yc = window-inside l (firstOf k + 2) j (omega arith) }
 
-pub stats-clear : (l : Layout) (k : Chroma) (j : ℕ) → Clear (statsOf l k j) (slotAt l (numSlope k) j) (l .cw)
+pub stats-clear : (l : Layout) (k : Chroma) (j : ℕ) → Clear (statsOf l k j) (slotAt l (numDown (Slope k)) j) (l .cw)
 unfolding statsOf
 stats-clear l k j =
     let h = few k in
@@ -100,11 +100,11 @@ pub slope-is : (l : Layout) (k : Chroma) (j : ℕ) (s : List Float) (i : ℕ) �
 unfolding slopeAt slopeBy meanAt statsOf windowOf slopeOf mean three readAcross
 slope-is l k j s i = refl
 
-pub row-is : (l : Layout) (k : Chroma) (j : ℕ) (s : List Float) → slopeRun (statsOf l k j) (epsilon l) (slotAt l (numSlope k) j) 0 (l .cw) s ≡ slopeRow l k j s
+pub row-is : (l : Layout) (k : Chroma) (j : ℕ) (s : List Float) → slopeRun (statsOf l k j) (epsilon l) (slotAt l (numDown (Slope k)) j) 0 (l .cw) s ≡ slopeRow l k j s
 unfolding slopeRun slopeRow
 row-is l k j s =
-    ap (λ (a : ℕ). put s a (l .cw) (λ i. slopeAt s (statsOf l k j) (epsilon l) (0 + i))) (plus-none (slotAt l (numSlope k) j))
-    ∙ put-same s (slotAt l (numSlope k) j) (l .cw) _ _ (λ i h. ap (slopeAt s (statsOf l k j) (epsilon l)) (none-plus i) ∙ slope-is l k j s i)
+    ap (λ (a : ℕ). put s a (l .cw) (λ i. slopeAt s (statsOf l k j) (epsilon l) (0 + i))) (plus-none (slotAt l (numDown (Slope k)) j))
+    ∙ put-same s (slotAt l (numDown (Slope k)) j) (l .cw) _ _ (λ i h. ap (slopeAt s (statsOf l k j) (epsilon l)) (none-plus i) ∙ slope-is l k j s i)
 
 -- a component's sums, by its first buffer's number
 pub stats-are : (l : Layout) (k : Chroma) (j f : ℕ) (y yy c yc : Window) → f ≡ firstOf k → y ≡ windowOf l 1 j → yy ≡ windowOf l 2 j → c ≡ windowOf l (f + 1) j → yc ≡ windowOf l (f + 2) j
@@ -114,13 +114,13 @@ stats-are l k j f y yy c yc e p q r s = rw (sym e, sym p, sym q, sym r, sym s) r
 
 -- what a row of slopes asks, and gives, by the numbers that it was handed
 module _ (l : Layout) (k : Chroma) (j f dst : ℕ) (t : Stats) (e : f ≡ firstOf k) (p : t ≡ statsOf l k j) (q : dst ≡ slotAt l (f + 3) j) where
-  at : dst ≡ slotAt l (numSlope k) j
+  at : dst ≡ slotAt l (numDown (Slope k)) j
   at = q ∙ ap (λ (n : ℕ). slotAt l (n + 3) j) e
 
   pub row-ready : (len : ℕ) → scratchNeed l ≤ len → AllInside t (l .cw) len × Clear t dst (l .cw) × (dst + l .cw ≤ len)
   row-ready len h =
-      let x : slotAt l (numSlope k) j + l .cw ≤ scratchNeed l = (let a = few k in slot-fits l (firstOf k + 3) j (omega arith)) in
-      let b : dst ≡ slotAt l (numSlope k) j = at in
+      let x : slotAt l (numDown (Slope k)) j + l .cw ≤ scratchNeed l = (let a = few k in slot-fits l (firstOf k + 3) j (omega arith)) in
+      let b : dst ≡ slotAt l (numDown (Slope k)) j = at in
       (rw p (all-less (stats-inside l k j) (l .cw) len (omega arith) h), rw (p, at) (stats-clear l k j), omega arith)
 
   pub row-slopes : (eps : Float) (s : List Float) → eps ≡ epsilon l → slopeRun t eps dst 0 (l .cw) s ≡ slopeRow l k j s

@@ -11,7 +11,7 @@ use Rattle.image.specs.Scratch.{cellAt}
 use Rattle.image.specs.declared.layout.Layout.{Layout}
 use Rattle.image.specs.Picture.{Chroma, Cb, Cr}
 use Rattle.guidance.specs.Guided.{LumaSum, SquareSum, CellSum, ProductSum, slopeOf}
-use Rattle.guided.specs.Scratch.{slotAt, numAcross, numSlope, readAcross}
+use Rattle.guided.specs.Scratch.{slotAt, Slope, numAcross, numDown, readAcross}
 use Rattle.places.specs.Buffers.{windowOf}
 use Rattle.places.specs.declared.places.Window.{Window}
 use Rattle.sums.specs.declared.slopes.Stats.{Stats}
@@ -72,4 +72,4 @@ statsOf l k j = record {
 
 -- the slopes of chroma row j, put into their buffer
 unfoldable pub slopeRow : Layout → Chroma → ℕ → List Float → List Float
-slopeRow l k j s = put s (slotAt l (numSlope k) j) (l .cw) (slopeOf l (readAcross l s) k j)
+slopeRow l k j s = put s (slotAt l (numDown (Slope k)) j) (l .cw) (slopeOf l (readAcross l s) k j)

@@ -1,4 +1,4 @@
-// The steps of a chroma row: its rows of cells with their sums across, and its slopes from the rows round it.
+// The steps of a chroma row across: its rows of cells with their sums.
 ghost use mathlib.Core.Path.{_≡_};
 ghost use Prim.Native.Nat.{_≤_, _<_};
 ghost use lib.ListN.{length};
@@ -6,17 +6,16 @@ ghost use Rattle.image.specs.Tests.{Sound};
 ghost use Rattle.image.specs.Samples.{sampleAt};
 ghost use Rattle.image.specs.Picture.{Planes, pictureOf};
 ghost use Rattle.image.specs.Scratch.{scratchNeed};
-ghost use Rattle.guided.specs.Scratch.{horizontal, finish};
+ghost use Rattle.guided.specs.Scratch.{horizontal};
 ghost use Rattle.luma.specs.Luma.{Cells};
 ghost use Rattle.places.specs.Lent.{chromaOf, ChromaCells, Lent, components};
 ghost use Rattle.sums.specs.Parts.{SlotsGiven, lumaPart, chromaPart};
 use super::rows::load_row;
 use super::rows::product_sum_row;
 use super::rows::sum_row;
-use super::slopes::first_of;
-use super::slopes::slope_row;
 use image::Layout;
 use luma::luma_row;
+use places::first_of;
 use places::slot_at;
 
 // Three row buffers one behind the other: of cells, of their sums, and of the sums of products.
@@ -28,7 +27,7 @@ pub struct Slots {
 
 // The buffers n, n + 1 and n + 2 of chroma row j.
 fn slots_at(layout: Layout, n: usize, j: usize) -> Slots
-    requires { ⌜ Sound layout × (n < 9) ⌝ }
+    requires { ⌜ Sound layout × (n < 13) ⌝ }
     ensures { λ t. ⌜ SlotsGiven layout n j t ⌝ }
 {
     Slots {
@@ -90,16 +89,4 @@ pub fn horizontal(
         return;
     }
     chroma_part(layout, cr, cr_stride, true, j, s);
-}
-
-// Inner: chroma row j down: the slopes of Cb, and where `both` holds those of Cr, from the sums that scratch holds.
-pub fn finish(layout: Layout, both: bool, j: usize, s: &mut [f32])
-    requires { ⌜ Sound layout × (j < layout .ch) × (scratchNeed layout ≤ length (now s)) ⌝ }
-    ensures { λ _. ⌜ ((ps : Planes) → now (s .exit) ≡ finish (pictureOf layout ps) (components both) j (now (s .entry))) ⌝ }
-{
-    slope_row(layout, false, j, s);
-    if !both {
-        return;
-    }
-    slope_row(layout, true, j, s);
 }

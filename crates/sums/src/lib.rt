@@ -4,12 +4,10 @@ mod rows;
 mod slopes;
 
 pub use across::Slots;
-pub use across::finish;
 pub use across::horizontal;
 pub use rows::load_row;
 pub use rows::product_sum_row;
 pub use rows::sum_row;
 pub use slopes::Stats;
 pub use slopes::epsilon_of;
-pub use slopes::first_of;
 pub use slopes::slope_row;

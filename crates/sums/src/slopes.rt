@@ -10,10 +10,10 @@ ghost use Rattle.sums.specs.Slopes.{slopeBy, meanAt, slopeAt, slopeRun, 
 ghost use Rattle.places.specs.Lent.{chromaOf};
 ghost use Rattle.image.specs.Tests.{Sound};
 ghost use Rattle.image.specs.Scratch.{scratchNeed};
-ghost use Rattle.guided.specs.Scratch.{firstOf};
 use guided::Geometry;
 use image::Layout;
 use places::Window;
+use places::first_of;
 use places::slot_at;
 use places::window_at;
 
@@ -134,13 +134,6 @@ fn slope_cells(s: &mut [f32], t: Stats, eps: f32, n: usize, dst: usize)
     let done = 8 * m;
     slope_blocks(s, t, eps, n, dst, m);
     slope_run(s, t, eps, n, dst, done, n - done);
-}
-
-// Inner: the number of a component's first row buffer.
-pub fn first_of(cr: bool) -> usize
-    ensures { λ r. ⌜ (r ≡ firstOf (chromaOf cr)) × (r ≤ 7) ⌝ }
-{
-    if cr { 7 } else { 3 }
 }
 
 // The sums round chroma row j that a component's slopes are made of.

@@ -15,8 +15,8 @@ use Rattle.image.specs.Picture.{Chroma, Cb, Cr}
 use Rattle.fround.specs.Rounding.{fmin, fmax}
 use Rattle.image.specs.Scratch.{cellAt, scratchNeed}
 use Rattle.guidance.specs.Guided.{acrossTo, valueOf}
-use Rattle.guided.specs.Scratch.{detailAt, finishedAt, columnAt, columnOf}
-use Rattle.guided.proofs.Places.{column-behind, column-fits, detail-place}
+use Rattle.guided.specs.Scratch.{detailAt, finishedAt, slotAt, firstOf, columnAt, columnOf}
+use Rattle.guided.proofs.Places.{slot-behind, slot-fits, column-behind, column-fits, detail-place}
 use Rattle.values.specs.declared.bands.Bands.{Bands}
 use Rattle.lerps.proofs.Lerps.{across-same}
 use Rattle.laws.proofs.Counts.{none-plus, plus-none}
@@ -39,33 +39,36 @@ value-same l o t xs ys len x b h e =
       e (detailAt l + x) (omega (arith, detail-place l .0)),
     ) refl
 
--- a component's rows of cells by the number of the first
-pub bands-are : (l : Layout) (k : Chroma) (m a b c d : ℕ) → m ≡ columnOf k → a ≡ columnAt l m → b ≡ columnAt l (m + 1) → c ≡ columnAt l (m + 2) → d ≡ columnAt l (m + 3) → record { cells = a; slopes = b; least = c; greatest = d } ≡ bandsOf l k
+-- a component's rows by the numbers of its first ones
+pub bands-are : (l : Layout) (k : Chroma) (j m n a b c d : ℕ) → m ≡ columnOf k → n ≡ firstOf k → a ≡ columnAt l m → b ≡ columnAt l (m + 1) → c ≡ slotAt l (n + 4) j → d ≡ slotAt l (n + 5) j → record { cells = a; slopes = b; least = c; greatest = d } ≡ bandsOf l k j
 unfolding bandsOf
-bands-are l k m a b c d e p q r s = rw (sym e, plus-none m, sym p, sym q, sym r, sym s) refl
+bands-are l k j m n a b c d e f p q r s = rw (sym e, plus-none m, sym f, sym p, sym q, sym r, sym s) refl
 
-few : (k : Chroma) → columnOf k ≤ 5
-few Cb = lit≤ tt
-few Cr = lit≤ tt
+few : (k : Chroma) → (columnOf k ≤ 3) × (firstOf k ≤ 9)
+few Cb = (lit≤ tt, lit≤ tt)
+few Cr = (lit≤ tt, lit≤ tt)
 
-band : (l : Layout) (m len : ℕ) → m < 9 → scratchNeed l ≤ len → Band (columnAt l m) (3 * l .w) (l .cw) len
-band l m len h k = record { behind = column-behind l m; fits = omega (arith, column-fits l m h) }
+column : (l : Layout) (m len : ℕ) → m < 5 → scratchNeed l ≤ len → Band (columnAt l m) (3 * l .w) (l .cw) len
+column l m len h k = record { behind = column-behind l m; fits = omega (arith, column-fits l m h) }
+
+slot : (l : Layout) (n j len : ℕ) → n < 15 → scratchNeed l ≤ len → Band (slotAt l n j) (3 * l .w) (l .cw) len
+slot l n j len h k = record { behind = slot-behind l n j; fits = omega (arith, slot-fits l n j h) }
 
 -- they lie behind the detail and within scratch
-pub bands-inside : (l : Layout) (k : Chroma) (t : Bands) (len : ℕ) → t ≡ bandsOf l k → scratchNeed l ≤ len → BandsInside t (3 * l .w) (l .cw) len
+pub bands-inside : (l : Layout) (k : Chroma) (j : ℕ) (t : Bands) (len : ℕ) → t ≡ bandsOf l k j → scratchNeed l ≤ len → BandsInside t (3 * l .w) (l .cw) len
 unfolding bandsOf
-bands-inside l k t len e h =
+bands-inside l k j t len e h =
     let f = few k in
     rw e (record {
-      cells = band l (columnOf k + 0) len (omega arith) h;
-      slopes = band l (columnOf k + 1) len (omega arith) h;
-      least = band l (columnOf k + 2) len (omega arith) h;
-      greatest = band l (columnOf k + 3) len (omega arith) h;
+      cells = column l (columnOf k + 0) len (omega arith) h;
+      slopes = column l (columnOf k + 1) len (omega arith) h;
+      least = slot l (firstOf k + 4) j len (omega arith) h;
+      greatest = slot l (firstOf k + 5) j len (omega arith) h;
     })
 
 -- a whole row is the run from 0
-pub value-line : (l : Layout) (k : Chroma) (t : Bands) (dst : ℕ) (s : List Float) → t ≡ bandsOf l k → dst ≡ finishedAt l k → valueRun l t dst 0 (l .w) s ≡ valueRow l k s
+pub value-line : (l : Layout) (k : Chroma) (j : ℕ) (t : Bands) (dst : ℕ) (s : List Float) → t ≡ bandsOf l k j → dst ≡ finishedAt l k → valueRun l t dst 0 (l .w) s ≡ valueRow l k j s
 unfolding valueRun valueRow
-value-line l k t dst s e q =
-    let f : ℕ → Float = valueAt l s (bandsOf l k) in
+value-line l k j t dst s e q =
+    let f : ℕ → Float = valueAt l s (bandsOf l k j) in
     rw (e, q) (ap (λ (a : ℕ). put s a (l .w) (λ i. f (0 + i))) (plus-none (finishedAt l k)) ∙ put-same s (finishedAt l k) (l .w) _ f (λ i h. ap f (none-plus i)))

@@ -7,13 +7,13 @@ use Rattle.image.specs.declared.layout.Layout.{Layout}
 use Rattle.image.specs.Picture.{Chroma}
 use Rattle.image.specs.Scratch.{cellAt}
 use Rattle.guidance.specs.Guided.{valueOf}
-use Rattle.guided.specs.Scratch.{detailAt, finishedAt, columnAt, columnOf}
+use Rattle.guided.specs.Scratch.{detailAt, finishedAt, slotAt, Least, Greatest, numDown, columnAt, columnOf}
 use Rattle.lerps.specs.declared.pairs.Pair.{Pair}
 use Rattle.values.specs.declared.bands.Bands.{Bands}
 
--- a component's four rows of cells
-unfoldable pub bandsOf : Layout → Chroma → Bands
-bandsOf l k = record { cells = columnAt l (columnOf k + 0); slopes = columnAt l (columnOf k + 1); least = columnAt l (columnOf k + 2); greatest = columnAt l (columnOf k + 3) }
+-- a component's two rows of cells, and its extremes of chroma row j
+unfoldable pub bandsOf : Layout → Chroma → ℕ → Bands
+bandsOf l k j = record { cells = columnAt l (columnOf k + 0); slopes = columnAt l (columnOf k + 1); least = slotAt l (numDown (Least k)) j; greatest = slotAt l (numDown (Greatest k)) j }
 
 -- a row of n cells lies behind the first `low` values and within `len`
 pub record Band (at low n len : ℕ) : Type 0 where
@@ -38,5 +38,5 @@ valuePair l s t i = record { left = valueAt l s t (2 + 2 * i); right = valueAt l
 unfoldable pub valueRun : Layout → Bands → ℕ → ℕ → ℕ → List Float → List Float
 valueRun l t dst from n s = put s (dst + from) n (λ i. valueAt l s t (from + i))
 
-unfoldable pub valueRow : Layout → Chroma → List Float → List Float
-valueRow l k s = put s (finishedAt l k) (l .w) (valueAt l s (bandsOf l k))
+unfoldable pub valueRow : Layout → Chroma → ℕ → List Float → List Float
+valueRow l k j s = put s (finishedAt l k) (l .w) (valueAt l s (bandsOf l k j))

@@ -8,7 +8,7 @@ ghost use Rattle.places.specs.Lent.{chromaOf};
 ghost use Rattle.values.specs.Values.{bandsOf};
 use image::Layout;
 
-// Where a component's four rows of cells begin.
+// Where a component's two rows of cells of a picture row begin, and its extremes of a chroma row.
 pub struct Bands {
     pub cells: usize,
     pub slopes: usize,
@@ -18,9 +18,9 @@ pub struct Bands {
 
 // Inner: the number of a component's first row of cells.
 pub fn column_of(cr: bool) -> usize
-    ensures { λ r. ⌜ (r ≡ columnOf (chromaOf cr)) × (r ≤ 5) ⌝ }
+    ensures { λ r. ⌜ (r ≡ columnOf (chromaOf cr)) × (r ≤ 3) ⌝ }
 {
-    if cr { 5 } else { 1 }
+    if cr { 3 } else { 1 }
 }
 
 // Inner: where a component's finished row begins.
@@ -33,17 +33,18 @@ pub fn finished_at(layout: Layout, cr: bool) -> usize
     0
 }
 
-// Inner: where they begin.
-pub fn bands_of(layout: Layout, cr: bool) -> Bands
+// Inner: where they begin, the extremes being those of chroma row j.
+pub fn bands_of(layout: Layout, cr: bool, j: usize) -> Bands
     requires { ⌜ Sound layout ⌝ }
-    ensures { λ t. ⌜ t ≡ bandsOf layout (chromaOf cr) ⌝ }
+    ensures { λ t. ⌜ t ≡ bandsOf layout (chromaOf cr) j ⌝ }
 {
     let m = column_of(cr);
+    let n = places::first_of(cr);
     Bands {
         cells: lerps::column_at(layout, m),
         slopes: lerps::column_at(layout, m + 1),
-        least: lerps::column_at(layout, m + 2),
-        greatest: lerps::column_at(layout, m + 3),
+        least: places::slot_at(layout, n + 4, j),
+        greatest: places::slot_at(layout, n + 5, j),
     }
 }
 

@@ -4,7 +4,6 @@ mod blocks;
 mod pixels;
 
 pub use bands::Bands;
-pub use bands::bands_of;
 pub use bands::column_of;
 pub use bands::finished_at;
 pub use pixels::value_row;

@@ -146,12 +146,12 @@ fn value_cells(layout: Layout, s: &mut [f32], t: Bands, dst: usize)
     value_run(layout, s, t, dst, m, w - m);
 }
 
-// Inner: a component's finished row, from its rows of cells and the detail.
-pub fn value_row(layout: Layout, cr: bool, s: &mut [f32])
+// Inner: a component's finished row, from its rows of cells, its extremes of chroma row j, and the detail.
+pub fn value_row(layout: Layout, cr: bool, j: usize, s: &mut [f32])
     requires { ⌜ Sound layout × (scratchNeed layout ≤ length (now s)) ⌝ }
-    ensures { λ _. ⌜ now (s .exit) ≡ valueRow layout (chromaOf cr) (now (s .entry)) ⌝ }
+    ensures { λ _. ⌜ now (s .exit) ≡ valueRow layout (chromaOf cr) j (now (s .entry)) ⌝ }
 {
-    let t = bands_of(layout, cr);
+    let t = bands_of(layout, cr, j);
     let dst = finished_at(layout, cr);
     value_cells(layout, s, t, dst);
 }

@@ -1,8 +1,8 @@
-use Rattle.image.specs.Picture.{Planes}
-use Rattle.guided_rows.proofs.RowSteps.{row-cb, row-both}
-use borrow.Author.Tests.{not-true, not-false}
 use native.Mathlib.Omega.{arith}
 use borrow.Author.Needs.{needs}
+use borrow.Author.Tests.{not-true, not-false}
+use Rattle.image.specs.Picture.{Planes}
+use Rattle.guided_rows.proofs.RowSteps.{row-cb, row-both}
 use Rattle.guided_rows.proofs.row.guided_row.Statement.{statement}
 use Rattle.guided_rows.proofs.row.guided_row.Tie as tie
 
@@ -10,31 +10,32 @@ down-column-requires : tie.Need-down-column-requires
 down-column-requires c κs = search needs
 
 detail-row-requires : tie.Need-detail-row-requires
-detail-row-requires c κs = let o = c .before .before .before .before .before .before .before .before .before .pre .0 in (record { sound = o .sound; plane = o .luma }, omega arith, omega arith)
+detail-row-requires c κs = search needs
 
 component-requires : tie.Need-component-requires
-component-requires c κs = let o = c .before .before .before .before .before .before .before .before .before .before .before .before .before .pre .0 in (record { sound = o .sound; plane = o .cb }, omega arith, omega arith)
+component-requires c κs = search needs
 
 same-length : tie.Need-same-length
 same-length c = search needs
 
 returns : tie.Need-returns
-returns c =
-    let a = c .before .before .before .before .before .before .before .before .before .before .before .before .before .before .before .before .before .args in
-    let ps : Planes = record { y = record { bytes = a .y .now; stride = a .y-stride }; cb = record { bytes = a .cb .now; stride = a .cb-stride }; cr = record { bytes = a .cr .now; stride = a .cr-stride } } in
-    rw (not-true (a .both) (c .if1 .taken)) (row-cb (a .layout) ps (a .row) (c .before .before .before .before .before .before .before .before .before .before .before .before .before .before .before .before .before .pre .0 .sound) (omega arith) (a .s .now) _ _ _ (c .before .before .before .before .before .before .before .before .before .before .before .down-column .ensures) (c .before .before .before .before .before .before .before .detail-row .ensures) (c .before .before .before .component .ensures))
+returns c cb cr =
+    let a = c .before .before .before .before .before .before .before .before .before .before .before .before .before .before .before .args in
+    let ps : Planes = record { y = record { bytes = a .y .now; stride = a .y-stride }; cb = cb; cr = cr } in
+    rw (not-true (a .both) (c .if1 .taken)) (row-cb (a .layout) ps (a .row) (omega arith) (a .s .now) _ _ _ (c .before .before .before .before .before .before .before .before .before .before .before .down-column .ensures) (c .before .before .before .before .before .before .before .detail-row .ensures) (c .before .before .before .component .ensures))
 
 component-requires-2 : tie.Need-component-requires-2
-component-requires-2 c κs = let o = c .before .before .before .before .before .before .before .before .before .before .before .before .before .before .before .before .before .before .pre .0 in (record { sound = o .sound; plane = o .cr (not-false _ (c .before .if1 .left)) }, omega arith, omega arith)
+component-requires-2 c κs = search needs
 
 same-length-2 : tie.Need-same-length-2
 same-length-2 c = search needs
 
 returns-2 : tie.Need-returns-2
-returns-2 c =
-    let a = c .before .before .before .before .before .before .before .before .before .before .before .before .before .before .before .before .before .before .before .before .before .args in
-    let ps : Planes = record { y = record { bytes = a .y .now; stride = a .y-stride }; cb = record { bytes = a .cb .now; stride = a .cb-stride }; cr = record { bytes = a .cr .now; stride = a .cr-stride } } in
-    rw (not-false (a .both) (c .before .before .before .before .if1 .left)) (row-both (a .layout) ps (a .row) (c .before .before .before .before .before .before .before .before .before .before .before .before .before .before .before .before .before .before .before .before .before .pre .0 .sound) (omega arith) (a .s .now) _ _ _ (c .before .before .before .before .before .before .before .before .before .before .before .before .before .before .before .down-column .ensures) (c .before .before .before .before .before .before .before .before .before .before .before .detail-row .ensures) (c .before .before .before .before .before .before .before .component .ensures) _ (c .before .before .component2 .ensures))
+returns-2 c cb cr =
+    let a = c .before .before .before .before .before .before .before .before .before .before .before .before .before .before .before .before .before .before .before .args in
+    let ps : Planes = record { y = record { bytes = a .y .now; stride = a .y-stride }; cb = cb; cr = cr } in
+    rw (not-false (a .both) (c .before .before .before .before .if1 .left))
+    (row-both (a .layout) ps (a .row) (omega arith) (a .s .now) _ _ _ (c .before .before .before .before .before .before .before .before .before .before .before .before .before .before .before .down-column .ensures) (c .before .before .before .before .before .before .before .before .before .before .before .detail-row .ensures) (c .before .before .before .before .before .before .before .component .ensures) _ (c .before .before .component2 .ensures))
 
 pub guided-row-spec : {M : Type 1} → statement M
 guided-row-spec =

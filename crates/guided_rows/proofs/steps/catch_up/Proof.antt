@@ -43,7 +43,8 @@ across-rows-requires c κs =
 finish-requires : tie.Need-finish-requires Inv-loop μ-loop
 finish-requires c κs =
     let l = c .before .before .before .before .before .before .before in
-    (start l .pre .0 .sound, omega arith, rw (ap length (c .before .before .before .across-rows .ensures) ∙ length-hsteps _ _ _ _ _) (room l))
+    let o = start l .pre .0 in
+    ((record { sound = o .sound; plane = o .cb }, λ e. record { sound = o .sound; plane = o .cr e }), (omega arith, rw (ap length (c .before .before .before .across-rows .ensures) ∙ length-hsteps _ _ _ _ _) (room l)))
 
 greatest-requires : tie.Need-greatest-requires Inv-loop μ-loop
 greatest-requires c κs = search needs

@@ -1,9 +1,12 @@
 use Rattle.guided.specs.Calls.{doneF}
-use Rattle.guided.specs.Scratch.{rowSteps}
+use Rattle.image.specs.Picture.{Planes, pictureOf}
+use Rattle.places.specs.Lent.{components}
+use Rattle.guided.specs.Scratch.{fsteps, rowSteps}
+use Rattle.guided_rows.specs.Row.{windowRow}
 use Rattle.guided.proofs.Taken.{taken}
 use Rattle.guided.proofs.Window.{length-fsteps}
-use mathlib.Core.Path.{refl, ap, _∙_}
-use Prim.Native.Nat.{_≤_}
+use mathlib.Core.Path.{ap, _∙_}
+use Prim.Native.Nat.{ℕ, _-_, _≤_}
 use native.Mathlib.Omega.{arith}
 use lib.ListN.{length}
 use borrow.Author.Needs.{needs}
@@ -29,7 +32,8 @@ guided-row-requires : tie.Need-guided-row-requires
 guided-row-requires c κs =
     let d = c .before .before .before .before .before in
     let e = c .before .before .before .catch-up .ensures in
-    (start d .pre .0, (start d .pre .1 .0, rw (ap length e ∙ length-fsteps _ _ _ _ _ _) (start d .pre .1 .1)))
+    let o = start d .pre .0 in
+    (record { sound = o .sound; plane = o .luma }, start d .pre .1 .0, rw (ap length e ∙ length-fsteps _ _ _ _ _ _) (start d .pre .1 .1))
 
 same-length : tie.Need-same-length
 same-length c = search needs
@@ -38,7 +42,12 @@ returns : tie.Need-returns
 unfolding rowSteps
 returns c =
     let d = c .before .before .before .before .before .before .before .before in
-    c .before .before .guided-row .ensures ∙ rw (c .before .before .before .before .before .before .catch-up .ensures, d .done-counters .ensures .1) refl
+    let a = start d .args in
+    let ps : Planes = record { y = record { bytes = a .y .now; stride = a .y-stride }; cb = record { bytes = a .cb .now; stride = a .cb-stride }; cr = record { bytes = a .cr .now; stride = a .cr-stride } } in
+    let p = pictureOf (a .layout) ps in
+    let ks = components (a .both) in
+    c .before .before .guided-row .ensures (ps .cb) (ps .cr)
+    ∙ ap (windowRow p ks (a .row)) (c .before .before .before .before .before .before .catch-up .ensures ∙ ap (λ (n : ℕ). fsteps p ks (a .h) (a .f) (n - a .f) (a .s .now)) (d .done-counters .ensures .1))
 
 pub row-steps-spec : {M : Type 1} → statement M
 row-steps-spec =

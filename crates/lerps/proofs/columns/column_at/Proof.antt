@@ -10,7 +10,7 @@ use Rattle.lerps.proofs.columns.column_at.Tie as tie
 
 -- the row of cells ends within scratch
 
-room : (c : tie.After-pitch-of) → 3 * c .before .before .args .layout .w + (33 + c .before .before .args .m) * c .pitch-of .result + c .before .before .args .layout .cw ≤ 64 * c .before .before .args .layout .cw + 8 * c .before .before .args .layout .w
+room : (c : tie.After-pitch-of) → 3 * c .before .before .args .layout .w + (45 + c .before .before .args .m) * c .pitch-of .result + c .before .before .args .layout .cw ≤ 64 * c .before .before .args .layout .cw + 8 * c .before .before .args .layout .w
 unfolding columnAt bufferAt scratchNeed
 room c = let a = c .before .before .args in rw (c .pitch-of .ensures) (column-fits (a .layout) (a .m) (omega arith))
 
@@ -31,7 +31,7 @@ add-result-2 c = let h = room c in let o = c .before .before .pre .0 in omega ar
 
 returns : tie.Need-returns
 unfolding columnAt bufferAt scratchNeed
-returns c = let a = c .before .before .args in record { is = ap (λ (p : ℕ). 3 * a .layout .w + (33 + a .m) * p) (c .pitch-of .ensures); fits = room c }
+returns c = let a = c .before .before .args in record { is = ap (λ (p : ℕ). 3 * a .layout .w + (45 + a .m) * p) (c .pitch-of .ensures); fits = room c }
 
 pub column-at-spec : {M : Type 1} → statement M
 column-at-spec =

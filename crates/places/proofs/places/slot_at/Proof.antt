@@ -9,7 +9,7 @@ use Rattle.places.proofs.places.slot_at.Statement.{statement}
 use Rattle.places.proofs.places.slot_at.Tie as tie
 
 -- the buffer ends within scratch
-room : (c : tie.After-pitch-of) → 3 * c .before .before .args .layout .w + (c .before .before .args .r % 3 * 11 + c .before .before .args .n) * c .pitch-of .result + c .before .before .args .layout .cw ≤ 64 * c .before .before .args .layout .cw + 8 * c .before .before .args .layout .w
+room : (c : tie.After-pitch-of) → 3 * c .before .before .args .layout .w + (c .before .before .args .r % 3 * 15 + c .before .before .args .n) * c .pitch-of .result + c .before .before .args .layout .cw ≤ 64 * c .before .before .args .layout .cw + 8 * c .before .before .args .layout .w
 unfolding slotAt bufferAt scratchNeed
 room c = let a = c .before .before .args in rw (c .pitch-of .ensures) (slot-fits (a .layout) (a .n) (a .r) (omega arith))
 
@@ -33,7 +33,7 @@ add-result-2 c = let h = room c in let o = c .before .before .pre .0 in omega ar
 
 returns : tie.Need-returns
 unfolding slotAt bufferAt scratchNeed
-returns c = let a = c .before .before .args in record { is = ap (λ (p : ℕ). 3 * a .layout .w + (a .r % 3 * 11 + a .n) * p) (c .pitch-of .ensures); fits = room c }
+returns c = let a = c .before .before .args in record { is = ap (λ (p : ℕ). 3 * a .layout .w + (a .r % 3 * 15 + a .n) * p) (c .pitch-of .ensures); fits = room c }
 
 pub slot-at-spec : {M : Type 1} → statement M
 slot-at-spec =

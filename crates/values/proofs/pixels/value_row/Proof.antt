@@ -17,13 +17,13 @@ value-cells-requires : tie.Need-value-cells-requires
 value-cells-requires c κs = let a = c .before .before .before .before .args in
     let k = chromaOf (a .cr) in
     let e = c .before .finished-at .ensures in
-    ((c .before .before .before .before .pre .0, bands-inside (a .layout) k _ _ (c .before .before .bands-of .ensures) (omega arith)), omega (arith, e, finished-place (a .layout) k))
+    ((c .before .before .before .before .pre .0, bands-inside (a .layout) k (a .j) _ _ (c .before .before .bands-of .ensures) (omega arith)), omega (arith, e, finished-place (a .layout) k))
 
 same-length : tie.Need-same-length
 same-length c = search needs
 
 returns : tie.Need-returns
-returns c = let a = c .before .before .before .before .before .before .before .args in c .before .before .value-cells .ensures ∙ value-line (a .layout) (chromaOf (a .cr)) _ _ (a .s .now) (c .before .before .before .before .before .bands-of .ensures) (c .before .before .before .before .finished-at .ensures)
+returns c = let a = c .before .before .before .before .before .before .before .args in c .before .before .value-cells .ensures ∙ value-line (a .layout) (chromaOf (a .cr)) (a .j) _ _ (a .s .now) (c .before .before .before .before .before .bands-of .ensures) (c .before .before .before .before .finished-at .ensures)
 
 pub value-row-spec : {M : Type 1} → statement M
 value-row-spec =
