@@ -12,52 +12,32 @@ use Rattle.laws.proofs.Lists.{put-same, put-chain}
 use Rattle.image.specs.declared.layout.Layout.{Layout}
 use Rattle.image.specs.Samples.{Plane, sampleOf, sampleAt}
 use Rattle.image.proofs.Pictures.{sample-small}
-use Rattle.guidance.specs.Guided.{three, extremeOf}
-use Rattle.guided.proofs.Extremes.{fmin-whole, fmax-whole}
-use Rattle.extremes.specs.Extremes.{opOf, extremeRun, extremeRow, wholeOp, threeFrom, nineFrom}
+use Rattle.guidance.specs.Guided.{extremeOf}
+use Rattle.guided.specs.Events.{threeN}
+use Rattle.guided.proofs.Extremes.{least-of, greatest-of}
+use Rattle.extremes.specs.Extremes.{opOf, extremeRun, extremeRow, wholeOp, wholeExtreme, threeFrom, nineFrom}
 use Rattle.laws.proofs.Counts.{plus-plus}
 
-op-whole : (greatest : Bool) (a b : ℕ) → a ≤ 65535 → b ≤ 65535 → opOf greatest (f32 a) (f32 b) ≡ f32 (wholeOp greatest a b)
-op-whole true a b h k = fmax-whole a b h k
-op-whole false a b h k = fmin-whole a b h k
+-- the nine samples round a cell, as floats and as numbers
+pub whole-is : (l : Layout) (p : Plane) (greatest : Bool) → ((i : ℕ) → getD (p .bytes) i 0 < 256) → (j i : ℕ)
+    → extremeOf l (opOf greatest) (sampleAt (l .«sample_bytes») p) j i ≡ f32 (wholeExtreme l greatest (sampleAt (l .«sample_bytes») p) j i)
+unfolding wholeExtreme sampleAt
+whole-is l p true small j i = greatest-of l _ j i (λ x y. sample-small (l .«sample_bytes») (p .bytes) _ small)
+whole-is l p false small j i = least-of l _ j i (λ x y. sample-small (l .«sample_bytes») (p .bytes) _ small)
 
-op-most : (greatest : Bool) (a b : ℕ) → a ≤ 65535 → b ≤ 65535 → wholeOp greatest a b ≤ 65535
-op-most true a b h k = omega arith
-op-most false a b h k = omega arith
-
--- the two steps of three
-module _ (greatest : Bool) (a b c : ℕ) (h : a ≤ 65535) (k : b ≤ 65535) (m : c ≤ 65535) where
-  steps-whole : opOf greatest (opOf greatest (f32 a) (f32 b)) (f32 c) ≡ f32 (wholeOp greatest (wholeOp greatest a b) c)
-  steps-whole = ap (λ (v : Float). opOf greatest v (f32 c)) (op-whole greatest a b h k) ∙ op-whole greatest (wholeOp greatest a b) c (op-most greatest a b h k) m
-
-  steps-most : wholeOp greatest (wholeOp greatest a b) c ≤ 65535
-  steps-most = op-most greatest (wholeOp greatest a b) c (op-most greatest a b h k) m
-
--- three rows whose middle ones are like those of three numbers
-steps-of : (op : Float → Float → Float) (a b c x y z : Float) → a ≡ x → b ≡ y → c ≡ z → op (op a b) c ≡ op (op x y) z
+steps-of : (op : ℕ → ℕ → ℕ) (a b c x y z : ℕ) → a ≡ x → b ≡ y → c ≡ z → op (op a b) c ≡ op (op x y) z
 steps-of op a b c x y z p q r = rw (p, q, r) refl
 
-module _ (l : Layout) (p : Plane) (greatest : Bool) (small : (i : ℕ) → getD (p .bytes) i 0 < 256) where
-  three-most : (at : ℕ) → threeFrom greatest (l .«sample_bytes») (p .bytes) at ≤ 65535
-  unfolding threeFrom
-  three-most at =
-      let b = l .«sample_bytes» in
-      steps-most greatest _ _ _ (sample-small b (p .bytes) at small) (sample-small b (p .bytes) (at + b) small) (sample-small b (p .bytes) (at + 2 * b) small)
-
+module _ (l : Layout) (p : Plane) (greatest : Bool) where
   -- the three cells round cell 1 + q of row r
-  across-whole : (r q : ℕ) → q + 2 < l .cw → three (opOf greatest) (l .cw) (λ i. f32 (sampleAt (l .«sample_bytes») p i r)) (1 + q) ≡ f32 (threeFrom greatest (l .«sample_bytes») (p .bytes) (r * p .stride + q * l .«sample_bytes»))
-  unfolding three threeFrom sampleAt
-  across-whole r q h =
+  across-from : (r q : ℕ) → q + 2 < l .cw → threeN (wholeOp greatest) (l .cw) (λ i. sampleAt (l .«sample_bytes») p i r) (1 + q) ≡ threeFrom greatest (l .«sample_bytes») (p .bytes) (r * p .stride + q * l .«sample_bytes»)
+  unfolding threeN threeFrom sampleAt
+  across-from r q h =
       let b = l .«sample_bytes» in
-      let at = r * p .stride + q * b in
       let left : 1 + q - 1 ≡ q = omega arith in
       let right : min (1 + q + 1) (l .cw - 1) ≡ q + 2 = omega arith in
-      let one : r * p .stride + (1 + q) * b ≡ at + b = place-one (r * p .stride) q b in
-      let two : r * p .stride + (q + 2) * b ≡ at + 2 * b = place-two (r * p .stride) q b in
-      let value : ℕ → Float = λ k. f32 (sampleOf b (p .bytes) k) in
-      steps-of (opOf greatest) _ _ _ (value at) (value (at + b)) (value (at + 2 * b))
-      (ap (λ (i : ℕ). value (r * p .stride + i * b)) left) (ap value one) (ap (λ (i : ℕ). value (r * p .stride + i * b)) right ∙ ap value two)
-      ∙ steps-whole greatest _ _ _ (sample-small b (p .bytes) at small) (sample-small b (p .bytes) (at + b) small) (sample-small b (p .bytes) (at + 2 * b) small)
+      let value : ℕ → ℕ = λ i. sampleOf b (p .bytes) (r * p .stride + i * b) in
+      steps-of (wholeOp greatest) _ _ _ _ _ _ (ap value left) (ap (sampleOf b (p .bytes)) (place-one (r * p .stride) q b)) (ap value right ∙ ap (sampleOf b (p .bytes)) (place-two (r * p .stride) q b))
     where
       place-one : (a q b : ℕ) → a + (1 + q) * b ≡ a + q * b + b
       place-one a q b = omega arith
@@ -66,14 +46,12 @@ module _ (l : Layout) (p : Plane) (greatest : Bool) (small : (i : ℕ) → getD 
       place-two a q b = omega arith
 
   -- the nine round cell 1 + q of row j
-  pub inner-whole : (j q : ℕ) → q + 2 < l .cw
+  pub inner-whole : ((i : ℕ) → getD (p .bytes) i 0 < 256) → (j q : ℕ) → q + 2 < l .cw
       → extremeOf l (opOf greatest) (sampleAt (l .«sample_bytes») p) j (1 + q)
       ≡ f32 (nineFrom greatest (l .«sample_bytes») (p .bytes) ((j - 1) * p .stride + q * l .«sample_bytes») (j * p .stride + q * l .«sample_bytes») (min (j + 1) (l .ch - 1) * p .stride + q * l .«sample_bytes»))
-  unfolding extremeOf nineFrom three
-  inner-whole j q h =
-      let at : ℕ → ℕ = λ r. r * p .stride + q * l .«sample_bytes» in
-      steps-of (opOf greatest) _ _ _ _ _ _ (across-whole (j - 1) q h) (across-whole j q h) (across-whole (min (j + 1) (l .ch - 1)) q h)
-      ∙ steps-whole greatest _ _ _ (three-most (at (j - 1))) (three-most (at j)) (three-most (at (min (j + 1) (l .ch - 1))))
+  unfolding nineFrom wholeExtreme threeN
+  inner-whole small j q h =
+      whole-is l p greatest small j (1 + q) ∙ ap f32 (steps-of (wholeOp greatest) _ _ _ _ _ _ (across-from (j - 1) q h) (across-from j q h) (across-from (min (j + 1) (l .ch - 1)) q h))
 
 nine-same : (greatest : Bool) (plane : List ℕ) (b c u m d u' m' d' : ℕ) → b ≡ c → u ≡ u' → m ≡ m' → d ≡ d' → nineFrom greatest b plane u m d ≡ nineFrom greatest c plane u' m' d'
 nine-same greatest plane b c u m d u' m' d' e p q r = rw (e, p, q, r) refl

@@ -8,6 +8,7 @@ use Rattle.image.specs.declared.layout.Layout.{Layout}
 use Rattle.image.specs.Samples.{Plane, sampleOf, sampleAt}
 use Rattle.fround.specs.Rounding.{fmin, fmax}
 use Rattle.guidance.specs.Guided.{extremeOf}
+use Rattle.guided.specs.Events.{threeN}
 
 -- the greater or the smaller of two
 abbrev pub opOf : Bool → Float → Float → Float
@@ -27,6 +28,10 @@ extremeRow l p greatest j dst s = put s dst (l .cw) (extremeOf l (opOf greatest)
 abbrev pub wholeOp : Bool → ℕ → ℕ → ℕ
 wholeOp true = max
 wholeOp false = min
+
+-- of the three by three samples round cell i of row j, `c i j` being the samples
+unfoldable pub wholeExtreme : Layout → Bool → (ℕ → ℕ → ℕ) → ℕ → ℕ → ℕ
+wholeExtreme l greatest c j i = threeN (wholeOp greatest) (l .ch) (λ r. threeN (wholeOp greatest) (l .cw) (λ q. c q r) i) j
 
 -- of three samples of a row, the first of which begins at `at`
 unfoldable pub threeFrom : Bool → ℕ → List ℕ → ℕ → ℕ

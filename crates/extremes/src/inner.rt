@@ -123,14 +123,18 @@ pub fn byte_run(
     requires { ⌜ (u + n + 2 ≤ length (now plane)) × (m + n + 2 ≤ length (now plane)) × (d + n + 2 ≤ length (now plane)) × (dst + n ≤ length (now s)) ⌝ }
     ensures { λ _. ⌜ now (s .exit) ≡ put (now (s .entry)) dst n (λ i. f32 (nineFrom greatest 1 (now (plane .entry)) (u + i) (m + i) (d + i))) ⌝ }
 {
-    let k = n / Cells::BLOCK;
-    let i = Cells::BLOCK * k;
-    byte_blocks(plane, greatest, u, m, d, k, s, dst);
-    byte_cells(plane, greatest, u + i, m + i, d + i, n - i, s, dst + i);
+    if n < Cells::BLOCK {
+        byte_cells(plane, greatest, u, m, d, n, s, dst);
+        return;
+    }
+    let i = n - Cells::BLOCK;
+    byte_blocks(plane, greatest, u, m, d, n / Cells::BLOCK, s, dst);
+    let block = byte_block(plane, greatest, u + i, m + i, d + i);
+    put_floats(s, dst + i, block);
 }
 
-// The greater or the smaller of two samples.
-fn pick_word(greatest: bool, a: u16, b: u16) -> u16
+// Inner: the greater or the smaller of two samples.
+pub fn pick_word(greatest: bool, a: u16, b: u16) -> u16
     ensures { λ r. ⌜ r ≡ wholeOp greatest a b ⌝ }
 {
     if greatest {

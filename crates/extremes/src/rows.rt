@@ -2,37 +2,27 @@
 ghost use mathlib.Core.Path.{_≡_};
 ghost use Prim.Native.Nat.{_+_, _-_, _≤_, _<_};
 ghost use lib.ListN.{length};
-ghost use Rattle.laws.specs.Floats.{f32};
 ghost use Rattle.image.specs.Samples.{Plane, sampleAt};
-ghost use Rattle.guidance.specs.Guided.{three, extremeOf};
+ghost use Rattle.guided.specs.Events.{threeN};
 ghost use Rattle.places.specs.Lent.{ChromaCells};
-ghost use Rattle.extremes.specs.Extremes.{opOf, extremeRun, extremeRow};
+ghost use Rattle.extremes.specs.Extremes.{extremeRun, extremeRow, wholeOp, wholeExtreme};
 use super::inner::byte_run;
+use super::inner::pick_word;
 use super::inner::word_run;
 use image::Layout;
-use places::sample_at;
-
-// The greater or the smaller of two.
-fn pick(greatest: bool, a: f32, b: f32) -> f32
-    ensures { λ r. ⌜ r ≡ opOf greatest a b ⌝ }
-{
-    if greatest {
-        return fround::fmax(a, b);
-    }
-    fround::fmin(a, b)
-}
+use places::whole_at;
 
 // Of the three cells across round cell i of row r.
-fn across(layout: Layout, plane: &[u8], stride: usize, greatest: bool, r: usize, i: usize) -> f32
+fn across(layout: Layout, plane: &[u8], stride: usize, greatest: bool, r: usize, i: usize) -> u16
     requires { ⌜ ChromaCells layout (record { bytes = now plane; stride = stride }) × (i < layout .cw) × (r < layout .ch) ⌝ }
-    ensures { λ v. ⌜ v ≡ three (opOf greatest) (layout .cw) (λ q. f32 (sampleAt (layout .«sample_bytes») (record { bytes = now (plane .entry); stride = stride }) q r)) i ⌝ }
+    ensures { λ v. ⌜ v ≡ threeN (wholeOp greatest) (layout .cw) (λ q. sampleAt (layout .«sample_bytes») (record { bytes = now (plane .entry); stride = stride }) q r) i ⌝ }
 {
     let w = layout.cw;
     let h = layout.ch;
-    let a = sample_at(layout, plane, stride, w, h, places::prev(i), r);
-    let b = sample_at(layout, plane, stride, w, h, i, r);
-    let c = sample_at(layout, plane, stride, w, h, places::next(i, w), r);
-    pick(greatest, pick(greatest, a, b), c)
+    let a = whole_at(layout, plane, stride, w, h, places::prev(i), r);
+    let b = whole_at(layout, plane, stride, w, h, i, r);
+    let c = whole_at(layout, plane, stride, w, h, places::next(i, w), r);
+    pick_word(greatest, pick_word(greatest, a, b), c)
 }
 
 // Of the nine round cell i of row j: the three rows' in turn.
@@ -43,21 +33,15 @@ fn extreme_at(
     greatest: bool,
     j: usize,
     i: usize,
-) -> f32
+) -> u16
     requires { ⌜ ChromaCells layout (record { bytes = now plane; stride = stride }) × (i < layout .cw) × (j < layout .ch) ⌝ }
-    ensures { λ v. ⌜ v ≡ extremeOf layout (opOf greatest) (sampleAt (layout .«sample_bytes») (record { bytes = now (plane .entry); stride = stride })) j i ⌝ }
+    ensures { λ v. ⌜ v ≡ wholeExtreme layout greatest (sampleAt (layout .«sample_bytes») (record { bytes = now (plane .entry); stride = stride })) j i ⌝ }
 {
     let a = across(layout, plane, stride, greatest, places::prev(j), i);
     let b = across(layout, plane, stride, greatest, j, i);
-    let c = across(
-        layout,
-        plane,
-        stride,
-        greatest,
-        places::next(j, layout.ch),
-        i,
-    );
-    pick(greatest, pick(greatest, a, b), c)
+    let d = places::next(j, layout.ch);
+    let c = across(layout, plane, stride, greatest, d, i);
+    pick_word(greatest, pick_word(greatest, a, b), c)
 }
 
 // Those of n cells of chroma row j, from cell `from` on.
@@ -78,7 +62,7 @@ fn extreme_run(
 {
     let mut i = 0;
     while i < n {
-        s[dst + from + i] = extreme_at(layout, plane, stride, greatest, j, from + i);
+        s[dst + from + i] = extreme_at(layout, plane, stride, greatest, j, from + i) as f32;
         i += 1;
     }
 }

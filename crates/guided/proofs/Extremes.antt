@@ -12,6 +12,7 @@ use lib.Ieee.Order.{round-mono}
 use Rattle.laws.specs.Floats.{f32}
 use Rattle.laws.proofs.Order.{not-nan-right}
 use Rattle.laws.proofs.Values.{whole-value}
+use Rattle.image.specs.declared.layout.Layout.{Layout}
 use Rattle.image.specs.Picture.{Chroma, Picture}
 use Rattle.fround.specs.Rounding.{fmin, fmax}
 use Rattle.fround.proofs.Laws.{between}
@@ -74,20 +75,27 @@ module _ (fop : Float → Float → Float) (op : ℕ → ℕ → ℕ) (same : (x
   three-same n f g i s e =
       rw (e (i - 1), e i, e (min (i + 1) (n - 1)), same (f (i - 1)) (f i) (s (i - 1)) (s i)) (same (op (f (i - 1)) (f i)) (f (min (i + 1) (n - 1))) (stays _ _ (s (i - 1)) (s i)) (s (min (i + 1) (n - 1))))
 
-  nine-same : (p : Picture) (k : Chroma) (j i : ℕ) → ((x y : ℕ) → p .chroma k x y ≤ 65535) → extreme p fop k j i ≡ f32 (nine op p k i j)
-  unfolding nine extreme extremeOf
-  nine-same p k j i s =
-      let l = p .layout in
-      three-same (l .ch) (λ r. threeN op (l .cw) (λ q. p .chroma k q r) i) (λ r. three fop (l .cw) (λ q. f32 (p .chroma k q r)) i) j
-      (λ r. three-small (l .cw) (λ q. p .chroma k q r) i (λ q. s q r))
-      (λ r. three-same (l .cw) (λ q. p .chroma k q r) (λ q. f32 (p .chroma k q r)) i (λ q. s q r) (λ q. refl))
+  extreme-same : (l : Layout) (c : ℕ → ℕ → ℕ) (j i : ℕ) → ((x y : ℕ) → c x y ≤ 65535) → extremeOf l fop c j i ≡ f32 (threeN op (l .ch) (λ r. threeN op (l .cw) (λ q. c q r) i) j)
+  unfolding extremeOf
+  extreme-same l c j i s =
+      three-same (l .ch) (λ r. threeN op (l .cw) (λ q. c q r) i) (λ r. three fop (l .cw) (λ q. f32 (c q r)) i) j
+      (λ r. three-small (l .cw) (λ q. c q r) i (λ q. s q r))
+      (λ r. three-same (l .cw) (λ q. c q r) (λ q. f32 (c q r)) i (λ q. s q r) (λ q. refl))
 
 -- the least and the greatest of nine floats are those of nine numbers
+pub least-of : (l : Layout) (c : ℕ → ℕ → ℕ) (j i : ℕ) → ((x y : ℕ) → c x y ≤ 65535) → extremeOf l fmin c j i ≡ f32 (threeN min (l .ch) (λ r. threeN min (l .cw) (λ q. c q r) i) j)
+least-of = extreme-same fmin min fmin-whole (λ x y X Y. omega arith)
+
+pub greatest-of : (l : Layout) (c : ℕ → ℕ → ℕ) (j i : ℕ) → ((x y : ℕ) → c x y ≤ 65535) → extremeOf l fmax c j i ≡ f32 (threeN max (l .ch) (λ r. threeN max (l .cw) (λ q. c q r) i) j)
+greatest-of = extreme-same fmax max fmax-whole (λ x y X Y. omega arith)
+
 pub least-is : (p : Picture) (k : Chroma) (j i : ℕ) → ((x y : ℕ) → p .chroma k x y ≤ 65535) → extreme p fmin k j i ≡ f32 (nine min p k i j)
-least-is = nine-same fmin min fmin-whole (λ x y X Y. omega arith)
+unfolding nine extreme
+least-is p k = least-of (p .layout) (p .chroma k)
 
 pub greatest-is : (p : Picture) (k : Chroma) (j i : ℕ) → ((x y : ℕ) → p .chroma k x y ≤ 65535) → extreme p fmax k j i ≡ f32 (nine max p k i j)
-greatest-is = nine-same fmax max fmax-whole (λ x y X Y. omega arith)
+unfolding nine extreme
+greatest-is p k = greatest-of (p .layout) (p .chroma k)
 
 nine-ordered : (p : Picture) (k : Chroma) (i j : ℕ) → nine min p k i j ≤ nine max p k i j
 unfolding nine threeN

@@ -1,8 +1,8 @@
 -- Laws of `put` and `table`: reading a run back, chaining runs, comparing them, and the three steps of a loop that writes one.
-use mathlib.Core.Path.{_≡_, refl, ap, _∙_}
+use mathlib.Core.Path.{_≡_, refl, sym, ap, _∙_}
 use mathlib.Core.Logic.{inl, inr}
 use mathlib.Core.List.{List, [], _∷_, _++_}
-use Prim.Native.Nat.{ℕ, zero, suc, _+_, _*_, _≤_, _<_}
+use Prim.Native.Nat.{ℕ, zero, suc, _+_, _-_, _*_, _≤_, _<_}
 use native.Mathlib.Nat.{eq-or-lt-of-le, le-of-suc-le-suc, zero-add, suc-mul}
 use native.Mathlib.Numerals.{add-one}
 use native.Mathlib.Omega.{arith}
@@ -57,6 +57,39 @@ module _ {A : Type 0} where
       let e : f n ≡ g n = h n (omega arith) in
       let r : put xs at n f ≡ put xs at n g = put-same xs at n f g (λ i l. h i (omega arith)) in
       cc
+
+  -- storing what is already there changes nothing
+  pub set-held : (xs : List A) (i : ℕ) (v d : A) → getD xs i d ≡ v → i < length xs → set xs i v ≡ xs
+  set-held [] i v d e h = refl
+  set-held (x ∷ xs) zero v d e h = ap (λ (y : A). y ∷ xs) (sym e)
+  set-held (x ∷ xs) (suc i) v d e h = ap (λ (ys : List A). x ∷ ys) (set-held xs i v d e (omega arith))
+
+  -- so does a part of a run that is put again
+  put-again : (xs : List A) (at n : ℕ) (f : ℕ → A) (a k : ℕ) (d : A) → a + k ≤ n → at + n ≤ length xs → put (put xs at n f) (at + a) k (λ i. f (a + i)) ≡ put xs at n f
+  unfolding put
+  put-again xs at n f a zero d h l = refl
+  put-again xs at n f a (suc k) d h l =
+      let e : at + a + k ≡ at + (a + k) = omega arith in
+      rw (put-again xs at n f a k d (omega arith) l, e) (set-held (put xs at n f) (at + (a + k)) (f (a + k)) d (put-inside xs at n f (a + k) d (omega arith) l) (rw length-put (omega arith)))
+
+  -- n values, and then k of which the first were among them, are one run: a last block may overlap the one before
+  pub put-over : (xs : List A) (at n : ℕ) (f : ℕ → A) (a k : ℕ) (d : A) → a ≤ n → n ≤ a + k → at + n ≤ length xs → put (put xs at n f) (at + a) k (λ i. f (a + i)) ≡ put xs at (a + k) f
+  put-over xs at n f a k d h g l =
+      let ys = put xs at n f in
+      let j : ℕ = n - a in
+      let r : ℕ = a + k - n in
+      let e : k ≡ j + r = omega arith in
+      let b : at + a + j ≡ at + n = omega arith in
+      let c : n + r ≡ a + k = omega arith in
+      ap (λ (m : ℕ). put ys (at + a) m (λ i. f (a + i))) e
+      ∙ sym (put-chain ys (at + a) j r (λ i. f (a + i)))
+      ∙ ap (λ (zs : List A). put zs (at + a + j) r (λ i. f (a + (j + i)))) (put-again xs at n f a j d (omega arith) l)
+      ∙ ap (λ (m : ℕ). put ys m r (λ i. f (a + (j + i)))) b
+      ∙ put-same ys (at + n) r _ (λ i. f (n + i)) (λ i q. ap f (place i))
+      ∙ put-chain xs at n r f ∙ ap (λ (m : ℕ). put xs at m f) c
+    where
+      place : (i : ℕ) → a + (n - a + i) ≡ n + i
+      place i = omega arith
 
   -- a run from the start is the list's first n values
   pub take-put : (xs : List A) (n : ℕ) (f : ℕ → A) → n ≤ length xs → take n (put xs zero n f) ≡ table n f

@@ -11,3 +11,4 @@ pub use places::pitch_of;
 pub use places::slot_at;
 pub use places::window_at;
 pub use samples::sample_at;
+pub use samples::whole_at;

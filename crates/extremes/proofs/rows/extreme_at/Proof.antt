@@ -1,8 +1,7 @@
 use Rattle.extremes.proofs.Nines.{three-of}
-use Rattle.extremes.specs.Extremes.{opOf}
-use Rattle.guidance.specs.Guided.{three, extremeOf}
+use Rattle.extremes.specs.Extremes.{wholeOp, wholeExtreme}
+use Rattle.guided.specs.Events.{threeN}
 use Rattle.image.specs.Samples.{Plane, sampleAt}
-use Rattle.laws.specs.Floats.{f32}
 use borrow.Author.Needs.{needs}
 use Rattle.extremes.proofs.rows.extreme_at.Statement.{statement}
 use Rattle.extremes.proofs.rows.extreme_at.Tie as tie
@@ -22,19 +21,19 @@ next-requires c κs = search needs
 across-requires-3 : tie.Need-across-requires-3
 across-requires-3 c κs = search needs
 
-pick-requires : tie.Need-pick-requires
-pick-requires c κs = search needs
+pick-word-requires : tie.Need-pick-word-requires
+pick-word-requires c κs = search needs
 
-pick-requires-2 : tie.Need-pick-requires-2
-pick-requires-2 c κs = search needs
+pick-word-requires-2 : tie.Need-pick-word-requires-2
+pick-word-requires-2 c κs = search needs
 
 returns : tie.Need-returns
-unfolding extremeOf
+unfolding wholeExtreme
 returns c =
     let a = c .before .before .before .before .before .before .before .before .args in
     let p : Plane = record { bytes = a .plane .now; stride = a .stride } in
-    three-of (opOf (a .greatest)) (a .layout .ch) (λ r. three (opOf (a .greatest)) (a .layout .cw) (λ q. f32 (sampleAt (a .layout .«sample_bytes») p q r)) (a .i)) (a .j) _ _ _ _ _ _ _
-    (c .before .before .before .before .before .before .prev .ensures) (c .before .before .before .next .ensures) (c .before .before .before .before .before .across .ensures) (c .before .before .before .before .across2 .ensures) (c .before .before .across3 .ensures) (c .before .pick .ensures) (c .pick2 .ensures)
+    three-of (wholeOp (a .greatest)) (a .layout .ch) (λ r. threeN (wholeOp (a .greatest)) (a .layout .cw) (λ q. sampleAt (a .layout .«sample_bytes») p q r) (a .i)) (a .j) _ _ _ _ _ _ _
+    (c .before .before .before .before .before .before .prev .ensures) (c .before .before .before .next .ensures) (c .before .before .before .before .before .across .ensures) (c .before .before .before .before .across2 .ensures) (c .before .before .across3 .ensures) (c .before .pick-word .ensures) (c .pick-word2 .ensures)
 
 pub extreme-at-spec : {M : Type 1} → statement M
 extreme-at-spec =
@@ -45,6 +44,6 @@ extreme-at-spec =
     across-requires-2
     next-requires
     across-requires-3
-    pick-requires
-    pick-requires-2
+    pick-word-requires
+    pick-word-requires-2
     returns)

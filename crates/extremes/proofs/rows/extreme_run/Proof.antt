@@ -1,6 +1,9 @@
+use mathlib.Core.Path.{sym, ap, _∙_}
 use Prim.Native.Nat.{_+_, _-_, _≤_}
 use native.Mathlib.Omega.{arith}
 use Rattle.extremes.proofs.rows.extreme_run.Statement.{statement}
+use Rattle.laws.specs.Floats.{f32}
+use Rattle.extremes.proofs.Wholes.{whole-is}
 use Rattle.laws.proofs.Lists.{Run, run-end, run-more, run-none}
 use Rattle.guidance.specs.Guided.{extremeOf}
 use Rattle.extremes.specs.Extremes.{extremeRun, opOf}
@@ -23,6 +26,9 @@ add-extreme-at c = omega arith
 extreme-at-requires : tie.Need-extreme-at-requires Inv-loop μ-loop
 extreme-at-requires c κs = search needs
 
+int-to-float-s : tie.Need-int-to-float-s Inv-loop μ-loop
+int-to-float-s c = search needs
+
 add-s : tie.Need-add-s Inv-loop μ-loop
 add-s c = omega arith
 
@@ -42,7 +48,10 @@ loop-less : tie.Need-loop-less Inv-loop μ-loop
 loop-less c = omega arith
 
 loop-again : tie.Need-loop-again Inv-loop μ-loop
-loop-again c = (omega arith, run-more (c .before .before .loop .inv .1) _ (c .extreme-at .ensures))
+loop-again c =
+    let s = c .before .before .before in
+    let a = s .before .before .before .args in
+    (omega arith, run-more (s .loop .inv .1) _ (ap f32 (c .before .extreme-at .ensures) ∙ sym (whole-is (a .layout) (record { bytes = a .plane .now; stride = a .stride }) (a .greatest) (λ i. s .before .before .shared-slice-known .given i .fits) (a .j) _)))
 
 same-length : tie.Need-same-length Inv-loop μ-loop
 same-length c = c .before .loop .inv .1 .len
@@ -60,6 +69,7 @@ extreme-run-spec =
     loop-holds
     add-extreme-at
     extreme-at-requires
+    int-to-float-s
     add-s
     add-s-2
     mul-s

@@ -1,39 +1,17 @@
-use Rattle.image.proofs.Planes.{short-holds, sample-inside}
-use Rattle.image.specs.Samples.{sampleAt}
 use mathlib.Core.Path.{ap}
-use Prim.Native.Nat.{_+_, _*_, _≤_}
-use Rattle.laws.specs.Floats.{f32}
-use native.Mathlib.Omega.{arith}
-use lib.ListN.{length}
 use borrow.Author.Needs.{needs}
+use Rattle.laws.specs.Floats.{f32}
 use Rattle.places.proofs.samples.sample_at.Statement.{statement}
 use Rattle.places.proofs.samples.sample_at.Tie as tie
 
--- the sample lies within the plane
-
-inside : (c : tie.Start) → c .args .y * c .args .stride + c .args .x * c .args .layout .«sample_bytes» + c .args .layout .«sample_bytes» ≤ length (c .args .plane .now)
-inside c = let a = c .args in sample-inside (short-holds (a .layout) (a .w) (a .h) (record { bytes = a .plane .now; stride = a .stride }) (c .pre .1)) (a .x) (a .y) (omega arith) (omega arith)
-
-mul-sample : tie.Need-mul-sample
-mul-sample c = let h = inside (c .before) in omega arith
-
-mul-sample-2 : tie.Need-mul-sample-2
-mul-sample-2 c = let h = inside (c .before) in omega arith
-
-add-sample : tie.Need-add-sample
-add-sample c = let h = inside (c .before) in omega arith
-
-sample-requires : tie.Need-sample-requires
-sample-requires c κs = let h = inside (c .before) in let o = c .before .pre .0 in omega arith
+whole-at-requires : tie.Need-whole-at-requires
+whole-at-requires c κs = search needs
 
 int-to-float-result : tie.Need-int-to-float-result
 int-to-float-result c = search needs
 
 returns : tie.Need-returns
-unfolding sampleAt
-returns c = ap f32 (c .before .sample .ensures)
+returns c = ap f32 (c .before .whole-at .ensures)
 
 pub sample-at-spec : {M : Type 1} → statement M
-sample-at-spec =
-    tie.close
-    (tie.spec mul-sample mul-sample-2 add-sample sample-requires int-to-float-result returns)
+sample-at-spec = tie.close (tie.spec whole-at-requires int-to-float-result returns)
