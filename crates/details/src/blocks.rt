@@ -5,6 +5,7 @@ ghost use lib.Ieee.{nan};
 ghost use lib.ListN.{length, getD};
 ghost use Rattle.luma.specs.Luma.{Cells};
 ghost use Rattle.details.specs.Pixels.{detailIn, detailPair, detailRun};
+use super::detail::detail_run;
 use image::Layout;
 use lerps::Lanes;
 use lerps::Pair;
@@ -81,32 +82,7 @@ fn detail_blocks(
     }
 }
 
-// Of n cells, from cell `from` + 1 on.
-fn detail_pairs(
-    layout: Layout,
-    plane: &[u8],
-    stride: usize,
-    y: usize,
-    s: &mut [f32],
-    src: usize,
-    dst: usize,
-    from: usize,
-    n: usize,
-)
-    requires { ⌜ Cells layout (record { bytes = now plane; stride = stride }) × (y < layout .h) × (layout .rh ≡ 2) × (from + n + 2 ≤ layout .cw) × (2 * (from + n) + 2 ≤ layout .w) ⌝ }
-    requires { ⌜ (dst + layout .w ≤ src) × (src + layout .cw ≤ length (now s)) ⌝ }
-    ensures { λ _. ⌜ now (s .exit) ≡ detailRun layout (record { bytes = now (plane .entry); stride = stride }) y src dst (2 + 2 * from) (2 * n) (now (s .entry)) ⌝ }
-{
-    let mut i = 0;
-    while i < n {
-        let p = detail_pair(layout, plane, stride, y, s, src, from + i);
-        s[dst + (2 + 2 * from) + 2 * i] = p.left;
-        s[dst + (2 + 2 * from) + 2 * i + 1] = p.right;
-        i += 1;
-    }
-}
-
-// Inner: the detail of n cells, from cell 1 on, at ratio 2: blocks, then pairs.
+// Inner: the detail of n cells, from cell 1 on, at ratio 2: blocks, the last of which ends with the cells and may overlap the one before.
 pub fn detail_twos(
     layout: Layout,
     plane: &[u8],
@@ -121,8 +97,12 @@ pub fn detail_twos(
     requires { ⌜ (dst + layout .w ≤ src) × (src + layout .cw ≤ length (now s)) ⌝ }
     ensures { λ _. ⌜ now (s .exit) ≡ detailRun layout (record { bytes = now (plane .entry); stride = stride }) y src dst 2 (2 * n) (now (s .entry)) ⌝ }
 {
-    let k = n / Lanes::CELLS;
-    let m = 8 * k;
-    detail_blocks(layout, plane, stride, y, s, src, dst, k);
-    detail_pairs(layout, plane, stride, y, s, src, dst, m, n - m);
+    if n < Lanes::CELLS {
+        detail_run(layout, plane, stride, y, s, src, dst, 2, 2 * n);
+        return;
+    }
+    let i = n - Lanes::CELLS;
+    detail_blocks(layout, plane, stride, y, s, src, dst, n / Lanes::CELLS);
+    let block = detail_block(layout, plane, stride, y, s, src, i);
+    put_block(s, dst + 2 + 2 * i, block);
 }

@@ -14,8 +14,8 @@ use lerps::column_at;
 use places::sample_at;
 use taps::Phase;
 
-// The detail of n columns of row y, from column `from` on: luma less the cells at src lerped across.
-fn detail_run(
+// Inner: the detail of n columns of row y, from column `from` on: luma less the cells at src lerped across.
+pub fn detail_run(
     layout: Layout,
     plane: &[u8],
     stride: usize,

@@ -3,10 +3,10 @@ use mathlib.Core.Path.{_≡_, refl, sym, ap, _∙_}
 use mathlib.Core.List.{List}
 use Prim.Native.Nat.{ℕ, _+_, _-_, _*_, _/_, _%_, _≤_, _<_, min}
 use native.Mathlib.Omega.{arith}
-use lib.ListN.{getD}
+use lib.ListN.{length, getD}
 use lib.Ieee.{Float, nan}
 use Rattle.laws.specs.Lists.{put}
-use Rattle.laws.proofs.Lists.{put-same, put-after, put-chain, Run, run-run}
+use Rattle.laws.proofs.Lists.{put-same, put-after, put-chain, put-over, Run, run-run}
 use Rattle.image.specs.declared.layout.Layout.{Layout}
 use Rattle.image.specs.Tests.{Sound}
 use Rattle.image.specs.Samples.{Plane}
@@ -53,6 +53,19 @@ lanes-more {xs} {ys} {at} n F r zs block e h =
   where
     place : (k : ℕ) → 2 + 2 * (8 * n) + k ≡ 2 + (16 * n + k)
     place k = omega arith
+
+-- the last block of n cells, which may overlap the one before, where a value looks only at what lies from `low` on
+pub lanes-over : (F : List Float → ℕ → Float) (low dst n : ℕ) (s ys zs block : List Float) → ((xs ys : List Float) → ((q : ℕ) → low ≤ q → getD ys q nan ≡ getD xs q nan) → (i : ℕ) → i < 2 + 2 * n → F ys i ≡ F xs i)
+    → ys ≡ put s (dst + 2) (16 * (n / 8)) (λ i. F s (2 + i)) → zs ≡ put ys (dst + 2 + 2 * (n - 8)) 16 (λ i. getD block i nan) → ((i : ℕ) → i < 16 → getD block i nan ≡ F ys (2 + 2 * (n - 8) + i))
+    → 8 ≤ n → dst + 2 + 2 * n ≤ low → low ≤ length s → zs ≡ put s (dst + 2) (2 * n) (λ i. F s (2 + i))
+lanes-over F low dst n s ys zs block keeps e h b w l m =
+    let f : ℕ → Float = λ i. F s (2 + i) in
+    let a : ℕ = 2 * (n - 8) in
+    let g : a + 16 ≡ 2 * n = omega arith in
+    h
+    ∙ put-same ys (dst + 2 + a) 16 _ (λ i. f (a + i)) (λ i p. b i p ∙ keeps s ys (λ q r. ap (λ (t : List Float). getD t q nan) e ∙ put-after s (dst + 2) (16 * (n / 8)) f q nan (omega arith)) (2 + a + i) (omega arith) ∙ ap (F s) (sym (plus-plus 2 a i)))
+    ∙ ap (λ (t : List Float). put t (dst + 2 + a) 16 (λ i. f (a + i))) e
+    ∙ put-over s (dst + 2) (16 * (n / 8)) f a 16 nan (omega arith) (omega arith) (omega arith) ∙ ap (λ (i : ℕ). put s (dst + 2) i f) g
 
 -- m values from `from` on and then k more are one run, where a value looks only at what lies from `low` on
 pub row-chain : (F : List Float → ℕ → Float) (low dst from m k : ℕ) (s : List Float) → dst + from + m ≤ low

@@ -7,6 +7,7 @@ ghost use Rattle.image.specs.Tests.{Sound};
 ghost use Rattle.values.specs.Values.{BandsInside, valueAt, valuePair, valueRun};
 use super::bands::Bands;
 use super::bands::limited;
+use super::pixels::value_run;
 use image::Layout;
 use lerps::Lanes;
 use lerps::Pair;
@@ -63,29 +64,18 @@ fn value_blocks(layout: Layout, s: &mut [f32], t: Bands, dst: usize, n: usize)
     }
 }
 
-// Of n cells, from cell `from` + 1 on.
-fn value_pairs(layout: Layout, s: &mut [f32], t: Bands, dst: usize, from: usize, n: usize)
-    requires { ⌜ Sound layout × BandsInside t (3 * layout .w) (layout .cw) (length (now s)) ⌝ }
-    requires { ⌜ (layout .rh ≡ 2) × (from + n + 2 ≤ layout .cw) × (2 * (from + n) + 2 ≤ layout .w) × (dst ≤ layout .w) ⌝ }
-    ensures { λ _. ⌜ now (s .exit) ≡ valueRun layout t dst (2 + 2 * from) (2 * n) (now (s .entry)) ⌝ }
-{
-    let mut i = 0;
-    while i < n {
-        let p = value_pair(layout, s, t, from + i);
-        s[dst + (2 + 2 * from) + 2 * i] = p.left;
-        s[dst + (2 + 2 * from) + 2 * i + 1] = p.right;
-        i += 1;
-    }
-}
-
-// Inner: a component's values of n cells, from cell 1 on, at ratio 2: blocks, then pairs.
+// Inner: a component's values of n cells, from cell 1 on, at ratio 2: blocks, the last of which ends with the cells and may overlap the one before.
 pub fn value_twos(layout: Layout, s: &mut [f32], t: Bands, dst: usize, n: usize)
     requires { ⌜ Sound layout × BandsInside t (3 * layout .w) (layout .cw) (length (now s)) ⌝ }
     requires { ⌜ (layout .rh ≡ 2) × (n + 2 ≤ layout .cw) × (2 + 2 * n ≤ layout .w) × (dst ≤ layout .w) ⌝ }
     ensures { λ _. ⌜ now (s .exit) ≡ valueRun layout t dst 2 (2 * n) (now (s .entry)) ⌝ }
 {
-    let k = n / Lanes::CELLS;
-    let m = 8 * k;
-    value_blocks(layout, s, t, dst, k);
-    value_pairs(layout, s, t, dst, m, n - m);
+    if n < Lanes::CELLS {
+        value_run(layout, s, t, dst, 2, 2 * n);
+        return;
+    }
+    let i = n - Lanes::CELLS;
+    value_blocks(layout, s, t, dst, n / Lanes::CELLS);
+    let block = value_block(layout, s, t, i);
+    put_block(s, dst + 2 + 2 * i, block);
 }

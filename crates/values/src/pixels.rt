@@ -31,8 +31,8 @@ fn value_at(layout: Layout, s: &[f32], t: Bands, x: usize) -> f32
     limited(c + a * d, s[lo + i], s[hi + i])
 }
 
-// A component's values in n columns, from column `from` on.
-fn value_run(layout: Layout, s: &mut [f32], t: Bands, dst: usize, from: usize, n: usize)
+// Inner: a component's values in n columns, from column `from` on.
+pub fn value_run(layout: Layout, s: &mut [f32], t: Bands, dst: usize, from: usize, n: usize)
     requires { ⌜ Sound layout × BandsInside t (3 * layout .w) (layout .cw) (length (now s)) ⌝ }
     requires { ⌜ (from + n ≤ layout .w) × (dst ≤ layout .w) ⌝ }
     ensures { λ _. ⌜ now (s .exit) ≡ valueRun layout t dst from n (now (s .entry)) ⌝ }
