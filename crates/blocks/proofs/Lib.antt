@@ -3,3 +3,4 @@ pub mod Offsets
 pub mod Blocks
 pub mod Puts
 pub mod Packed
+pub mod FixedBytes

@@ -8,6 +8,8 @@ use Rattle.image.specs.declared.layout.Layout.{Layout}
 use Rattle.image.specs.Tests.{Sound}
 use Rattle.image.specs.Samples.{Plane}
 use Rattle.image.specs.Picture.{shortPlane}
+use Rattle.colour_rows.specs.declared.YcbcrKernel.{YcbcrKernel}
+use Rattle.colour_rows.specs.declared.YcbcrKernel.the-variants.{Exact}
 
 -- a layout, luma's plane and a row of the picture
 pub record LumaRow (l : Layout) (p : Plane) (row : ℕ) : Type 0 where
@@ -20,6 +22,11 @@ pub record RowLent (l : Layout) (p : Plane) (row space : ℕ) : Type 0 where
   pub luma : LumaRow l p row
   pub rows : 2 * l .w ≤ space
 
--- v holds sixteen numbers, f 0, .. f 15, none above `most`
-abbrev pub Sixteen : List ℕ → (ℕ → ℕ) → ℕ → Type 0
-Sixteen v f most = (k : ℕ) → k < 16 → (getD v k 0 ≡ f k) × (getD v k 0 ≤ most)
+-- a row that goes by blocks: it is as wide as one, and the exact kernel has a block at maxval 255 only
+pub record Blocked (kernel : YcbcrKernel) (l : Layout) : Type 0 where
+  pub wide : 16 ≤ l .w
+  pub exact : kernel ≡ Exact → l .maxval ≡ 255
+
+-- v holds sixteen numbers, f 0, .. f 15
+abbrev pub Sixteen : List ℕ → (ℕ → ℕ) → Type 0
+Sixteen v f = (k : ℕ) → k < 16 → getD v k 0 ≡ f k

@@ -1,7 +1,7 @@
 // The samples of a row: luma from its plane, chroma from scratch, rounded; one by one and by sixteens.
 ghost use mathlib.Core.Path.{_≡_};
-ghost use Prim.Native.Nat.{_+_, _*_, _≤_, _<_};
-ghost use lib.ListN.{length};
+ghost use Prim.Native.Nat.{ℕ, _+_, _*_, _≤_, _<_};
+ghost use lib.ListN.{length, getD};
 ghost use Rattle.laws.specs.Floats.{f32, _⊗_};
 ghost use Rattle.image.specs.Samples.{sampleOf, sampleAt};
 ghost use Rattle.fround.specs.Rounding.{roundClamped, Rounded};
@@ -32,26 +32,33 @@ pub fn chroma_at(v: f32) -> u32
     fround::round_clamped_by_grid(v * 256.0, 65_536)
 }
 
-// The sixteen one-byte samples from `at` on. The size is a constant in the loop, so that they compile to loads of many.
-fn bytes16(plane: &[u8], at: usize) -> [u32; Block::LEN]
-    requires { ⌜ at + 16 ≤ length (now plane) ⌝ }
-    ensures { λ r. ⌜ Sixteen r (λ k. sampleOf 1 (now (plane .entry)) (at + k)) 65535 ⌝ }
+// Inner: whole chroma, as the fixed kernel has it.
+pub fn whole_at(v: f32) -> u8
+    ensures { λ r. ⌜ r ≡ roundClamped 255 v ⌝ }
 {
-    let mut v = [0u32; Block::LEN];
+    fround::round_clamped_by_grid(v, 255) as u8
+}
+
+// The sixteen one-byte samples from `at` on. The size is a constant in the loop, so that they compile to loads of many.
+fn bytes16(plane: &[u8], at: usize) -> [u16; Block::LEN]
+    requires { ⌜ at + 16 ≤ length (now plane) ⌝ }
+    ensures { λ r. ⌜ Sixteen r (λ k. sampleOf 1 (now (plane .entry)) (at + k)) ⌝ }
+{
+    let mut v = [0u16; Block::LEN];
     for k in 0..Block::LEN {
-        v[k] = wide(image::sample(plane, 1, at + k));
+        v[k] = image::sample(plane, 1, at + k);
     }
     v
 }
 
 // The same of two bytes each.
-fn pairs16(plane: &[u8], at: usize) -> [u32; Block::LEN]
+fn pairs16(plane: &[u8], at: usize) -> [u16; Block::LEN]
     requires { ⌜ at + 32 ≤ length (now plane) ⌝ }
-    ensures { λ r. ⌜ Sixteen r (λ k. sampleOf 2 (now (plane .entry)) (at + k * 2)) 65535 ⌝ }
+    ensures { λ r. ⌜ Sixteen r (λ k. sampleOf 2 (now (plane .entry)) (at + k * 2)) ⌝ }
 {
-    let mut v = [0u32; Block::LEN];
+    let mut v = [0u16; Block::LEN];
     for k in 0..Block::LEN {
-        v[k] = wide(image::sample(plane, 2, at + k * 2));
+        v[k] = image::sample(plane, 2, at + k * 2);
     }
     v
 }
@@ -63,9 +70,9 @@ pub fn luma16(
     stride: usize,
     row: usize,
     x: usize,
-) -> [u32; Block::LEN]
+) -> [u16; Block::LEN]
     requires { ⌜ LumaRow layout (record { bytes = now plane; stride = stride }) row × (x + 16 ≤ layout .w) ⌝ }
-    ensures { λ r. ⌜ Sixteen r (λ k. sampleAt (layout .«sample_bytes») (record { bytes = now (plane .entry); stride = stride }) (x + k) row) 65535 ⌝ }
+    ensures { λ r. ⌜ Sixteen r (λ k. sampleAt (layout .«sample_bytes») (record { bytes = now (plane .entry); stride = stride }) (x + k) row) ⌝ }
 {
     if layout.sample_bytes == 1 {
         return bytes16(plane, row * stride + x);
@@ -73,14 +80,37 @@ pub fn luma16(
     pairs16(plane, row * stride + x * 2)
 }
 
+// Inner: luma as numbers of 32 bits.
+pub fn wide16(y: [u16; Block::LEN]) -> [u32; Block::LEN]
+    ensures { λ r. ⌜ ((k : ℕ) → k < 16 → (getD r k 0 ≡ getD y k 0) × (getD r k 0 ≤ 65535)) ⌝ }
+{
+    let mut v = [0u32; Block::LEN];
+    for k in 0..Block::LEN {
+        v[k] = wide(y[k]);
+    }
+    v
+}
+
 // Inner: chroma of the sixteen columns from x on, of the finished row at src, in 256ths.
 pub fn chroma16(s: &[f32], src: usize, x: usize) -> [u32; Block::LEN]
     requires { ⌜ src + (x + 16) ≤ length (now s) ⌝ }
-    ensures { λ r. ⌜ Sixteen r (λ k. roundClamped 65536 (cellAt (now (s .entry)) src (x + k) ⊗ f32 256)) 65536 ⌝ }
+    ensures { λ r. ⌜ Sixteen r (λ k. roundClamped 65536 (cellAt (now (s .entry)) src (x + k) ⊗ f32 256)) ⌝ }
 {
     let mut v = [0u32; Block::LEN];
     for k in 0..Block::LEN {
         v[k] = chroma_at(s[src + (x + k)]);
+    }
+    v
+}
+
+// Inner: the same as whole numbers.
+pub fn whole16(s: &[f32], src: usize, x: usize) -> [u8; Block::LEN]
+    requires { ⌜ src + (x + 16) ≤ length (now s) ⌝ }
+    ensures { λ r. ⌜ Sixteen r (λ k. roundClamped 255 (cellAt (now (s .entry)) src (x + k))) ⌝ }
+{
+    let mut v = [0u8; Block::LEN];
+    for k in 0..Block::LEN {
+        v[k] = whole_at(s[src + (x + k)]);
     }
     v
 }

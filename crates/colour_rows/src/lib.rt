@@ -1,18 +1,19 @@
 // One row of colour, from luma's plane and the finished rows of chroma that lie in scratch: the inner loops of the original's fill_ycbcr_interp.
 ghost use mathlib.Core.Path.{_≡_};
+ghost use mathlib.Core.Bool.{true};
 ghost use Prim.Native.Nat.{_+_, _*_, _≤_};
 ghost use lib.ListN.{length};
 ghost use Rattle.colour_rows.specs.Colours.{colourRow};
-ghost use Rattle.colour_rows.specs.Lent.{RowLent};
+ghost use Rattle.colour_rows.specs.Lent.{RowLent, Blocked};
 
-mod exact;
 mod gather;
 mod pixels;
+mod sixteens;
 
-use exact::exact_row;
+use blocks::Block;
 use image::Layout;
-use pixels::fixed_row;
-use pixels::scaled_row;
+use pixels::plain_row;
+use sixteens::block_row;
 
 // Which of document 01's kernels makes the colour.
 pub enum YcbcrKernel {
@@ -20,7 +21,20 @@ pub enum YcbcrKernel {
     FixedPoint16,
 }
 
-// Inner: row `row` of luma's plane with the chroma that scratch holds, Cb's at 0 and Cr's at w, as w pixels of `size` bytes from `at` on. Kernel and maxval are chosen here, outside the loops.
+// Whether a row goes by blocks: it is as wide as one, and its kernel has a block.
+fn by_blocks(layout: Layout, kernel: YcbcrKernel) -> bool
+    ensures { λ r. ⌜ (r ≡ true → Blocked kernel layout) ⌝ }
+{
+    if layout.w < Block::LEN {
+        return false;
+    }
+    match kernel {
+        YcbcrKernel::Exact => layout.maxval == 255,
+        YcbcrKernel::FixedPoint16 => true,
+    }
+}
+
+// Inner: row `row` of luma's plane with the chroma that scratch holds, Cb's at 0 and Cr's at w, as w pixels of `size` bytes from `at` on. By blocks or pixel by pixel is chosen here, outside the loops.
 pub fn colour_row(
     layout: Layout,
     kernel: YcbcrKernel,
@@ -36,16 +50,9 @@ pub fn colour_row(
     requires { ⌜ (3 ≤ size) × (size ≤ 4) × (at + layout .w * size ≤ length (now out)) ⌝ }
     ensures { λ _. ⌜ now (out .exit) ≡ colourRow kernel layout (record { bytes = now (plane .entry); stride = stride }) row (now (s .entry)) at size (now (out .entry)) ⌝ }
 {
-    match kernel {
-        YcbcrKernel::Exact => {
-            if layout.maxval == 255 {
-                exact_row(layout, size, plane, stride, row, s, out, at);
-                return;
-            }
-            scaled_row(layout, size, plane, stride, row, s, out, at);
-        }
-        YcbcrKernel::FixedPoint16 => {
-            fixed_row(layout, size, plane, stride, row, s, out, at);
-        }
+    if by_blocks(layout, kernel) {
+        block_row(layout, kernel, size, plane, stride, row, s, out, at);
+        return;
     }
+    plain_row(layout, kernel, size, plane, stride, row, s, out, at);
 }

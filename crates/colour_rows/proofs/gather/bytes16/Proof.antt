@@ -1,29 +1,24 @@
-use mathlib.Core.Path.{refl, _∙_}
 use Prim.Native.Nat.{_+_, _-_, _≤_}
 use native.Mathlib.Omega.{arith}
-use borrow.Author.Needs.{needs}
+use Rattle.laws.proofs.Lists.{Run, run-none, front-more, front-at}
 use Rattle.image.specs.Samples.{sampleOf}
-use Rattle.colour_rows.proofs.Gathered.{Gathered, gathered-none, gathered-more}
 use Rattle.colour_rows.proofs.gather.bytes16.Statement.{statement}
 use Rattle.colour_rows.proofs.gather.bytes16.Tie as tie
 
 abbrev Inv-loop : tie.InvT-loop
-Inv-loop plane at v₀ k₀ v k = (k ≤ 16) × Gathered v k (λ m. sampleOf 1 plane (at + m)) 65535
+Inv-loop plane at v₀ k₀ v k = (k ≤ 16) × Run v₀ v 0 k (λ m. sampleOf 1 plane (at + m))
 
 abbrev μ-loop : tie.MeasureT-loop
 μ-loop plane at v₀ k₀ v k = 16 - k
 
 loop-holds : tie.Need-loop-holds Inv-loop μ-loop
-loop-holds c = (omega arith, gathered-none _ _ _ refl)
+loop-holds c = (omega arith, run-none _ _ _)
 
 add-sample : tie.Need-add-sample Inv-loop μ-loop
 add-sample c = omega arith
 
 sample-requires : tie.Need-sample-requires Inv-loop μ-loop
 sample-requires c κs = (omega arith, omega arith, omega arith)
-
-wide-requires : tie.Need-wide-requires Inv-loop μ-loop
-wide-requires c κs = search needs
 
 mul-v : tie.Need-mul-v Inv-loop μ-loop
 mul-v c = omega arith
@@ -38,10 +33,10 @@ loop-less : tie.Need-loop-less Inv-loop μ-loop
 loop-less c = omega arith
 
 loop-again : tie.Need-loop-again Inv-loop μ-loop
-loop-again c = (omega arith, gathered-more (c .before .before .before .loop .inv .1) (omega arith) _ (c .wide .ensures .0 ∙ c .before .sample .ensures) (c .wide .ensures .1))
+loop-again c = (omega arith, front-more (c .before .before .loop .inv .1) _ (c .sample .ensures))
 
 returns : tie.Need-returns Inv-loop μ-loop
-returns c = λ k h. c .before .loop .inv .1 .reads k (omega arith)
+returns c = λ k h. front-at (c .before .loop .inv .1) k 0 (omega arith) (omega arith)
 
 pub bytes16-spec : {M : Type 1} → statement M
 bytes16-spec =
@@ -52,7 +47,6 @@ bytes16-spec =
     loop-holds
     add-sample
     sample-requires
-    wide-requires
     mul-v
     array-write-v
     add-k

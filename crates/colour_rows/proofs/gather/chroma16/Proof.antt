@@ -1,22 +1,21 @@
-use mathlib.Core.Path.{refl}
 use Prim.Native.Nat.{_+_, _-_, _≤_}
 use native.Mathlib.Omega.{arith}
 use borrow.Author.Needs.{needs}
+use Rattle.laws.proofs.Lists.{Run, run-none, front-more, front-at}
 use Rattle.laws.specs.Floats.{f32, _⊗_}
 use Rattle.fround.specs.Rounding.{roundClamped}
 use Rattle.image.specs.Scratch.{cellAt}
-use Rattle.colour_rows.proofs.Gathered.{Gathered, gathered-none, gathered-more}
 use Rattle.colour_rows.proofs.gather.chroma16.Statement.{statement}
 use Rattle.colour_rows.proofs.gather.chroma16.Tie as tie
 
 abbrev Inv-loop : tie.InvT-loop
-Inv-loop s src x v₀ k₀ v k = (k ≤ 16) × Gathered v k (λ m. roundClamped 65536 (cellAt s src (x + m) ⊗ f32 256)) 65536
+Inv-loop s src x v₀ k₀ v k = (k ≤ 16) × Run v₀ v 0 k (λ m. roundClamped 65536 (cellAt s src (x + m) ⊗ f32 256))
 
 abbrev μ-loop : tie.MeasureT-loop
 μ-loop s src x v₀ k₀ v k = 16 - k
 
 loop-holds : tie.Need-loop-holds Inv-loop μ-loop
-loop-holds c = (omega arith, gathered-none _ _ _ refl)
+loop-holds c = (omega arith, run-none _ _ _)
 
 add-chroma-at : tie.Need-add-chroma-at Inv-loop μ-loop
 add-chroma-at c = omega arith
@@ -46,10 +45,10 @@ loop-less : tie.Need-loop-less Inv-loop μ-loop
 loop-less c = omega arith
 
 loop-again : tie.Need-loop-again Inv-loop μ-loop
-loop-again c = (omega arith, gathered-more (c .before .before .before .loop .inv .1) (omega arith) _ (c .chroma-at .ensures .is) (c .chroma-at .ensures .within))
+loop-again c = (omega arith, front-more (c .before .before .before .loop .inv .1) _ (c .chroma-at .ensures .is))
 
 returns : tie.Need-returns Inv-loop μ-loop
-returns c = λ k h. c .before .loop .inv .1 .reads k (omega arith)
+returns c = λ k h. front-at (c .before .loop .inv .1) k 0 (omega arith) (omega arith)
 
 pub chroma16-spec : {M : Type 1} → statement M
 chroma16-spec =

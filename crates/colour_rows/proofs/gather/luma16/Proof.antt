@@ -32,7 +32,7 @@ bytes16-requires c κs = let h = inside (c .before .before .before) 1 (c .if1 .t
 returns : tie.Need-returns
 returns c =
     let s = c .before .before .before .before in
-    λ k h. (c .bytes16 .ensures k h .0 ∙ one-byte _ (planeOf s) (s .args .x) k (s .args .row) (c .before .if1 .taken), c .bytes16 .ensures k h .1)
+    λ k h. c .bytes16 .ensures k h ∙ one-byte _ (planeOf s) (s .args .x) k (s .args .row) (c .before .if1 .taken)
 
 mul-pairs16 : tie.Need-mul-pairs16
 mul-pairs16 c = let h = inside (c .before .before .before) 2 (two (c .before .before .before) (c .if1 .left)) in omega arith
@@ -49,7 +49,7 @@ pairs16-requires c κs = let h = inside (c .before .before .before) 2 (two (c .b
 returns-2 : tie.Need-returns-2
 returns-2 c =
     let s = c .before .before .before .before in
-    λ k h. (c .pairs16 .ensures k h .0 ∙ two-bytes _ (planeOf s) (s .args .x) k (s .args .row) (two s (c .before .if1 .left)), c .pairs16 .ensures k h .1)
+    λ k h. c .pairs16 .ensures k h ∙ two-bytes _ (planeOf s) (s .args .x) k (s .args .row) (two s (c .before .if1 .left))
 
 pub luma16-spec : {M : Type 1} → statement M
 luma16-spec =

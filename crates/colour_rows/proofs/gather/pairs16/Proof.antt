@@ -1,20 +1,18 @@
-use mathlib.Core.Path.{refl, _∙_}
 use Prim.Native.Nat.{_+_, _-_, _*_, _≤_}
 use native.Mathlib.Omega.{arith}
-use borrow.Author.Needs.{needs}
+use Rattle.laws.proofs.Lists.{Run, run-none, front-more, front-at}
 use Rattle.image.specs.Samples.{sampleOf}
-use Rattle.colour_rows.proofs.Gathered.{Gathered, gathered-none, gathered-more}
 use Rattle.colour_rows.proofs.gather.pairs16.Statement.{statement}
 use Rattle.colour_rows.proofs.gather.pairs16.Tie as tie
 
 abbrev Inv-loop : tie.InvT-loop
-Inv-loop plane at v₀ k₀ v k = (k ≤ 16) × Gathered v k (λ m. sampleOf 2 plane (at + m * 2)) 65535
+Inv-loop plane at v₀ k₀ v k = (k ≤ 16) × Run v₀ v 0 k (λ m. sampleOf 2 plane (at + m * 2))
 
 abbrev μ-loop : tie.MeasureT-loop
 μ-loop plane at v₀ k₀ v k = 16 - k
 
 loop-holds : tie.Need-loop-holds Inv-loop μ-loop
-loop-holds c = (omega arith, gathered-none _ _ _ refl)
+loop-holds c = (omega arith, run-none _ _ _)
 
 mul-sample : tie.Need-mul-sample Inv-loop μ-loop
 mul-sample c = omega arith
@@ -24,9 +22,6 @@ add-sample c = omega arith
 
 sample-requires : tie.Need-sample-requires Inv-loop μ-loop
 sample-requires c κs = (omega arith, omega arith, omega arith)
-
-wide-requires : tie.Need-wide-requires Inv-loop μ-loop
-wide-requires c κs = search needs
 
 mul-v : tie.Need-mul-v Inv-loop μ-loop
 mul-v c = omega arith
@@ -41,10 +36,10 @@ loop-less : tie.Need-loop-less Inv-loop μ-loop
 loop-less c = omega arith
 
 loop-again : tie.Need-loop-again Inv-loop μ-loop
-loop-again c = (omega arith, gathered-more (c .before .before .before .loop .inv .1) (omega arith) _ (c .wide .ensures .0 ∙ c .before .sample .ensures) (c .wide .ensures .1))
+loop-again c = (omega arith, front-more (c .before .before .loop .inv .1) _ (c .sample .ensures))
 
 returns : tie.Need-returns Inv-loop μ-loop
-returns c = λ k h. c .before .loop .inv .1 .reads k (omega arith)
+returns c = λ k h. front-at (c .before .loop .inv .1) k 0 (omega arith) (omega arith)
 
 pub pairs16-spec : {M : Type 1} → statement M
 pairs16-spec =
@@ -56,7 +51,6 @@ pairs16-spec =
     mul-sample
     add-sample
     sample-requires
-    wide-requires
     mul-v
     array-write-v
     add-k
