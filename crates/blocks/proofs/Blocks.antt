@@ -3,22 +3,19 @@ use mathlib.Core.Path.{_≡_, refl}
 use mathlib.Core.List.{List}
 use Prim.Native.Nat.{ℕ, _<_}
 use lib.ListN.{getD}
+use lib.Ieee.{Float, nan}
 use Rattle.convert.specs.declared.bytes.Rgb.{Rgb}
 use Rattle.convert.specs.Kernels.{exact255}
+use Rattle.blocks.specs.Floating.{Centred}
 use Rattle.blocks.specs.Blocks.{BlockOf}
 use Rattle.convert.specs.Forms.{colourOf}
-use Rattle.blocks.specs.Stores.{pixels, blockPixel}
-use Rattle.blocks.proofs.Puts.{pixels-same}
+use Rattle.blocks.specs.Stores.{blockPixel}
 
-module _ {rows : List (List ℕ)} {y cb256 cr256 : List ℕ} (b : BlockOf rows y cb256 cr256) (k : ℕ) (h : k < 16) where
+module _ {rows : List (List ℕ)} {y : List ℕ} {cb cr : List Float} (o : BlockOf rows y cb cr) (k : ℕ) (h : k < 16) {b r : ℕ} (u : Centred (getD cb k nan) b) (v : Centred (getD cr k nan) r) where
   -- pixel k of a block is the exact kernel's
-  pub block-pixel : blockPixel rows k ≡ exact255 (getD y k 0) (getD cb256 k 0) (getD cr256 k 0)
-  block-pixel = rw (b .red k h, b .green k h, b .blue k h) refl
+  pub block-pixel : blockPixel rows k ≡ exact255 (getD y k 0) b r
+  block-pixel = rw (o .red k h b r u v, o .green k h b r u v, o .blue k h b r u v) refl
 
   -- "Both give the same bytes": the block's pixel is what the plain form gives
-  pub block-plain : (p : Rgb) → colourOf p ≡ exact255 (getD y k 0) (getD cb256 k 0) (getD cr256 k 0) → blockPixel rows k ≡ colourOf p
+  pub block-plain : (p : Rgb) → colourOf p ≡ exact255 (getD y k 0) b r → blockPixel rows k ≡ colourOf p
   block-plain p e = rw e block-pixel
-
--- so a block stored is the exact kernel's pixels stored
-pub block-stored : {rows : List (List ℕ)} {y cb256 cr256 : List ℕ} → BlockOf rows y cb256 cr256 → (l : List ℕ) (at size : ℕ) → pixels l at size (blockPixel rows) 16 ≡ pixels l at size (λ k. exact255 (getD y k 0) (getD cb256 k 0) (getD cr256 k 0)) 16
-block-stored {rows = rows} b l at size = pixels-same l at size (blockPixel rows) _ 16 (λ k h. block-pixel b k h)

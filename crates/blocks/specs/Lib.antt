@@ -1,2 +1,3 @@
+pub mod Floating
 pub mod Blocks
 pub mod Stores

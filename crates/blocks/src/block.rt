@@ -1,15 +1,19 @@
 // Sixteen pixels of the exact kernel at maxval 255, a colour row at a time.
 ghost use mathlib.Core.Path.{_≡_};
 ghost use Prim.Native.Nat.{ℕ, _<_, _≤_};
+ghost use lib.IntN.{pos, _+ℤ_};
 ghost use lib.ListN.{getD};
-ghost use Rattle.convert.specs.Kernels.{exact255};
-ghost use Rattle.blocks.specs.Blocks.{BlockOf, InLimits};
-ghost use Rattle.convert.specs.Forms.{Suits, plusChroma};
-use super::limits::limit_pack;
+ghost use lib.Ieee.{nan};
+ghost use Rattle.laws.specs.Differences.{limit};
+ghost use Rattle.convert.specs.Forms.{plusChroma};
+ghost use Rattle.blocks.specs.Floating.{Centred, Chroma, Tint, Tinted, Lowered, Luma, margin, greenBits, Sure};
+ghost use Rattle.blocks.specs.Blocks.{BlockOf, InLimits, Pixels, Greens};
+use super::limits::limit_sum;
+use crate::fast::Grid;
 use crate::fast::chroma_offset;
+use crate::fast::green_doubt;
+use crate::fast::green_near;
 use crate::fast::green_offset;
-use convert::Bias;
-use convert::Multiplier;
 
 // A block of pixels.
 pub struct Block;
@@ -18,57 +22,97 @@ impl Block {
     pub const LEN: usize = 16;
 }
 
-// Red or blue of one pixel.
-fn chroma_byte(k: u32, bias: u32, y: u32, c: u32) -> u8
-    requires { ⌜ Suits k bias × (y ≤ 65535) × (c ≤ 65536) ⌝ }
-    ensures { λ r. ⌜ r ≡ plusChroma k y c ⌝ }
+// Luma below the grid's bits.
+fn lower(y: u32) -> i32
+    requires { ⌜ y ≤ 65535 ⌝ }
+    ensures { λ r. ⌜ Lowered r y ⌝ }
 {
-    limit_pack(y + chroma_offset(k, bias, c), bias)
+    y as i32 - Grid::BITS as i32
 }
 
-// Green of one pixel.
-fn green_byte(y: u32, cb: u32, cr: u32) -> u8
-    requires { ⌜ (y ≤ 65535) × (cb ≤ 65536) × (cr ≤ 65536) ⌝ }
-    ensures { λ r. ⌜ r ≡ exact255 y cb cr .green ⌝ }
+// Sixteen of them, for the three rows.
+fn lowered(y: [u32; Block::LEN]) -> [i32; Block::LEN]
+    requires { ⌜ ((k : ℕ) → k < 16 → getD y k 0 ≤ 65535) ⌝ }
+    ensures { λ r. ⌜ ((k : ℕ) → k < 16 → Lowered (getD r k (pos 0)) (getD y k 0)) ⌝ }
 {
-    limit_pack(y + green_offset(cb, cr), Bias::GREEN)
+    let mut row = [0i32; Block::LEN];
+    for i in 0..Block::LEN {
+        row[i] = lower(y[i]);
+    }
+    row
 }
 
 // The red or the blue row.
-fn chroma_row(k: u32, bias: u32, y: [u32; Block::LEN], c: [u32; Block::LEN]) -> [u8; Block::LEN]
-    requires { ⌜ Suits k bias × ((i : ℕ) → i < 16 → (getD y i 0 ≤ 65535) × (getD c i 0 ≤ 65536)) ⌝ }
-    ensures { λ r. ⌜ ((i : ℕ) → i < 16 → getD r i 0 ≡ plusChroma k (getD y i 0) (getD c i 0)) ⌝ }
+fn chroma_row(k: f32, tie: f32, y: [i32; Block::LEN], x: [f32; Block::LEN]) -> [u8; Block::LEN]
+    requires { ⌜ Tinted k tie × ((i : ℕ) → i < 16 → Luma (getD y i (pos 0)) × Chroma (getD x i nan)) ⌝ }
+    ensures { λ r. ⌜ ((i : ℕ) → i < 16 → (m l c : ℕ) → Tint k tie m → Lowered (getD y i (pos 0)) l → Centred (getD x i nan) c → getD r i 0 ≡ plusChroma m l c) ⌝ }
 {
     let mut row = [0u8; Block::LEN];
     for i in 0..Block::LEN {
-        row[i] = chroma_byte(k, bias, y[i], c[i]);
+        row[i] = limit_sum(y[i], chroma_offset(k, tie, x[i]));
     }
     row
 }
 
-// The green row.
-fn green_row(y: [u32; Block::LEN], cb: [u32; Block::LEN], cr: [u32; Block::LEN]) -> [u8; Block::LEN]
-    requires { ⌜ InLimits y cb cr ⌝ }
-    ensures { λ r. ⌜ ((i : ℕ) → i < 16 → getD r i 0 ≡ exact255 (getD y i 0) (getD cb i 0) (getD cr i 0) .green) ⌝ }
+// 0 where every pixel's green is sure.
+fn unsure(cb: [f32; Block::LEN], cr: [f32; Block::LEN]) -> u32
+    requires { ⌜ ((i : ℕ) → i < 16 → Chroma (getD cb i nan) × Chroma (getD cr i nan)) ⌝ }
+    ensures { λ r. ⌜ (r ≡ 0 → (i : ℕ) → i < 16 → Sure (getD cb i nan) (getD cr i nan)) ⌝ }
+{
+    let mut d = 0u32;
+    for i in 0..Block::LEN {
+        d = d | green_doubt(cb[i], cr[i]);
+    }
+    d
+}
+
+// The green row where it is sure.
+fn sure_row(y: [i32; Block::LEN], cb: [f32; Block::LEN], cr: [f32; Block::LEN]) -> [u8; Block::LEN]
+    requires { ⌜ Pixels y cb cr ⌝ }
+    ensures { λ r. ⌜ ((i : ℕ) → i < 16 → getD r i 0 ≡ limit 255 (getD y i (pos 0) +ℤ pos (greenBits (getD cb i nan) (getD cr i nan) margin))) ⌝ }
 {
     let mut row = [0u8; Block::LEN];
     for i in 0..Block::LEN {
-        row[i] = green_byte(y[i], cb[i], cr[i]);
+        row[i] = limit_sum(y[i], green_near(cb[i], cr[i], Grid::MARGIN));
     }
     row
 }
 
-// Inner: the red, the green and the blue row of sixteen pixels; chroma in 256ths.
+// The green row, for every chroma.
+fn exact_row(y: [i32; Block::LEN], cb: [f32; Block::LEN], cr: [f32; Block::LEN]) -> [u8; Block::LEN]
+    requires { ⌜ Pixels y cb cr ⌝ }
+    ensures { λ r. ⌜ Greens r y cb cr ⌝ }
+{
+    let mut row = [0u8; Block::LEN];
+    for i in 0..Block::LEN {
+        row[i] = limit_sum(y[i], green_offset(cb[i], cr[i]));
+    }
+    row
+}
+
+// The green row: the quick form, and the exact one where it might be wrong.
+fn green_row(y: [i32; Block::LEN], cb: [f32; Block::LEN], cr: [f32; Block::LEN]) -> [u8; Block::LEN]
+    requires { ⌜ Pixels y cb cr ⌝ }
+    ensures { λ r. ⌜ Greens r y cb cr ⌝ }
+{
+    if unsure(cb, cr) == 0 {
+        return sure_row(y, cb, cr);
+    }
+    exact_row(y, cb, cr)
+}
+
+// Inner: the red, the green and the blue row of sixteen pixels; chroma in 256ths, less its centre.
 pub fn rgb_block(
     y: [u32; Block::LEN],
-    cb256: [u32; Block::LEN],
-    cr256: [u32; Block::LEN],
+    cb: [f32; Block::LEN],
+    cr: [f32; Block::LEN],
 ) -> [[u8; Block::LEN]; 3]
-    requires { ⌜ InLimits y cb256 cr256 ⌝ }
-    ensures { λ r. ⌜ BlockOf r y cb256 cr256 ⌝ }
+    requires { ⌜ InLimits y cb cr ⌝ }
+    ensures { λ r. ⌜ BlockOf r y cb cr ⌝ }
 {
-    let red = chroma_row(Multiplier::RED, Bias::RED, y, cr256);
-    let green = green_row(y, cb256, cr256);
-    let blue = chroma_row(Multiplier::BLUE, Bias::BLUE, y, cb256);
+    let low = lowered(y);
+    let red = chroma_row(1.402, -0.0, low, cr);
+    let green = green_row(low, cb, cr);
+    let blue = chroma_row(1.772, 0.002_929_687_5, low, cb);
     [red, green, blue]
 }

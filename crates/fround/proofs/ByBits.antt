@@ -16,7 +16,7 @@ use lib.Ieee.Nearest.{div-same}
 use Rattle.laws.specs.Rounding.{halfUp}
 use Rattle.laws.proofs.Halves.{below-half, up-halves}
 use Rattle.fround.specs.Rounding.{roundClamped}
-use Rattle.fround.proofs.OnGrid.{toBits-at}
+use Rattle.laws.proofs.Grids.{toBits-at}
 use Rattle.fround.proofs.Limits.{Limited}
 
 -- ---- the number that a pattern of a positive normal value stands for

@@ -2,4 +2,5 @@
 pub mod Laws
 mod Limits
 mod OnGrid
+mod Centring
 mod ByBits

@@ -91,7 +91,7 @@ high max (fin false m e) (fin false k d) f n g v = go (ltb (m * up e * down d) (
         record { m = k; e = d; is = refl; fits' = g; within = le-of-eq a; rounds = up-whole (k * up d) (down d) max (down-pos d) a ∙ sym (min-l max (halfUp (m * up e) (down e)) (up-ge (m * up e) (down e) max (down-pos e) l)) }
 
 -- ---- the two together
-limited : (x : Float) (max : ℕ) → T (fits binary32 x) → max ≤ 16777216 → Limited max x (clamped max x)
+pub limited : (x : Float) (max : ℕ) → T (fits binary32 x) → max ≤ 16777216 → Limited max x (clamped max x)
 limited x max f h =
     let L : Low max x (fmax x origin) = low max x f in
     let H : Limited max (fmax x origin) (clamped max x) = high max (fmax x origin) (f32 max) (L .0) (L .1) (ofInt-fits binary32 (pos max)) (whole-value max h) in

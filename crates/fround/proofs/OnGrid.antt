@@ -1,24 +1,23 @@
 -- The grid: c + 2 ^ 23 rounds c to the nearest whole number, ties to even, and the test for one half mends the ties that went down.
 use mathlib.Core.Path.{_≡_, refl, sym, ap, _∙_, subst}
-use Prim.Native.Nat.{ℕ, zero, suc, _+_, _-_, _*_, _/_, _%_, _^_, _≤_, _<_}
-use native.Mathlib.Nat.{le-trans, le-of-eq, le-of-lt, lt-of-lt-of-le, lt-of-le-of-lt, lt-irrefl, zero-lt-suc, mul-one, one-mul, mul-comm, mul-assoc, mul-right-comm, mul-pos, mul-le-mul-right, mul-lt-mul-of-pos-right, le-div-iff-mul-le, div-lt-iff-lt-mul, eq-of-mul-eq-mul-right, mul-div-cancel, add-zero}
+use Prim.Native.Nat.{ℕ, zero, suc, _+_, _-_, _*_, _%_, _^_, _≤_, _<_}
+use native.Mathlib.Nat.{le-trans, le-of-eq, le-of-lt, lt-of-le-of-lt, lt-irrefl, zero-lt-suc, mul-one, one-mul, mul-comm, mul-assoc, mul-right-comm, mul-le-mul-right, eq-of-mul-eq-mul-right, add-zero}
 use native.Mathlib.Numerals.{add-one}
 use native.Mathlib.Omega.{arith}
 use mathlib.Core.Bool.{Bool, true, false, not, _&&_, cond, true≢false}
 use lib.IntN.{ℤ, pos, negsuc}
 use lib.Dec.{T, ltb, eqb, eqb→eq, not-T, lit≤}
-use lib.Pow.{pow-pos}
-use lib.Ieee.{Float, nan, inf, fin, Format, binary32, prec, emax, low, up, down, size, odd, units, round, add, sub, eq, fits, isNan, toBits}
+use lib.Ieee.{Float, nan, inf, fin, Format, binary32, prec, emax, low, up, down, odd, units, round, add, sub, eq, fits, isNan, toBits}
 use lib.Ieee.Fits.{round-is, down-pos, and-l, and-r, eq→eqb}
 use lib.Ieee.Bits.{is-true, is-false}
 use lib.Ieee.Exact.{HasValue}
 use lib.Ieee.Back.{round-whole}
-use lib.Ieee.Nearest.{closest, closest-same, closest-mono}
-use lib.Ieee.Order.{drop}
-use lib.Ieee.Scale.{grid, overflow, round-val}
+use lib.Ieee.Nearest.{closest, closest-mono}
 use Rattle.laws.specs.Rounding.{halfUp}
 use Rattle.laws.proofs.Halves.{Side, over, tie, near, side, closest-shift}
-use Rattle.laws.proofs.Values.{unscale, size-is, sub-ge, sub-lt, fits-says, round-kept, value-no-nan}
+use Rattle.laws.proofs.Values.{sub-ge, sub-lt, fits-says, round-kept, value-no-nan}
+use Rattle.laws.proofs.Operators.{add-up}
+use Rattle.laws.proofs.Grids.{on-grid, grid-bits}
 use Rattle.fround.specs.Rounding.{roundClamped}
 use Rattle.fround.proofs.Limits.{Limited}
 
@@ -28,66 +27,42 @@ two23 = fin false 1 (pos 23)
 abbrev pub half : Float
 half = fin false 1 (negsuc 0)
 
--- ---- a fraction from 2 ^ 23 up to 2 ^ 24 is rounded to a whole number
-units-size : (A d : ℕ) → 0 < d → 2 ^ 23 * d ≤ A → A < 2 ^ 24 * d → size (A * 2 ^ 149 / d) ≡ 173
-units-size A d D lo hi =
-    size-is (A * 2 ^ 149 / d) 172
-    (le-div-iff-mul-le D .1 (le-trans (le-of-eq (sym (mul-right-comm (2 ^ 23) d (2 ^ 149)))) (mul-le-mul-right (2 ^ 149) lo)))
-    (div-lt-iff-lt-mul D .1 (lt-of-lt-of-le (mul-lt-mul-of-pos-right hi (pow-pos 149)) (le-of-eq (mul-right-comm (2 ^ 24) d (2 ^ 149)))))
-
-on-grid : (A d : ℕ) → 0 < d → 2 ^ 23 * d ≤ A → A < 2 ^ 24 * d → closest A d < 2 ^ 24 → HasValue (round binary32 false A d) false (closest A d) 1
-on-grid A d D lo hi small =
-    let k : drop 24 (A * 2 ^ 149) d ≡ 149 = ap (λ (z : ℕ). z - 24) (units-size A d D lo hi) in
-    let g : grid binary32 A d ≡ closest A d * 2 ^ 149 =
-    ap (λ (z : ℕ). closest (A * 2 ^ 149) (d * 2 ^ z) * 2 ^ z) k
-    ∙ ap (λ (z : ℕ). z * 2 ^ 149) (closest-same (A * 2 ^ 149) (d * 2 ^ 149) A d (mul-pos D (pow-pos 149)) D (mul-assoc A (2 ^ 149) d ∙ ap (λ (z : ℕ). A * z) (mul-comm (2 ^ 149) d))) in
-    let fine : grid binary32 A d < overflow binary32 =
-    subst (λ (z : ℕ). z < overflow binary32) (sym g) (lt-of-lt-of-le (mul-lt-mul-of-pos-right small (pow-pos 149)) (lit≤ tt)) in
-    unscale (round binary32 false A d) false (closest A d) (2 ^ 149) (pow-pos 149)
-    (subst (λ (z : ℕ). HasValue (round binary32 false A d) false z (2 ^ 149)) g (round-val binary32 A d fine))
-
--- ---- t = c + 2 ^ 23, for c = a / d up to 2 ^ 22
-add-two23 : (m : ℕ) (e : ℤ) → add binary32 (fin false m e) two23 ≡ round binary32 false (m * up e * 1 + 8388608 * down e) (down e * 1)
-unfolding add
-add-two23 m e = refl
-
+-- ---- c + k, for c = a / d up to 2 ^ 22 and a k just above 2 ^ 23
 closest-le : (a d : ℕ) → 0 < d → a ≤ 4194304 * d → closest a d ≤ 4194304
 closest-le a d D h = closest-mono a d 4194304 1 D (zero-lt-suc 0) (le-trans (le-of-eq (mul-one a)) h)
 
-sum-val : (a d : ℕ) → 0 < d → a ≤ 4194304 * d → HasValue (round binary32 false (a + 8388608 * d) d) false (8388608 + closest a d) 1
-sum-val a d D h =
-    let n : closest a d ≤ 4194304 = closest-le a d D h in
-    let s : closest (a + 8388608 * d) d ≡ 8388608 + closest a d = closest-shift 8388608 a d refl D in
-    subst (λ (z : ℕ). HasValue (round binary32 false (a + 8388608 * d) d) false z 1) s
-    (on-grid (a + 8388608 * d) d D (omega arith) (omega arith) (subst (λ (z : ℕ). z < 2 ^ 24) (sym s) (omega arith)))
+sum-val : (k a d : ℕ) → 8388608 ≤ k → k ≤ 8388609 → 0 < d → a ≤ 4194304 * d → HasValue (round binary32 false (a + k * d) d) false (closest (a + k * d) d) 1
+sum-val k a d lo hi D h =
+    let l : 8388608 * d ≤ k * d = mul-le-mul-right d lo in
+    let m : k * d ≤ 8388609 * d = mul-le-mul-right d hi in
+    let n : closest (a + k * d) d ≤ 12582913 = closest-mono (a + k * d) d 12582913 1 D (zero-lt-suc 0) (le-trans (le-of-eq (mul-one (a + k * d))) (omega arith)) in
+    subst (λ (z : ℕ). HasValue (round binary32 false (a + k * d) d) false z 1) (mul-one _ ∙ ap (closest (a + k * d)) (mul-one d))
+    (on-grid 0 (a + k * d) d (lit≤ tt) D (omega arith) (omega arith) (subst (λ (z : ℕ). closest (a + k * d) z < 2 ^ 24) (sym (mul-one d)) (omega arith)))
 
-pub t-val : (m : ℕ) (e : ℤ) → m * up e ≤ 4194304 * down e → HasValue (add binary32 (fin false m e) two23) false (8388608 + closest (m * up e) (down e)) 1
-t-val m e h =
-    subst (λ (z : Float). HasValue z false (8388608 + closest (m * up e) (down e)) 1)
-    (sym (add-two23 m e ∙ ap (λ (x : ℕ). round binary32 false (x + 8388608 * down e) (down e * 1)) (mul-one (m * up e)) ∙ ap (λ (x : ℕ). round binary32 false (m * up e + 8388608 * down e) x) (mul-one (down e))))
-    (sum-val (m * up e) (down e) (down-pos e) h)
+-- a whole number over another denominator
+over-d : (y : Float) (k d : ℕ) → HasValue y false k 1 → HasValue y false (k * d) d
+over-d nan k d v = v
+over-d (inf s) k d v = v
+over-d (fin s m e) k d v = (v .0, go (m * up e) (down e) (v .1))
+  where
+    go : (M D : ℕ) → M * 1 ≡ k * D → M * d ≡ k * d * D
+    go M D e = omega (arith, ap (λ (z : ℕ). z * d) e)
+
+pub t-val : (k m : ℕ) (e : ℤ) (y : Float) → HasValue y false k 1 → 8388608 ≤ k → k ≤ 8388609 → m * up e ≤ 4194304 * down e → HasValue (add binary32 (fin false m e) y) false (closest (m * up e + k * down e) (down e)) 1
+t-val k m e y v lo hi h =
+    subst (λ (z : Float). HasValue z false (closest (m * up e + k * down e) (down e)) 1) (sym (add-up binary32 (fin false m e) y (m * up e) (k * down e) (down e) (down-pos e) (refl, refl) (over-d y k (down e) v)))
+    (sum-val k (m * up e) (down e) lo hi (down-pos e) h)
+
+-- the sum with 2 ^ 23 itself
+pub two23-val : (m : ℕ) (e : ℤ) → m * up e ≤ 4194304 * down e → HasValue (add binary32 (fin false m e) two23) false (8388608 + closest (m * up e) (down e)) 1
+two23-val m e h =
+    subst (λ (z : ℕ). HasValue (add binary32 (fin false m e) two23) false z 1) (closest-shift 8388608 (m * up e) (down e) refl (down-pos e))
+    (t-val 8388608 m e two23 (refl, refl) (omega arith) (omega arith) h)
 
 -- ---- its bits: the low 23 are the whole number
-pub toBits-at : (m : ℕ) (e : ℤ) (n : ℕ) → m * up e * 2 ^ 149 / down e ≡ n → toBits binary32 (fin false m e) ≡ 0 + (size n - 24) * 8388608 + n / 2 ^ (size n - 24)
-unfolding toBits
-toBits-at m e n p = ap (λ (x : ℕ). 0 + (size x - 24) * 8388608 + x / 2 ^ (size x - 24)) p
-
 pub bits-whole : (x : Float) (N : ℕ) → N < 8388608 → HasValue x false (8388608 + N) 1 → toBits binary32 x % 8388608 ≡ N
-bits-whole nan N h v = absurd v
-bits-whole (inf s) N h v = absurd v
-bits-whole (fin true m e) N h v = absurd (true≢false (v .0))
-bits-whole (fin false m e) N h v =
-    let W = 8388608 + N in
-    let n-is : m * up e * 2 ^ 149 / down e ≡ W * 2 ^ 149 =
-    ap (λ (x : ℕ). x * 2 ^ 149 / down e) (sym (mul-one (m * up e)) ∙ v .1) ∙ ap (λ (x : ℕ). x / down e) (mul-right-comm W (down e) (2 ^ 149)) ∙ mul-div-cancel (W * 2 ^ 149) (down-pos e) in
-    let lo : 8388608 ≤ W = omega arith in
-    let hi : W < 16777216 = omega arith in
-    let z : size (W * 2 ^ 149) ≡ 173 = size-is (W * 2 ^ 149) 172 (mul-le-mul-right (2 ^ 149) lo) (mul-lt-mul-of-pos-right hi (pow-pos 149)) in
-    ap (λ (x : ℕ). x % 8388608)
-    (toBits-at m e (W * 2 ^ 149) n-is
-    ∙ ap (λ (x : ℕ). 0 + (x - 24) * 8388608 + W * 2 ^ 149 / 2 ^ (x - 24)) z
-    ∙ ap (λ (x : ℕ). 1249902592 + x) (mul-div-cancel W (pow-pos 149)))
-    ∙ last N h
+bits-whole x N h v =
+    ap (λ (z : ℕ). z % 8388608) (grid-bits 0 x (8388608 + N) (omega arith) (omega arith) (subst (λ (z : ℕ). HasValue x false z 1) (sym (mul-one (8388608 + N))) v)) ∙ last N h
   where
     last : (N : ℕ) → N < 8388608 → (1249902592 + (8388608 + N)) % 8388608 ≡ N
     last N h = omega arith
@@ -203,7 +178,7 @@ on-is m e f h =
     let t = add binary32 (fin false m e) two23 in
     let N = closest (m * up e) (down e) in
     let n : N ≤ 4194304 = closest-le (m * up e) (down e) (down-pos e) h in
-    let v : HasValue t false (8388608 + N) 1 = t-val m e h in
+    let v : HasValue t false (8388608 + N) 1 = two23-val m e h in
     ap (λ (z : ℕ). z + cond (eq (sub binary32 (fin false m e) (sub binary32 t two23)) half) 1 0) (bits-whole t N (omega arith) v)
     ∙ test m e (sub binary32 t two23) N f (back-val t N (omega arith) v) (side (m * up e) (down e) (down-pos e))
 
@@ -217,7 +192,7 @@ on-rounds x c max h L = ap on (L .is) ∙ on-is (L .m) (L .e) (L .fits') (bound 
 pub sum-no-nan : (x c : Float) (max : ℕ) → max ≤ 4194304 → Limited max x c → T (not (isNan (add binary32 c two23)))
 sum-no-nan x c max h L =
     subst (λ (z : Float). T (not (isNan (add binary32 z two23)))) (sym (L .is))
-    (value-no-nan (add binary32 (fin false (L .m) (L .e)) two23) false (8388608 + closest (L .m * up (L .e)) (down (L .e))) 1 (t-val (L .m) (L .e) (bound (L .m * up (L .e)) (down (L .e)) max h (L .within))))
+    (value-no-nan (add binary32 (fin false (L .m) (L .e)) two23) false (8388608 + closest (L .m * up (L .e)) (down (L .e))) 1 (two23-val (L .m) (L .e) (bound (L .m * up (L .e)) (down (L .e)) max h (L .within))))
 
 -- the same by the sum t that the code has
 pub on-sum : (x c t : Float) (max : ℕ) → max ≤ 4194304 → t ≡ add binary32 c two23 → Limited max x c

@@ -2,7 +2,8 @@
 ghost use mathlib.Core.Path.{_≡_};
 ghost use Prim.Native.Nat.{_≤_, min};
 ghost use lib.Ieee.{add, binary32};
-ghost use Rattle.fround.specs.Rounding.{fmin, fmax, clamped, sameFloat, Rounded};
+ghost use Rattle.laws.specs.Floats.{f32, _⊖_, _⊗_};
+ghost use Rattle.fround.specs.Rounding.{fmin, fmax, clamped, roundClamped, sameFloat, Rounded};
 
 pub struct Rounding;
 
@@ -99,4 +100,14 @@ pub fn round_clamped_by_bits(x: f32, max: u32) -> u32
         let s = Rounding::FIELD + b % Rounding::FIELD;
         ((s * 2 >> (150 - e)) + 1) / 2
     }
+}
+
+// Inner: v in 256ths, limited to 0..=65536 and that to the nearest whole number, halves up; less 32,768, the centre of chroma.
+//
+// On the grid a tie goes to the even neighbour, and one further up to the odd one: the larger of the two went up.
+pub fn centred_256ths(v: f32) -> f32
+    ensures { λ r. ⌜ r ≡ f32 (roundClamped 65536 (v ⊗ f32 256)) ⊖ f32 32768 ⌝ }
+{
+    let c = clamp(v * 256.0, 65_536);
+    fmax(on_grid(c), c + 8_388_609.0 - 1.0) - 8_421_376.0
 }

@@ -9,5 +9,6 @@ pub mod Halves
 pub mod Values
 pub mod Fractions
 pub mod Nearness
+pub mod Grids
 pub mod Units
 pub mod Operators

@@ -1,34 +1,42 @@
-use Prim.Native.Nat.{_-_, _≤_}
+use mathlib.Core.Path.{_≡_, refl}
+use Prim.Native.Nat.{ℕ, _-_, _≤_}
 use native.Mathlib.Omega.{arith}
 use lib.ListN.{getD}
-use Rattle.laws.proofs.Lists.{Run, run-none, front-more, front-at}
+use lib.IntN.{pos}
+use lib.Ieee.{nan}
+use Rattle.blocks.specs.Floating.{Centred, Tint, Lowered}
+use Rattle.blocks.proofs.Packed.{Filled, filled-none, filled-more}
 use Rattle.convert.specs.Forms.{plusChroma}
+use Rattle.blocks.proofs.Lumas.{lowered-held, luma-held, byte-is}
 use Rattle.blocks.proofs.block.chroma_row.Statement.{statement}
 use Rattle.blocks.proofs.block.chroma_row.Tie as tie
 
 abbrev Inv-loop : tie.InvT-loop
-Inv-loop k bias y c row₀ i₀ row i = (i ≤ 16) × Run row₀ row 0 i (λ j. plusChroma k (getD y j 0) (getD c j 0))
+Inv-loop k tie y x row₀ i₀ row i = (i ≤ 16) × Filled row i (λ j v. (m l n : ℕ) → Tint k tie m → Lowered (getD y j (pos 0)) l → Centred (getD x j nan) n → v ≡ plusChroma m l n)
 
 abbrev μ-loop : tie.MeasureT-loop
-μ-loop k bias y c row₀ i₀ row i = 16 - i
+μ-loop k tie y x row₀ i₀ row i = 16 - i
 
 loop-holds : tie.Need-loop-holds Inv-loop μ-loop
-loop-holds c = (omega arith, run-none _ _ _)
+loop-holds c = (omega arith, filled-none _ _ refl)
 
-mul-chroma-byte : tie.Need-mul-chroma-byte Inv-loop μ-loop
-mul-chroma-byte c = omega arith
+mul-limit-sum : tie.Need-mul-limit-sum Inv-loop μ-loop
+mul-limit-sum c = omega arith
 
-array-read-chroma-byte : tie.Need-array-read-chroma-byte Inv-loop μ-loop
-array-read-chroma-byte c = omega arith
+array-copy-out-limit-sum : tie.Need-array-copy-out-limit-sum Inv-loop μ-loop
+array-copy-out-limit-sum c = omega arith
 
-mul-chroma-byte-2 : tie.Need-mul-chroma-byte-2 Inv-loop μ-loop
-mul-chroma-byte-2 c = omega arith
+mul-chroma-offset : tie.Need-mul-chroma-offset Inv-loop μ-loop
+mul-chroma-offset c = omega arith
 
-array-read-chroma-byte-2 : tie.Need-array-read-chroma-byte-2 Inv-loop μ-loop
-array-read-chroma-byte-2 c = omega arith
+array-read-chroma-offset : tie.Need-array-read-chroma-offset Inv-loop μ-loop
+array-read-chroma-offset c = omega arith
 
-chroma-byte-requires : tie.Need-chroma-byte-requires Inv-loop μ-loop
-chroma-byte-requires c κs = let s = c .before .before in let l = s .pre .1 (c .before .loop .i) (omega arith) in (s .pre .0, l .0, l .1)
+chroma-offset-requires : tie.Need-chroma-offset-requires Inv-loop μ-loop
+chroma-offset-requires c κs = let l = c .before .before in let s = l .before in (s .pre .0, s .pre .1 (l .loop .i) (omega arith) .1)
+
+limit-sum-requires : tie.Need-limit-sum-requires Inv-loop μ-loop
+limit-sum-requires c κs = let l = c .before .before .before in let s = l .before in let p = s .pre .1 (l .loop .i) (omega arith) in let o = c .chroma-offset .ensures _ _ (s .pre .0 .1) (p .1 .1) .most in (luma-held (p .0), omega arith)
 
 array-write-row : tie.Need-array-write-row Inv-loop μ-loop
 array-write-row c = omega arith
@@ -40,12 +48,11 @@ loop-less : tie.Need-loop-less Inv-loop μ-loop
 loop-less c = omega arith
 
 loop-again : tie.Need-loop-again Inv-loop μ-loop
-loop-again c =
-    let l = c .before .before in
-    (omega arith, front-more (l .loop .inv .1) _ (c .chroma-byte .ensures))
+unfolding plusChroma
+loop-again c = (omega arith, filled-more (c .before .before .before .before .loop .inv .1) (omega arith) _ (λ m l n t h g. byte-is (c .limit-sum .ensures) (lowered-held h) (c .before .chroma-offset .ensures m n t g)))
 
 returns : tie.Need-returns Inv-loop μ-loop
-returns c = λ j h. front-at (c .before .loop .inv .1) j 0 (omega arith) (omega arith)
+returns c = λ j h. c .before .loop .inv .1 .reads j (omega arith)
 
 pub chroma-row-spec : {M : Type 1} → statement M
 chroma-row-spec =
@@ -54,11 +61,12 @@ chroma-row-spec =
     Inv-loop
     μ-loop
     loop-holds
-    mul-chroma-byte
-    array-read-chroma-byte
-    mul-chroma-byte-2
-    array-read-chroma-byte-2
-    chroma-byte-requires
+    mul-limit-sum
+    array-copy-out-limit-sum
+    mul-chroma-offset
+    array-read-chroma-offset
+    chroma-offset-requires
+    limit-sum-requires
     array-write-row
     add-i
     loop-less

@@ -1,41 +1,15 @@
-use borrow.Author.Needs.{needs}
-use Rattle.blocks.proofs.Offsets.{red-biased, blue-biased}
+use lib.Ieee.{ofBits}
+use Rattle.blocks.proofs.Tints.{tint-is, tint-number}
 use Rattle.blocks.proofs.fast.chroma_offset.Statement.{statement}
 use Rattle.blocks.proofs.fast.chroma_offset.Tie as tie
 
-mul-result : tie.Need-mul-result
-mul-result c = search needs
-
-add-result : tie.Need-add-result
-add-result c = search needs
-
-cast-result : tie.Need-cast-result
-cast-result c = search needs
+float-to-bits-result : tie.Need-float-to-bits-result
+unfolding ofBits
+float-to-bits-result c = tint-number (c .pre .0 .1) (c .pre .1 .1)
 
 returns : tie.Need-returns
-returns c = let s = c .before in red-biased (s .pre .0) (s .args .c) (s .pre .1) (c .if1 .taken)
-
-mul-result-2 : tie.Need-mul-result-2
-mul-result-2 c = search needs
-
-add-result-2 : tie.Need-add-result-2
-add-result-2 c = search needs
-
-cast-result-2 : tie.Need-cast-result-2
-cast-result-2 c = search needs
-
-returns-2 : tie.Need-returns-2
-returns-2 c = let s = c .before in blue-biased (s .pre .0) (s .args .c) (s .pre .1) (c .if1 .left)
+unfolding ofBits
+returns c = λ m n t h. tint-is t h
 
 pub chroma-offset-spec : {M : Type 1} → statement M
-chroma-offset-spec =
-    tie.close
-    (tie.spec
-    mul-result
-    add-result
-    cast-result
-    returns
-    mul-result-2
-    add-result-2
-    cast-result-2
-    returns-2)
+chroma-offset-spec = tie.close (tie.spec float-to-bits-result returns)

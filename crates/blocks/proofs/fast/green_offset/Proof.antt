@@ -1,37 +1,43 @@
+use mathlib.Core.Path.{subst}
+use native.Mathlib.Omega.{arith}
 use borrow.Author.Needs.{needs}
-use Rattle.convert.proofs.Channels.{green-biased}
-use Rattle.blocks.proofs.Offsets.{green-fast}
+use Prim.Native.Nat.{ℕ}
+use Rattle.convert.specs.Kernels.{centred, greenOffset}
+use Rattle.convert.specs.Forms.{Biased}
+use Rattle.blocks.proofs.Tints.{on-grid-from}
 use Rattle.blocks.proofs.fast.green_offset.Statement.{statement}
 use Rattle.blocks.proofs.fast.green_offset.Tie as tie
 
-add-both : tie.Need-add-both
-add-both c = search needs
+in-256ths-requires : tie.Need-in-256ths-requires
+in-256ths-requires c κs = search needs
 
-cast-both : tie.Need-cast-both
-cast-both c = search needs
+in-256ths-requires-2 : tie.Need-in-256ths-requires-2
+in-256ths-requires-2 c κs = search needs
 
-mul-n : tie.Need-mul-n
-mul-n c = search needs
-
-mul-n-2 : tie.Need-mul-n-2
-mul-n-2 c = search needs
-
-add-n : tie.Need-add-n
-add-n c = search needs
-
-add-n-2 : tie.Need-add-n-2
-add-n-2 c = search needs
-
-cast-result : tie.Need-cast-result
-cast-result c = search needs
+green-whole-requires : tie.Need-green-whole-requires
+green-whole-requires c κs = search needs
 
 sub-result : tie.Need-sub-result
 sub-result c = search needs
 
+add-result : tie.Need-add-result
+add-result c = search needs
+
 returns : tie.Need-returns
-returns c = let p = c .pre in green-biased _ _ _ (p .0) (p .1) (green-fast _ _ (p .0) (p .1))
+returns c =
+    λ b r h k.
+    let g = c .green-whole in
+    let u = c .before .before .in-256ths .ensures .1 b h in
+    let v = c .before .in-256ths2 .ensures .1 r k in
+    on-grid-from 137 (g .result) _ (subst (λ (y : ℕ). Biased (greenOffset (centred b) (centred y)) 137 (g .result)) v (subst (λ (y : ℕ). Biased (greenOffset (centred y) (centred (c .before .in-256ths2 .result))) 137 (g .result)) u (g .ensures))) (omega arith) (omega arith)
 
 pub green-offset-spec : {M : Type 1} → statement M
 green-offset-spec =
     tie.close
-    (tie.spec add-both cast-both mul-n mul-n-2 add-n add-n-2 cast-result sub-result returns)
+    (tie.spec
+    in-256ths-requires
+    in-256ths-requires-2
+    green-whole-requires
+    sub-result
+    add-result
+    returns)
