@@ -23,6 +23,10 @@ between-is r s src i j m h e a b v p q k =
     let t : m % r ≡ j = ap (λ (z : ℕ). z % r) x ∙ digits-mod i h in
     rw (d, t, sym p, sym q) k
 
+-- over two lists whose cells are the same
+pub between-same : (r : ℕ) (s t : List Float) (src m : ℕ) → ((k : ℕ) → cellAt s src k ≡ cellAt t src k) → betweenAt r s src m ≡ betweenAt r t src m
+between-same r s t src m e = rw (e (m / r), e (m / r + 1)) refl
+
 -- ---- the taps there
 
 -- o = r / 2 + m lies between cells m / r and m / r + 1, if there are such

@@ -1,2 +1,3 @@
 -- Laws of rows over scratch.
 pub mod Across
+pub mod Overlap

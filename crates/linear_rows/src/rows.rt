@@ -3,6 +3,7 @@ ghost use mathlib.Core.Path.{_≡_};
 ghost use Prim.Native.Nat.{_+_, _*_, _≤_, _<_};
 ghost use lib.ListN.{length};
 ghost use Rattle.linear_rows.specs.Rows.{downRun, acrossRun, betweenRun};
+use super::twos::across_twos;
 use taps::fraction;
 use taps::lerp;
 use taps::tap_at;
@@ -44,23 +45,6 @@ fn across_taps(s: &mut [f32], src: usize, cw: usize, r: usize, dst: usize, from:
         let i0 = t.i0;
         let i1 = t.i1;
         s[dst + from + i] = lerp(s[src + i0], s[src + i1], t.f);
-        i += 1;
-    }
-}
-
-// The two outputs between each of n pairs of neighbouring cells at ratio 2.
-fn across_twos(s: &mut [f32], src: usize, n: usize, dst: usize)
-    requires { ⌜ (dst + 2 * n ≤ src) × (src + (n + 1) ≤ length (now s)) ⌝ }
-    ensures { λ _. ⌜ now (s .exit) ≡ betweenRun 2 src n dst (now (s .entry)) ⌝ }
-{
-    let f0 = fraction(1, 4);
-    let f1 = fraction(3, 4);
-    let mut i = 0;
-    while i < n {
-        let a = s[src + i];
-        let b = s[src + (i + 1)];
-        s[dst + 2 * i] = lerp(a, b, f0);
-        s[dst + (2 * i + 1)] = lerp(a, b, f1);
         i += 1;
     }
 }

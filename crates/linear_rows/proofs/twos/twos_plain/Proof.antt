@@ -9,8 +9,8 @@ use Rattle.linear_rows.proofs.Across.{between-is}
 use Rattle.laws.proofs.Lists.{Run, run-none, run-more, run-end, run-at, run-after}
 use native.Mathlib.Omega.{arith}
 use lib.ListN.{getD, length-set}
-use Rattle.linear_rows.proofs.rows.across_twos.Statement.{statement}
-use Rattle.linear_rows.proofs.rows.across_twos.Tie as tie
+use Rattle.linear_rows.proofs.twos.twos_plain.Statement.{statement}
+use Rattle.linear_rows.proofs.twos.twos_plain.Tie as tie
 
 abbrev Inv-loop : tie.InvT-loop
 Inv-loop s₀ src n dst f0 f1 i₀ s i = (i ≤ n) × Run s₀ s dst (2 * i) (betweenAt 2 s₀ src)
@@ -108,8 +108,8 @@ returns : tie.Need-returns Inv-loop μ-loop
 unfolding betweenRun
 returns c = run-end (c .before .loop .inv .1) _ (omega arith) (omega arith)
 
-pub across-twos-spec : {M : Type 1} → statement M
-across-twos-spec =
+pub twos-plain-spec : {M : Type 1} → statement M
+twos-plain-spec =
     tie.close
     (tie.spec
     Inv-loop

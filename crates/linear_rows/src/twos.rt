@@ -1,0 +1,96 @@
+// The two outputs between each pair of neighbouring cells at ratio 2: eight pairs at a time, so that many are computed at once.
+ghost use mathlib.Core.Path.{_≡_};
+ghost use Prim.Native.Nat.{ℕ, _+_, _-_, _*_, _≤_, _<_, min};
+ghost use lib.Ieee.{nan};
+ghost use lib.ListN.{length, getD};
+ghost use Rattle.laws.specs.Lists.{put};
+ghost use Rattle.linear_rows.specs.Rows.{betweenAt, betweenRun};
+use taps::fraction;
+use taps::lerp;
+
+struct Lanes;
+
+impl Lanes {
+    const PAIRS: usize = 8;
+
+    const OUTPUTS: usize = 16;
+}
+
+// The outputs between n pairs, pair by pair.
+fn twos_plain(s: &mut [f32], src: usize, n: usize, dst: usize)
+    requires { ⌜ (dst + 2 * n ≤ src) × (src + (n + 1) ≤ length (now s)) ⌝ }
+    ensures { λ _. ⌜ now (s .exit) ≡ betweenRun 2 src n dst (now (s .entry)) ⌝ }
+{
+    let f0 = fraction(1, 4);
+    let f1 = fraction(3, 4);
+    let mut i = 0;
+    while i < n {
+        let a = s[src + i];
+        let b = s[src + (i + 1)];
+        s[dst + 2 * i] = lerp(a, b, f0);
+        s[dst + (2 * i + 1)] = lerp(a, b, f1);
+        i += 1;
+    }
+}
+
+// Of eight pairs, from pair i on.
+fn twos_block(s: &[f32], src: usize, i: usize) -> [f32; Lanes::OUTPUTS]
+    requires { ⌜ src + (i + 9) ≤ length (now s) ⌝ }
+    ensures { λ r. ⌜ ((k : ℕ) → k < 16 → getD r k nan ≡ betweenAt 2 (now (s .entry)) src (2 * i + k)) ⌝ }
+{
+    let f0 = fraction(1, 4);
+    let f1 = fraction(3, 4);
+    let mut v = [0.0f32; Lanes::OUTPUTS];
+    for k in 0..Lanes::PAIRS {
+        let a = s[src + (i + k)];
+        let b = s[src + (i + k + 1)];
+        v[2 * k] = lerp(a, b, f0);
+        v[2 * k + 1] = lerp(a, b, f1);
+    }
+    v
+}
+
+// A block of outputs, to s from `at` on.
+fn put_block(s: &mut [f32], at: usize, v: [f32; Lanes::OUTPUTS])
+    requires { ⌜ at + 16 ≤ length (now s) ⌝ }
+    ensures { λ _. ⌜ now (s .exit) ≡ put (now (s .entry)) at 16 (λ k. getD v k nan) ⌝ }
+{
+    for k in 0..Lanes::OUTPUTS {
+        s[at + k] = v[k];
+    }
+}
+
+// Where the block behind `done` pairs starts: right there, but not so late that it runs past the last of n.
+fn block_start(done: usize, n: usize) -> usize
+    requires { ⌜ 8 ≤ n ⌝ }
+    ensures { λ r. ⌜ r ≡ min done (n - 8) ⌝ }
+{
+    let last = n - Lanes::PAIRS;
+    if done < last { done } else { last }
+}
+
+// The outputs between n pairs, by blocks. The last block ends with them: it overlaps the one before, and stores what that stored again.
+fn twos_blocks(s: &mut [f32], src: usize, n: usize, dst: usize)
+    requires { ⌜ (8 ≤ n) × (dst + 2 * n ≤ src) × (src + (n + 1) ≤ length (now s)) ⌝ }
+    ensures { λ _. ⌜ now (s .exit) ≡ betweenRun 2 src n dst (now (s .entry)) ⌝ }
+{
+    let mut done = 0;
+    while done < n {
+        let i = block_start(done, n);
+        let v = twos_block(s, src, i);
+        put_block(s, dst + 2 * i, v);
+        done = i + Lanes::PAIRS;
+    }
+}
+
+// Inner: the outputs between n pairs of the cells at src, to s from dst on.
+pub fn across_twos(s: &mut [f32], src: usize, n: usize, dst: usize)
+    requires { ⌜ (dst + 2 * n ≤ src) × (src + (n + 1) ≤ length (now s)) ⌝ }
+    ensures { λ _. ⌜ now (s .exit) ≡ betweenRun 2 src n dst (now (s .entry)) ⌝ }
+{
+    if n < Lanes::PAIRS {
+        twos_plain(s, src, n, dst);
+        return;
+    }
+    twos_blocks(s, src, n, dst);
+}
