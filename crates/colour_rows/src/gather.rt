@@ -2,10 +2,12 @@
 ghost use mathlib.Core.Path.{_≡_};
 ghost use Prim.Native.Nat.{ℕ, _+_, _*_, _≤_, _<_};
 ghost use lib.ListN.{length, getD};
+ghost use lib.Ieee.{nan};
 ghost use Rattle.laws.specs.Floats.{f32, _⊗_};
 ghost use Rattle.image.specs.Samples.{sampleOf, sampleAt};
 ghost use Rattle.fround.specs.Rounding.{roundClamped, Rounded};
 ghost use Rattle.image.specs.Scratch.{cellAt};
+ghost use Rattle.blocks.specs.Floating.{Centred};
 ghost use Rattle.colour_rows.specs.Lent.{LumaRow, Sixteen};
 use blocks::Block;
 use image::Layout;
@@ -91,19 +93,19 @@ pub fn wide16(y: [u16; Block::LEN]) -> [u32; Block::LEN]
     v
 }
 
-// Inner: chroma of the sixteen columns from x on, of the finished row at src, in 256ths.
-pub fn chroma16(s: &[f32], src: usize, x: usize) -> [u32; Block::LEN]
+// Inner: chroma of the sixteen columns from x on, of the finished row at src, in 256ths less its centre.
+pub fn chroma16(s: &[f32], src: usize, x: usize) -> [f32; Block::LEN]
     requires { ⌜ src + (x + 16) ≤ length (now s) ⌝ }
-    ensures { λ r. ⌜ Sixteen r (λ k. roundClamped 65536 (cellAt (now (s .entry)) src (x + k) ⊗ f32 256)) ⌝ }
+    ensures { λ r. ⌜ ((k : ℕ) → k < 16 → Centred (getD r k nan) (roundClamped 65536 (cellAt (now (s .entry)) src (x + k) ⊗ f32 256))) ⌝ }
 {
-    let mut v = [0u32; Block::LEN];
+    let mut v = [0.0f32; Block::LEN];
     for k in 0..Block::LEN {
-        v[k] = chroma_at(s[src + (x + k)]);
+        v[k] = fround::centred_256ths(s[src + (x + k)]);
     }
     v
 }
 
-// Inner: the same as whole numbers.
+// Inner: chroma of those columns as whole numbers.
 pub fn whole16(s: &[f32], src: usize, x: usize) -> [u8; Block::LEN]
     requires { ⌜ src + (x + 16) ≤ length (now s) ⌝ }
     ensures { λ r. ⌜ Sixteen r (λ k. roundClamped 255 (cellAt (now (s .entry)) src (x + k))) ⌝ }

@@ -1,6 +1,5 @@
-use mathlib.Core.Path.{_∙_}
+use mathlib.Core.Path.{refl, _∙_}
 use borrow.Author.Needs.{needs}
-use Rattle.fround.proofs.Laws.{round-within}
 use Rattle.blocks.proofs.Blocks.{block-pixel}
 use Rattle.colour_rows.proofs.Colouring.{exact-by}
 use Rattle.colour_rows.proofs.sixteens.exact16.Statement.{statement}
@@ -16,10 +15,10 @@ wide16-requires : tie.Need-wide16-requires
 wide16-requires c κs = search needs
 
 rgb-block-requires : tie.Need-rgb-block-requires
-rgb-block-requires c κs = λ k h. (c .wide16 .ensures k h .1, rw (c .before .before .chroma16 .ensures k h) (round-within _ _), rw (c .before .chroma162 .ensures k h) (round-within _ _))
+rgb-block-requires c κs = λ k h. (c .wide16 .ensures k h .1, (_, c .before .before .chroma16 .ensures k h), (_, c .before .chroma162 .ensures k h))
 
 returns : tie.Need-returns
-returns c = λ k h. rw (c .before .wide16 .ensures k h .0) at (block-pixel (c .rgb-block .ensures) k h) ∙ exact-by _ _ _ (c .before .before .before .chroma16 .ensures k h) (c .before .before .chroma162 .ensures k h)
+returns c = λ k h. rw (c .before .wide16 .ensures k h .0) at (block-pixel (c .rgb-block .ensures) k h (c .before .before .before .chroma16 .ensures k h) (c .before .before .chroma162 .ensures k h)) ∙ exact-by _ _ _ refl refl
 
 pub exact16-spec : {M : Type 1} → statement M
 exact16-spec =
