@@ -59,30 +59,7 @@ fn detail_block(
     block
 }
 
-// Of n such blocks, from cell 1 on.
-fn detail_blocks(
-    layout: Layout,
-    plane: &[u8],
-    stride: usize,
-    y: usize,
-    s: &mut [f32],
-    src: usize,
-    dst: usize,
-    n: usize,
-)
-    requires { ⌜ Cells layout (record { bytes = now plane; stride = stride }) × (y < layout .h) × (layout .rh ≡ 2) × (8 * n + 2 ≤ layout .cw) × (16 * n + 2 ≤ layout .w) ⌝ }
-    requires { ⌜ (dst + layout .w ≤ src) × (src + layout .cw ≤ length (now s)) ⌝ }
-    ensures { λ _. ⌜ now (s .exit) ≡ detailRun layout (record { bytes = now (plane .entry); stride = stride }) y src dst 2 (16 * n) (now (s .entry)) ⌝ }
-{
-    let mut i = 0;
-    while i < n {
-        let block = detail_block(layout, plane, stride, y, s, src, 8 * i);
-        put_block(s, dst + 2 + 16 * i, block);
-        i += 1;
-    }
-}
-
-// Inner: the detail of n cells, from cell 1 on, at ratio 2: blocks, the last of which ends with the cells and may overlap the one before.
+// Inner: the detail of n cells, from cell 1 on, at ratio 2: blocks, the last of which ends with the cells and overlaps the one before.
 pub fn detail_twos(
     layout: Layout,
     plane: &[u8],
@@ -101,8 +78,11 @@ pub fn detail_twos(
         detail_run(layout, plane, stride, y, s, src, dst, 2, 2 * n);
         return;
     }
-    let i = n - Lanes::CELLS;
-    detail_blocks(layout, plane, stride, y, s, src, dst, n / Lanes::CELLS);
-    let block = detail_block(layout, plane, stride, y, s, src, i);
-    put_block(s, dst + 2 + 2 * i, block);
+    let mut done = 0;
+    while done < n {
+        let i = image::least(done, n - Lanes::CELLS);
+        let block = detail_block(layout, plane, stride, y, s, src, i);
+        put_block(s, dst + 2 + 2 * i, block);
+        done = i + Lanes::CELLS;
+    }
 }

@@ -86,30 +86,7 @@ fn put_floats(s: &mut [f32], at: usize, block: [u8; Cells::BLOCK])
     }
 }
 
-// n blocks, to s from dst on.
-fn byte_blocks(
-    plane: &[u8],
-    greatest: bool,
-    u: usize,
-    m: usize,
-    d: usize,
-    n: usize,
-    s: &mut [f32],
-    dst: usize,
-)
-    requires { ⌜ (u + 16 * n + 2 ≤ length (now plane)) × (m + 16 * n + 2 ≤ length (now plane)) × (d + 16 * n + 2 ≤ length (now plane)) × (dst + 16 * n ≤ length (now s)) ⌝ }
-    ensures { λ _. ⌜ now (s .exit) ≡ put (now (s .entry)) dst (16 * n) (λ i. f32 (nineFrom greatest 1 (now (plane .entry)) (u + i) (m + i) (d + i))) ⌝ }
-{
-    let mut b = 0;
-    while b < n {
-        let i = Cells::BLOCK * b;
-        let block = byte_block(plane, greatest, u + i, m + i, d + i);
-        put_floats(s, dst + i, block);
-        b += 1;
-    }
-}
-
-// Inner: n cells of one-byte samples by sixteens, and the rest one by one, to s from dst on; the left neighbours of the first begin at u, m and d.
+// Inner: n cells of one-byte samples, to s from dst on; the left neighbours of the first begin at u, m and d. By sixteens, the last of which end with the cells and overlap those before; fewer than sixteen one by one.
 pub fn byte_run(
     plane: &[u8],
     greatest: bool,
@@ -127,10 +104,13 @@ pub fn byte_run(
         byte_cells(plane, greatest, u, m, d, n, s, dst);
         return;
     }
-    let i = n - Cells::BLOCK;
-    byte_blocks(plane, greatest, u, m, d, n / Cells::BLOCK, s, dst);
-    let block = byte_block(plane, greatest, u + i, m + i, d + i);
-    put_floats(s, dst + i, block);
+    let mut done = 0;
+    while done < n {
+        let i = image::least(done, n - Cells::BLOCK);
+        let block = byte_block(plane, greatest, u + i, m + i, d + i);
+        put_floats(s, dst + i, block);
+        done = i + Cells::BLOCK;
+    }
 }
 
 // Inner: the greater or the smaller of two samples.

@@ -215,6 +215,13 @@ module _ {A : Type 0} {xs ys : List A} {at n : ℕ} {f : ℕ → A} (r : Run xs 
     eq = let q = r .eq in rw (z, e, g, q) (put-chain xs at n k f);
   }
 
+-- a block that begins at value a of a run, or at its end, and reaches its end or beyond
+pub run-over : {A : Type 0} {xs ys : List A} {at n : ℕ} {f : ℕ → A} → Run xs ys at n f → (zs : List A) (a k : ℕ) (d : A) → zs ≡ put ys (at + a) k (λ i. f (a + i)) → a ≤ n → n ≤ a + k → at + n ≤ length xs → Run xs zs at (a + k) f
+run-over {A} {xs} {ys} {at} {n} {f} r zs a k d z h g l = record {
+  len = ap length z ∙ length-put ys (at + a) k (λ i. f (a + i)) ∙ r .len;
+  eq = z ∙ ap (λ (t : List A). put t (at + a) k (λ i. f (a + i))) (r .eq) ∙ put-over xs at n f a k d h g l;
+}
+
 -- two stores, at p and behind it
 pub run-two : {A : Type 0} {xs ys : List A} {at n : ℕ} {f : ℕ → A} → Run xs ys at n f → (zs : List A) (p m : ℕ) (v u : A) → zs ≡ set (set ys p v) (p + 1) u → p ≡ at + n → m ≡ n + 2 → v ≡ f n → u ≡ f (n + 1) → Run xs zs at m f
 run-two {A} {xs} {ys} {at} {n} {f} r zs p m v u z e g h k =

@@ -6,7 +6,7 @@ use native.Mathlib.Omega.{arith}
 use lib.ListN.{length, getD}
 use lib.Ieee.{Float, nan}
 use Rattle.laws.specs.Lists.{put}
-use Rattle.laws.proofs.Lists.{put-same, put-after, put-chain, put-over, Run, run-run}
+use Rattle.laws.proofs.Lists.{put-same, put-after, put-chain, Run, run-at, run-after, run-over}
 use Rattle.image.specs.declared.layout.Layout.{Layout}
 use Rattle.image.specs.Tests.{Sound}
 use Rattle.image.specs.Samples.{Plane}
@@ -45,27 +45,17 @@ pair-turn F i b u v p q =
     let h : 2 + (2 * (i + b) + 1) ≡ 2 + 2 * i + (2 * b + 1) = omega arith in
     (p ∙ ap F e, q ∙ ap F h)
 
--- a block behind the n blocks that were stored: pixel k of it is F of 2 + 16·n + k
-pub lanes-more : {xs ys : List Float} {at : ℕ} (n : ℕ) (F : ℕ → Float) → Run xs ys at (16 * n) (λ k. F (2 + k)) → (zs block : List Float) → zs ≡ put ys (at + 16 * n) 16 (λ k. getD block k nan) → ((k : ℕ) → k < 16 → getD block k nan ≡ F (2 + 2 * (8 * n) + k))
-    → Run xs zs at (16 * (n + 1)) (λ k. F (2 + k))
-lanes-more {xs} {ys} {at} n F r zs block e h =
-    run-run r zs (at + 16 * n) (16 * (n + 1)) 16 (e ∙ put-same ys (at + 16 * n) 16 _ _ (λ k q. h k q ∙ ap F (place k))) refl (omega arith)
-  where
-    place : (k : ℕ) → 2 + 2 * (8 * n) + k ≡ 2 + (16 * n + k)
-    place k = omega arith
-
--- the last block of n cells, which may overlap the one before, where a value looks only at what lies from `low` on
-pub lanes-over : (F : List Float → ℕ → Float) (low dst n : ℕ) (s ys zs block : List Float) → ((xs ys : List Float) → ((q : ℕ) → low ≤ q → getD ys q nan ≡ getD xs q nan) → (i : ℕ) → i < 2 + 2 * n → F ys i ≡ F xs i)
-    → ys ≡ put s (dst + 2) (16 * (n / 8)) (λ i. F s (2 + i)) → zs ≡ put ys (dst + 2 + 2 * (n - 8)) 16 (λ i. getD block i nan) → ((i : ℕ) → i < 16 → getD block i nan ≡ F ys (2 + 2 * (n - 8) + i))
-    → 8 ≤ n → dst + 2 + 2 * n ≤ low → low ≤ length s → zs ≡ put s (dst + 2) (2 * n) (λ i. F s (2 + i))
-lanes-over F low dst n s ys zs block keeps e h b w l m =
-    let f : ℕ → Float = λ i. F s (2 + i) in
-    let a : ℕ = 2 * (n - 8) in
-    let g : a + 16 ≡ 2 * n = omega arith in
-    h
-    ∙ put-same ys (dst + 2 + a) 16 _ (λ i. f (a + i)) (λ i p. b i p ∙ keeps s ys (λ q r. ap (λ (t : List Float). getD t q nan) e ∙ put-after s (dst + 2) (16 * (n / 8)) f q nan (omega arith)) (2 + a + i) (omega arith) ∙ ap (F s) (sym (plus-plus 2 a i)))
-    ∙ ap (λ (t : List Float). put t (dst + 2 + a) 16 (λ i. f (a + i))) e
-    ∙ put-over s (dst + 2) (16 * (n / 8)) f a 16 nan (omega arith) (omega arith) (omega arith) ∙ ap (λ (i : ℕ). put s (dst + 2) i f) g
+-- the block of cell i + 1 and the seven behind it, stored where `done` cells were: it begins at the last of them at the latest, and may overlap them. A value looks only at what lies from `low` on
+pub lanes-more : (F : List Float → ℕ → Float) (low dst n i done : ℕ) {s ys : List Float} → ((xs ys : List Float) → ((q : ℕ) → low ≤ q → getD ys q nan ≡ getD xs q nan) → (x : ℕ) → x < 2 + 2 * n → F ys x ≡ F xs x)
+    → Run s ys (dst + 2) (2 * done) (λ x. F s (2 + x)) → (zs block : List Float) → zs ≡ put ys (dst + 2 + 2 * i) 16 (λ k. getD block k nan) → ((k : ℕ) → k < 16 → getD block k nan ≡ F ys (2 + 2 * i + k))
+    → i ≤ done → done ≤ i + 8 → i + 8 ≤ n → dst + 2 + 2 * n ≤ low → low ≤ length s → Run s zs (dst + 2) (2 * (i + 8)) (λ x. F s (2 + x))
+lanes-more F low dst n i done {s} {ys} keeps r zs block h b w v u l m =
+    let f : ℕ → Float = λ x. F s (2 + x) in
+    let a : ℕ = 2 * i in
+    let e : a + 16 ≡ 2 * (i + 8) = omega arith in
+    run-at (run-over r zs a 16 nan
+    (h ∙ put-same ys (dst + 2 + a) 16 _ (λ k. f (a + k)) (λ k p. b k p ∙ keeps s ys (λ q t. run-after r q nan (omega arith)) (2 + a + k) (omega arith) ∙ ap (F s) (sym (plus-plus 2 a k))))
+    (omega arith) (omega arith) (omega arith)) _ e
 
 -- m values from `from` on and then k more are one run, where a value looks only at what lies from `low` on
 pub row-chain : (F : List Float → ℕ → Float) (low dst from m k : ℕ) (s : List Float) → dst + from + m ≤ low

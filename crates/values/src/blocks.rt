@@ -50,21 +50,7 @@ fn value_block(layout: Layout, s: &[f32], t: Bands, i: usize) -> [f32; Lanes::PI
     block
 }
 
-// Of n such blocks, from cell 1 on.
-fn value_blocks(layout: Layout, s: &mut [f32], t: Bands, dst: usize, n: usize)
-    requires { ⌜ Sound layout × BandsInside t (3 * layout .w) (layout .cw) (length (now s)) ⌝ }
-    requires { ⌜ (layout .rh ≡ 2) × (8 * n + 2 ≤ layout .cw) × (16 * n + 2 ≤ layout .w) × (dst ≤ layout .w) ⌝ }
-    ensures { λ _. ⌜ now (s .exit) ≡ valueRun layout t dst 2 (16 * n) (now (s .entry)) ⌝ }
-{
-    let mut i = 0;
-    while i < n {
-        let block = value_block(layout, s, t, 8 * i);
-        put_block(s, dst + 2 + 16 * i, block);
-        i += 1;
-    }
-}
-
-// Inner: a component's values of n cells, from cell 1 on, at ratio 2: blocks, the last of which ends with the cells and may overlap the one before.
+// Inner: a component's values of n cells, from cell 1 on, at ratio 2: blocks, the last of which ends with the cells and overlaps the one before.
 pub fn value_twos(layout: Layout, s: &mut [f32], t: Bands, dst: usize, n: usize)
     requires { ⌜ Sound layout × BandsInside t (3 * layout .w) (layout .cw) (length (now s)) ⌝ }
     requires { ⌜ (layout .rh ≡ 2) × (n + 2 ≤ layout .cw) × (2 + 2 * n ≤ layout .w) × (dst ≤ layout .w) ⌝ }
@@ -74,8 +60,11 @@ pub fn value_twos(layout: Layout, s: &mut [f32], t: Bands, dst: usize, n: usize)
         value_run(layout, s, t, dst, 2, 2 * n);
         return;
     }
-    let i = n - Lanes::CELLS;
-    value_blocks(layout, s, t, dst, n / Lanes::CELLS);
-    let block = value_block(layout, s, t, i);
-    put_block(s, dst + 2 + 2 * i, block);
+    let mut done = 0;
+    while done < n {
+        let i = image::least(done, n - Lanes::CELLS);
+        let block = value_block(layout, s, t, i);
+        put_block(s, dst + 2 + 2 * i, block);
+        done = i + Lanes::CELLS;
+    }
 }
