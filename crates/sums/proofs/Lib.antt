@@ -1,6 +1,5 @@
 -- Laws that the proofs and callers cite.
 pub mod Threes
 pub mod Buffers
-pub mod Blocks
 pub mod Statistics
 pub mod ReadBack

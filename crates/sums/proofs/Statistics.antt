@@ -1,13 +1,13 @@
--- Slopes over scratch: what is written leaves the sums that they are made of, and a row in parts.
+-- Slopes over scratch: what is written leaves the sums that they are made of.
 use mathlib.Core.Path.{_≡_, refl, sym, ap, _∙_}
 use mathlib.Core.Logic.{inl, inr}
 use mathlib.Core.List.{List}
 use Prim.Native.Nat.{ℕ, _+_, _-_, _≤_, _<_}
 use native.Mathlib.Omega.{arith}
-use lib.ListN.{getD}
+use lib.ListN.{length, getD}
 use lib.Ieee.{Float, nan}
 use Rattle.laws.specs.Lists.{put}
-use Rattle.laws.proofs.Lists.{Run, run-before, run-after, length-put, put-same, put-chain}
+use Rattle.laws.proofs.Lists.{Run, run-before, run-after, run-over, put-same}
 use Rattle.image.specs.Scratch.{cellAt, scratchNeed}
 use Rattle.places.specs.declared.places.Window.{Window}
 use Rattle.sums.specs.declared.slopes.Stats.{Stats}
@@ -18,10 +18,8 @@ use Rattle.image.specs.Picture.{Chroma, Cb, Cr}
 use Rattle.guidance.specs.Guided.{three, mean, slopeOf, epsilon}
 use Rattle.guided.specs.Scratch.{slotAt, firstOf, Slope, numDown, readAcross}
 use Rattle.places.specs.Buffers.{windowOf}
-use Rattle.sums.proofs.Blocks.{run-block}
 use Rattle.guided.proofs.Places.{slot-fits}
 use Rattle.sums.proofs.Buffers.{window-inside, window-clear}
-use Rattle.laws.proofs.Counts.{plus-none, none-plus, part-rest}
 
 pub by-same : {y y' yy yy' c c' yc yc' : Float} (eps : Float) → y ≡ y' → yy ≡ yy' → c ≡ c' → yc ≡ yc' → slopeBy y yy c yc eps ≡ slopeBy y' yy' c' yc' eps
 by-same eps p q r s = rw (p, q, r, s) refl
@@ -34,7 +32,7 @@ pub all-less : {t : Stats} {n len : ℕ} → AllInside t n len → (k l : ℕ) �
 all-less o k l p q = record { y = inside-less (o .y) k l p q; yy = inside-less (o .yy) k l p q; c = inside-less (o .c) k l p q; yc = inside-less (o .yc) k l p q }
 
 -- a run inside the row at dst leaves every row apart from it
-module _ (dst from n : ℕ) {xs ys : List Float} {m : ℕ} {f : ℕ → Float} (w : Run xs ys (dst + from) m f) (h : from + m ≤ n) where
+module _ (dst n : ℕ) {xs ys : List Float} {m : ℕ} {f : ℕ → Float} (w : Run xs ys dst m f) (h : m ≤ n) where
   cell-same : (src : ℕ) → Apart src dst n → (i : ℕ) → i < n → cellAt ys src i ≡ cellAt xs src i
   cell-same src (inl a) i k = run-before w (src + i) nan (omega arith)
   cell-same src (inr a) i k = run-after w (src + i) nan (omega arith)
@@ -47,24 +45,11 @@ module _ (dst from n : ℕ) {xs ys : List Float} {m : ℕ} {f : ℕ → Float} (
   unfolding slopeAt
   slope-same t eps o i k = by-same eps (mean-same (t .y) (o .y) i k) (mean-same (t .yy) (o .yy) i k) (mean-same (t .c) (o .c) i k) (mean-same (t .yc) (o .yc) i k)
 
--- a block's values, read from scratch while the row is written, are those of its beginning
-module _ (t : Stats) (eps : Float) (dst n : ℕ) (o : Clear t dst n) where
-  pub block-more : {xs ys : List Float} {i : ℕ} → Run xs ys (dst + 0) i (λ k. slopeAt xs t eps (0 + k)) → i + 8 ≤ n → (zs v : List Float) → ((k : ℕ) → k < 8 → getD v k nan ≡ slopeAt ys t eps (i + k))
-      → zs ≡ put ys (dst + i) 8 (λ k. getD v k nan) → Run xs zs (dst + 0) (i + 8) (λ k. slopeAt xs t eps (0 + k))
-  block-more {xs} {ys} {i} w h zs v e q =
-      run-block w zs v (λ k l. e k l ∙ slope-same dst 0 n w (omega arith) t eps o (i + k) (omega arith) ∙ ap (slopeAt xs t eps) (sym (none-plus (i + k))))
-      (q ∙ ap (λ (a : ℕ). put ys a 8 (λ k. getD v k nan)) (ap (λ (a : ℕ). a + i) (sym (plus-none dst))))
-
-  -- the first m of n, and then the rest
-  pub slope-parts : (m : ℕ) (s : List Float) → m ≤ n → slopeRun t eps dst m (n - m) (slopeRun t eps dst 0 m s) ≡ slopeRun t eps dst 0 n s
-  unfolding slopeRun
-  slope-parts m s h =
-      let f : ℕ → Float = λ i. slopeAt s t eps (0 + i) in
-      let xs = put s (dst + 0) m f in
-      let w : Run s xs (dst + 0) m f = record { len = length-put s (dst + 0) m f; eq = refl } in
-      ap (λ (a : ℕ). put xs a (n - m) (λ i. slopeAt xs t eps (m + i))) (ap (λ (a : ℕ). a + m) (sym (plus-none dst)))
-      ∙ put-same xs (dst + 0 + m) (n - m) _ (λ i. f (m + i)) (λ i l. slope-same dst 0 n w (omega arith) t eps o (m + i) (omega arith) ∙ ap (slopeAt s t eps) (sym (none-plus (m + i))))
-      ∙ put-chain s (dst + 0) m (n - m) f ∙ ap (λ (k : ℕ). put s (dst + 0) k f) (part-rest m n h)
+-- a block's values, read from scratch while the row is written, are those of its beginning; it may overlap those before
+pub block-more : (t : Stats) (eps : Float) (dst n : ℕ) → Clear t dst n → {xs ys : List Float} {done : ℕ} → Run xs ys dst done (slopeAt xs t eps) → (zs : List Float) (i : ℕ) (v : List Float) → ((k : ℕ) → k < 8 → getD v k nan ≡ slopeAt ys t eps (i + k))
+    → zs ≡ put ys (dst + i) 8 (λ k. getD v k nan) → i ≤ done → done ≤ i + 8 → i + 8 ≤ n → done ≤ n → dst + n ≤ length xs → Run xs zs dst (i + 8) (slopeAt xs t eps)
+block-more t eps dst n o {xs} {ys} {done} w zs i v e q a b h d l =
+    run-over w zs i 8 nan (q ∙ put-same ys (dst + i) 8 _ (λ k. slopeAt xs t eps (i + k)) (λ k p. e k p ∙ slope-same dst n w d t eps o (i + k) (omega arith))) a b (omega arith)
 
 -- ---- a component's row
 
@@ -100,11 +85,9 @@ pub slope-is : (l : Layout) (k : Chroma) (j : ℕ) (s : List Float) (i : ℕ) �
 unfolding slopeAt slopeBy meanAt statsOf windowOf slopeOf mean three readAcross
 slope-is l k j s i = refl
 
-pub row-is : (l : Layout) (k : Chroma) (j : ℕ) (s : List Float) → slopeRun (statsOf l k j) (epsilon l) (slotAt l (numDown (Slope k)) j) 0 (l .cw) s ≡ slopeRow l k j s
+pub row-is : (l : Layout) (k : Chroma) (j : ℕ) (s : List Float) → slopeRun (statsOf l k j) (epsilon l) (slotAt l (numDown (Slope k)) j) (l .cw) s ≡ slopeRow l k j s
 unfolding slopeRun slopeRow
-row-is l k j s =
-    ap (λ (a : ℕ). put s a (l .cw) (λ i. slopeAt s (statsOf l k j) (epsilon l) (0 + i))) (plus-none (slotAt l (numDown (Slope k)) j))
-    ∙ put-same s (slotAt l (numDown (Slope k)) j) (l .cw) _ _ (λ i h. ap (slopeAt s (statsOf l k j) (epsilon l)) (none-plus i) ∙ slope-is l k j s i)
+row-is l k j s = put-same s (slotAt l (numDown (Slope k)) j) (l .cw) _ _ (λ i h. slope-is l k j s i)
 
 -- a component's sums, by its first buffer's number
 pub stats-are : (l : Layout) (k : Chroma) (j f : ℕ) (y yy c yc : Window) → f ≡ firstOf k → y ≡ windowOf l 1 j → yy ≡ windowOf l 2 j → c ≡ windowOf l (f + 1) j → yc ≡ windowOf l (f + 2) j
@@ -123,5 +106,5 @@ module _ (l : Layout) (k : Chroma) (j f dst : ℕ) (t : Stats) (e : f ≡ firstO
       let b : dst ≡ slotAt l (numDown (Slope k)) j = at in
       (rw p (all-less (stats-inside l k j) (l .cw) len (omega arith) h), rw (p, at) (stats-clear l k j), omega arith)
 
-  pub row-slopes : (eps : Float) (s : List Float) → eps ≡ epsilon l → slopeRun t eps dst 0 (l .cw) s ≡ slopeRow l k j s
+  pub row-slopes : (eps : Float) (s : List Float) → eps ≡ epsilon l → slopeRun t eps dst (l .cw) s ≡ slopeRow l k j s
   row-slopes eps s g = rw (p, g, at) (row-is l k j s)

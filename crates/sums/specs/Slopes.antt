@@ -27,9 +27,9 @@ meanAt s t i = (cellAt s (t .up) i ⊕ cellAt s (t .at) i ⊕ cellAt s (t .down)
 unfoldable pub slopeAt : List Float → Stats → Float → ℕ → Float
 slopeAt s t eps i = slopeBy (meanAt s (t .y) i) (meanAt s (t .yy) i) (meanAt s (t .c) i) (meanAt s (t .yc) i) eps
 
--- the slopes at cells from, .. from + m - 1, put at dst + from
-unfoldable pub slopeRun : Stats → Float → ℕ → ℕ → ℕ → List Float → List Float
-slopeRun t eps dst from m s = put s (dst + from) m (λ i. slopeAt s t eps (from + i))
+-- the slopes at the first n cells, put at dst
+unfoldable pub slopeRun : Stats → Float → ℕ → ℕ → List Float → List Float
+slopeRun t eps dst n s = put s dst n (slopeAt s t eps)
 
 -- the first n cells of a window's three buffers lie within `len` values
 pub record Inside (t : Window) (n len : ℕ) : Type 0 where

@@ -71,16 +71,15 @@ fn slope_at(s: &[f32], t: Stats, eps: f32, i: usize) -> f32
     slope_by(y, yy, c, yc, eps)
 }
 
-// The slopes at m of n cells, from cell `from` on.
-fn slope_run(s: &mut [f32], t: Stats, eps: f32, n: usize, dst: usize, from: usize, m: usize)
-    requires { ⌜ AllInside t n (length (now s)) × Clear t dst n ⌝ }
-    requires { ⌜ (from + m ≤ n) × (dst + n ≤ length (now s)) ⌝ }
-    ensures { λ _. ⌜ now (s .exit) ≡ slopeRun t eps dst from m (now (s .entry)) ⌝ }
+// The slopes at n cells, one by one.
+fn slope_run(s: &mut [f32], t: Stats, eps: f32, n: usize, dst: usize)
+    requires { ⌜ AllInside t n (length (now s)) × Clear t dst n × (dst + n ≤ length (now s)) ⌝ }
+    ensures { λ _. ⌜ now (s .exit) ≡ slopeRun t eps dst n (now (s .entry)) ⌝ }
 {
     let mut i = 0;
-    while i < m {
-        let v = slope_at(s, t, eps, from + i);
-        s[dst + from + i] = v;
+    while i < n {
+        let v = slope_at(s, t, eps, i);
+        s[dst + i] = v;
         i += 1;
     }
 }
@@ -110,30 +109,22 @@ fn store_eight(s: &mut [f32], at: usize, v: [f32; 8])
     }
 }
 
-// The slopes at the first 8 * m of n cells.
-fn slope_blocks(s: &mut [f32], t: Stats, eps: f32, n: usize, dst: usize, m: usize)
-    requires { ⌜ AllInside t n (length (now s)) × Clear t dst n ⌝ }
-    requires { ⌜ (8 * m ≤ n) × (dst + n ≤ length (now s)) ⌝ }
-    ensures { λ _. ⌜ now (s .exit) ≡ slopeRun t eps dst 0 (8 * m) (now (s .entry)) ⌝ }
-{
-    let mut b = 0;
-    while b < m {
-        let i = 8 * b;
-        let v = slope_eight(s, t, eps, i);
-        store_eight(s, dst + i, v);
-        b += 1;
-    }
-}
-
-// The slopes at all n cells: blocks of eight, and the rest one by one.
+// The slopes at n cells: blocks of eight, the last of which ends with the cells and overlaps the one before; fewer than eight one by one.
 fn slope_cells(s: &mut [f32], t: Stats, eps: f32, n: usize, dst: usize)
     requires { ⌜ AllInside t n (length (now s)) × Clear t dst n × (dst + n ≤ length (now s)) ⌝ }
-    ensures { λ _. ⌜ now (s .exit) ≡ slopeRun t eps dst 0 n (now (s .entry)) ⌝ }
+    ensures { λ _. ⌜ now (s .exit) ≡ slopeRun t eps dst n (now (s .entry)) ⌝ }
 {
-    let m = n / 8;
-    let done = 8 * m;
-    slope_blocks(s, t, eps, n, dst, m);
-    slope_run(s, t, eps, n, dst, done, n - done);
+    if n < 8 {
+        slope_run(s, t, eps, n, dst);
+        return;
+    }
+    let mut done = 0;
+    while done < n {
+        let i = image::least(done, n - 8);
+        let v = slope_eight(s, t, eps, i);
+        store_eight(s, dst + i, v);
+        done = i + 8;
+    }
 }
 
 // The sums round chroma row j that a component's slopes are made of.

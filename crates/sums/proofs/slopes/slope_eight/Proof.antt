@@ -1,20 +1,20 @@
 use Rattle.sums.proofs.Statistics.{all-less}
-use Rattle.sums.proofs.Blocks.{Filled, filled-none, filled-more}
+use lib.Ieee.{nan}
+use Rattle.laws.proofs.Lists.{Run, run-none, front-more, front-at}
 use Rattle.sums.specs.Slopes.{slopeAt}
-use mathlib.Core.Path.{refl}
 use Prim.Native.Nat.{_+_, _-_, _≤_}
 use native.Mathlib.Omega.{arith}
 use Rattle.sums.proofs.slopes.slope_eight.Statement.{statement}
 use Rattle.sums.proofs.slopes.slope_eight.Tie as tie
 
 abbrev Inv-loop : tie.InvT-loop
-Inv-loop s t eps i v₀ k₀ v k = (k ≤ 8) × Filled v k (λ m. slopeAt s t eps (i + m))
+Inv-loop s t eps i v₀ k₀ v k = (k ≤ 8) × Run v₀ v 0 k (λ m. slopeAt s t eps (i + m))
 
 abbrev μ-loop : tie.MeasureT-loop
 μ-loop s t eps i v₀ k₀ v k = 8 - k
 
 loop-holds : tie.Need-loop-holds Inv-loop μ-loop
-loop-holds c = (omega arith, filled-none _ _ refl)
+loop-holds c = (omega arith, run-none _ _ _)
 
 add-slope-at : tie.Need-add-slope-at Inv-loop μ-loop
 add-slope-at c = omega arith
@@ -35,10 +35,10 @@ loop-less : tie.Need-loop-less Inv-loop μ-loop
 loop-less c = omega arith
 
 loop-again : tie.Need-loop-again Inv-loop μ-loop
-loop-again c = (omega arith, filled-more (c .before .before .loop .inv .1) (omega arith) _ (c .slope-at .ensures))
+loop-again c = (omega arith, front-more (c .before .before .loop .inv .1) _ (c .slope-at .ensures))
 
 returns : tie.Need-returns Inv-loop μ-loop
-returns c = λ k h. c .before .loop .inv .1 .reads k (omega arith)
+returns c = λ k h. front-at (c .before .loop .inv .1) k nan (omega arith) (omega arith)
 
 pub slope-eight-spec : {M : Type 1} → statement M
 slope-eight-spec =

@@ -1,32 +1,26 @@
-use Rattle.sums.proofs.Statistics.{all-less, slope-same}
-use Rattle.sums.specs.Slopes.{slopeAt, slopeRun}
 use mathlib.Core.Path.{_∙_}
-use Prim.Native.Nat.{_+_, _-_, _≤_}
-use Rattle.laws.proofs.Lists.{Run, run-none, run-more, run-end}
+use Prim.Native.Nat.{_-_, _≤_}
 use native.Mathlib.Omega.{arith}
+use Rattle.laws.proofs.Lists.{Run, run-none, run-more, run-end}
+use Rattle.sums.specs.Slopes.{slopeAt, slopeRun}
+use Rattle.sums.proofs.Statistics.{all-less, slope-same}
 use Rattle.sums.proofs.slopes.slope_run.Statement.{statement}
 use Rattle.sums.proofs.slopes.slope_run.Tie as tie
 
 abbrev Inv-loop : tie.InvT-loop
-Inv-loop s₀ t eps n dst from m i₀ s i = (i ≤ m) × Run s₀ s (dst + from) i (λ k. slopeAt s₀ t eps (from + k))
+Inv-loop s₀ t eps n dst i₀ s i = (i ≤ n) × Run s₀ s dst i (slopeAt s₀ t eps)
 
 abbrev μ-loop : tie.MeasureT-loop
-μ-loop s₀ t eps n dst from m i₀ s i = m - i
+μ-loop s₀ t eps n dst i₀ s i = n - i
 
 loop-holds : tie.Need-loop-holds Inv-loop μ-loop
 loop-holds c = (omega arith, run-none _ _ _)
 
-add-slope-at : tie.Need-add-slope-at Inv-loop μ-loop
-add-slope-at c = omega arith
-
 slope-at-requires : tie.Need-slope-at-requires Inv-loop μ-loop
-slope-at-requires c κs = all-less (c .before .before .before .before .pre .0 .0) _ _ (omega arith) (omega arith)
+slope-at-requires c κs = all-less (c .before .before .before .before .pre .0) _ _ (omega arith) (omega arith)
 
 add-s : tie.Need-add-s Inv-loop μ-loop
 add-s c = omega arith
-
-add-s-2 : tie.Need-add-s-2 Inv-loop μ-loop
-add-s-2 c = omega arith
 
 mul-s : tie.Need-mul-s Inv-loop μ-loop
 mul-s c = omega arith
@@ -42,9 +36,10 @@ loop-less c = omega arith
 
 loop-again : tie.Need-loop-again Inv-loop μ-loop
 loop-again c =
-    let a = c .before .before .before .before .before .args in
+    let s = c .before .before .before .before .before in
+    let a = s .args in
     let w = c .before .before .before .loop .inv .1 in
-    (omega arith, run-more w _ (c .slope-at .ensures ∙ slope-same (a .dst) (a .from) (a .n) w (omega arith) (a .t) (a .eps) (c .before .before .before .before .before .pre .0 .1) (a .from + c .before .before .before .loop .i) (omega arith)))
+    (omega arith, run-more w _ (c .slope-at .ensures ∙ slope-same (a .dst) (a .n) w (omega arith) (a .t) (a .eps) (s .pre .1) (c .before .before .before .loop .i) (omega arith)))
 
 same-length : tie.Need-same-length Inv-loop μ-loop
 same-length c = c .before .loop .inv .1 .len
@@ -60,10 +55,8 @@ slope-run-spec =
     Inv-loop
     μ-loop
     loop-holds
-    add-slope-at
     slope-at-requires
     add-s
-    add-s-2
     mul-s
     slice-write-s
     add-i
