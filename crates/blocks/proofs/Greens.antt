@@ -1,24 +1,19 @@
--- Green: where the offsets with a margin added and taken away round alike, that is the exact offset; and the exact form's chroma back from its float.
-use mathlib.Core.Path.{_≡_, refl, sym, ap, _∙_, subst}
-use mathlib.Core.Bool.{Bool, true, false, not}
+-- Green: where the offsets with a margin added and taken away round alike, that is the exact offset.
+use mathlib.Core.Path.{_≡_, refl, sym, subst}
+use mathlib.Core.Bool.{true, false, not}
 use Prim.Native.Nat.{ℕ, _+_, _-_, _*_, _/_, _≤_}
-use native.Mathlib.Nat.{zero-lt-suc, mul-one}
 use native.Mathlib.Omega.{arith}
-use lib.IntN.{pos, negsuc}
+use lib.IntN.{negsuc}
 use lib.Dec.{T, lit<}
-use lib.Ieee.{Float, fin, binary32, round, isNan, toBits}
-use lib.Ieee.Back.{round-whole}
-use lib.Ieee.Exact.{HasValue}
-use Rattle.laws.specs.Floats.{_⊕_, _⊖_, _⊗_, over, under, Near}
-use Rattle.laws.proofs.Values.{value-no-nan}
-use Rattle.laws.proofs.Operators.{add-up, add-down}
+use lib.Ieee.{Float, fin, isNan}
+use Rattle.laws.specs.Floats.{_⊕_, _⊖_, _⊗_, Near}
 use Rattle.laws.proofs.Nearness.{mild-step, near-chain, value-near, add-near}
-use Rattle.laws.proofs.Grids.{grid-bits}
 use Rattle.convert.specs.Kernels.{centred, greenOffset}
 use Rattle.convert.proofs.Channels.{green-biased}
 use Rattle.blocks.specs.Floating.{Centred, OnGrid, middle, slant, margin, lessMargin, Margin, added, taken, greenBits, Sure}
 use Rattle.blocks.proofs.Nearby.{Counts, Bits, minus-bits}
-use Rattle.blocks.proofs.Tints.{centred-value, scaled, on-grid-from}
+use Rattle.blocks.proofs.Chromas.{scaled}
+use Rattle.blocks.proofs.Lumas.{on-grid-from}
 
 -- the margin, in 18,784,000ths, which are 587,000 times 32
 abbrev slack : ℕ
@@ -78,31 +73,3 @@ module _ {x y : Float} {b r : ℕ} (h : Centred x b) (k : Centred y r) where
   unfolding greenBits
   green-most added = let u = above h k .counts .hi in omega arith
   green-most taken = let u = below h k .counts .hi in omega arith
-
--- ---- a chroma's float moved onto the grid of whole numbers
-
-abbrev pub centre : Float
-centre = fin false 257 (pos 15)
-
-module _ {x : Float} {c : ℕ} (h : Centred x c) where
-  centre-value : HasValue (centre ⊕ x) false (8388608 + c) 1
-  centre-value = let w = centred-value h in let l = h .most in go (w .s) (w .M) (w .is) (w .at)
-    where
-      go : (s : Bool) (M : ℕ) → HasValue x s M 1 → over s M + 32768 ≡ under s M + c → HasValue (centre ⊕ x) false (8388608 + c) 1
-      go false M v e =
-          let l = h .most in
-          let q : 8421376 + M ≡ 8388608 + c = omega arith in
-          subst (λ (z : Float). HasValue z false (8388608 + c) 1) (sym (add-up binary32 centre x 8421376 M 1 (zero-lt-suc 0) (refl, refl) v ∙ ap (λ (z : ℕ). round binary32 false z 1) q)) (round-whole binary32 false (8388608 + c) (omega arith))
-      go true M v e =
-          let l = h .most in
-          let q : 8421376 - M ≡ 8388608 + c = omega arith in
-          subst (λ (z : Float). HasValue z false (8388608 + c) 1) (sym (add-down binary32 centre x 8421376 M 1 (zero-lt-suc 0) (refl, refl) v (omega arith) ∙ ap (λ (z : ℕ). round binary32 false z 1) q)) (round-whole binary32 false (8388608 + c) (omega arith))
-
-  pub back-number : T (not (isNan (centre ⊕ x)))
-  back-number = value-no-nan (centre ⊕ x) false (8388608 + c) 1 centre-value
-
-  pub back-bits : toBits binary32 (centre ⊕ x) ≡ 1258291200 + c
-  back-bits = let l = h .most in grid-bits 0 (centre ⊕ x) (8388608 + c) (omega arith) (omega arith) (subst (λ (z : ℕ). HasValue (centre ⊕ x) false z 1) (sym (mul-one (8388608 + c))) centre-value) ∙ last c
-    where
-      last : (c : ℕ) → (149 + 0) * 8388608 + (8388608 + c) ≡ 1258291200 + c
-      last c = omega arith
