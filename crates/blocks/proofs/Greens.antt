@@ -1,72 +1,67 @@
--- Green: where the offsets with a margin added and taken away round alike, that is the exact offset; and the exact form's chroma back from its float.
-use mathlib.Core.Path.{_≡_, refl, sym, ap, _∙_, subst}
-use mathlib.Core.Bool.{Bool, true, false, not}
+-- Green: where the offsets with a margin added and taken away round alike, that is the exact offset.
+use mathlib.Core.Path.{_≡_, refl, sym, subst}
+use mathlib.Core.Bool.{true, false, not}
 use Prim.Native.Nat.{ℕ, _+_, _-_, _*_, _/_, _≤_}
-use native.Mathlib.Nat.{zero-lt-suc, mul-one}
 use native.Mathlib.Omega.{arith}
-use lib.IntN.{pos, negsuc}
+use lib.IntN.{negsuc}
 use lib.Dec.{T, lit<}
-use lib.Ieee.{Float, fin, binary32, round, isNan, toBits}
-use lib.Ieee.Back.{round-whole}
-use lib.Ieee.Exact.{HasValue}
-use Rattle.laws.specs.Floats.{_⊕_, _⊖_, _⊗_, over, under, Near}
-use Rattle.laws.proofs.Values.{value-no-nan}
-use Rattle.laws.proofs.Operators.{add-up, add-down}
+use lib.Ieee.{Float, fin, isNan}
+use Rattle.laws.specs.Floats.{_⊕_, _⊖_, _⊗_, Near}
 use Rattle.laws.proofs.Nearness.{mild-step, near-chain, value-near, add-near}
-use Rattle.laws.proofs.Grids.{grid-bits}
 use Rattle.convert.specs.Kernels.{centred, greenOffset}
 use Rattle.convert.proofs.Channels.{green-biased}
 use Rattle.blocks.specs.Floating.{Centred, OnGrid, middle, slant, margin, lessMargin, Margin, added, taken, greenBits, Sure}
 use Rattle.blocks.proofs.Nearby.{Counts, Bits, minus-bits}
-use Rattle.blocks.proofs.Tints.{centred-value, scaled, on-grid-from}
+use Rattle.blocks.proofs.Chromas.{scaled}
+use Rattle.blocks.proofs.Lumas.{on-grid-from}
 
--- the margin, in 18,784,000ths, which are 587,000 times 32
+-- what green takes from luma, 202008 / 587000 of Cb and 419198 / 587000 of Cr, in 32nds of a 587,000th
+abbrev unit : ℕ
+unit = 18784000
+
+abbrev parts : ℕ → ℕ → ℕ
+parts b r = 6464256 * b + 13414336 * r
+
+-- and the margin
 abbrev slack : ℕ
 slack = 587000
 
 module _ {x y : Float} {b r : ℕ} (h : Centred x b) (k : Centred y r) where
-  -- in 18,784,000ths, which are 587,000 times 32
-  slant-near : Near (slant x y) (6464256 * b + 13414336 * r) (6464256 * 32768 + 13414336 * 32768) 18784000 5
+  slant-near : Near (slant x y) (parts b r) (parts 32768 32768) unit 5
   slant-near =
       let l = h .most in
       let m = k .most in
       let u = fin false 5773649 (negsuc 23) in
       let v = fin false 11981219 (negsuc 23) in
-      add-near (u ⊗ x) (v ⊗ y) (6464256 * b) (6464256 * 32768) (13414336 * r) (13414336 * 32768) 18784000 2 2 5
-      (mild-step (6464256 * b + 13414336 * r) (6464256 * 32768 + 13414336 * 32768) 18784000 4 (record { some = lit< tt; top = omega arith; bottom = omega arith; few = omega arith }))
-      (near-chain (u ⊗ x) (5773649 * b) (5773649 * 32768) 16777216 (6464256 * b) (6464256 * 32768) 18784000 1 1 (lit< tt) (scaled u x 5773649 16777216 b (refl, refl) (lit< tt) (omega arith) h) (omega arith))
-      (near-chain (v ⊗ y) (11981219 * r) (11981219 * 32768) 16777216 (13414336 * r) (13414336 * 32768) 18784000 1 1 (lit< tt) (scaled v y 11981219 16777216 r (refl, refl) (lit< tt) (omega arith) k) (omega arith))
+      add-near (u ⊗ x) (v ⊗ y) (6464256 * b) (6464256 * 32768) (13414336 * r) (13414336 * 32768) unit 2 2 5
+      (mild-step (parts b r) (parts 32768 32768) unit 4 (record { some = lit< tt; top = omega arith; bottom = omega arith; few = omega arith }))
+      (near-chain (u ⊗ x) (5773649 * b) (5773649 * 32768) 16777216 (6464256 * b) (6464256 * 32768) unit 1 1 (lit< tt) (scaled u x 5773649 16777216 b (refl, refl) (lit< tt) (omega arith) h) (omega arith))
+      (near-chain (v ⊗ y) (11981219 * r) (11981219 * 32768) 16777216 (13414336 * r) (13414336 * 32768) unit 1 1 (lit< tt) (scaled v y 11981219 16777216 r (refl, refl) (lit< tt) (omega arith) k) (omega arith))
 
-  -- with p / 18,784,000 - n / 18,784,000 added
-  green-bits : (t : Float) (p n : ℕ) → Near t p n 18784000 0 → p ≤ slack → n ≤ slack → Bits (middle ⊖ (slant x y ⊕ t)) (6464256 * 32768 + 13414336 * 32768 + n) (6464256 * b + 13414336 * r + p) 18784000 6
+  -- with (p - n) / unit added
+  green-bits : (t : Float) (p n : ℕ) → Near t p n unit 0 → p ≤ slack → n ≤ slack → Bits (middle ⊖ (slant x y ⊕ t)) (parts 32768 32768 + n) (parts b r + p) unit 6
   green-bits t p n w f g =
       let l = h .most in
       let m = k .most in
-      minus-bits (6464256 * 32768 + 13414336 * 32768 + n) (6464256 * b + 13414336 * r + p) 18784000 6 (record { some = lit< tt; top = omega arith; bottom = omega arith }) (slant x y ⊕ t)
-      (add-near (slant x y) t (6464256 * b + 13414336 * r) (6464256 * 32768 + 13414336 * 32768) p n 18784000 5 0 6
-      (mild-step (6464256 * b + 13414336 * r + p) (6464256 * 32768 + 13414336 * 32768 + n) 18784000 5 (record { some = lit< tt; top = omega arith; bottom = omega arith; few = omega arith })) slant-near w)
+      minus-bits (parts 32768 32768 + n) (parts b r + p) unit 6 (record { some = lit< tt; top = omega arith; bottom = omega arith }) (slant x y ⊕ t)
+      (add-near (slant x y) t (parts b r) (parts 32768 32768) p n unit 5 0 6
+      (mild-step (parts b r + p) (parts 32768 32768 + n) unit 5 (record { some = lit< tt; top = omega arith; bottom = omega arith; few = omega arith })) slant-near w)
 
-  above : Bits (middle ⊖ (slant x y ⊕ margin)) (6464256 * 32768 + 13414336 * 32768 + 0) (6464256 * b + 13414336 * r + slack) 18784000 6
-  above = green-bits margin slack 0 (value-near margin false slack 18784000 (refl, refl)) (omega arith) (omega arith)
+  above : Bits (middle ⊖ (slant x y ⊕ margin)) (parts 32768 32768 + 0) (parts b r + slack) unit 6
+  above = green-bits margin slack 0 (value-near margin false slack unit (refl, refl)) (omega arith) (omega arith)
 
-  below : Bits (middle ⊖ (slant x y ⊕ lessMargin)) (6464256 * 32768 + 13414336 * 32768 + slack) (6464256 * b + 13414336 * r + 0) 18784000 6
-  below = green-bits lessMargin 0 slack (value-near lessMargin true slack 18784000 (refl, refl)) (omega arith) (omega arith)
+  below : Bits (middle ⊖ (slant x y ⊕ lessMargin)) (parts 32768 32768 + slack) (parts b r + 0) unit 6
+  below = green-bits lessMargin 0 slack (value-near lessMargin true slack unit (refl, refl)) (omega arith) (omega arith)
 
   pub green-sure : Sure x y → OnGrid (greenOffset (centred b) (centred r)) (greenBits x y margin)
   unfolding greenBits
   green-sure e =
       let l = h .most in
       let m = k .most in
-      let u = above .counts in
-      let v : Counts (greenBits x y margin) (6464256 * 32768 + 13414336 * 32768 + slack) (6464256 * b + 13414336 * r + 0) 18784000 6 =
-      subst (λ (z : ℕ). Counts z (6464256 * 32768 + 13414336 * 32768 + slack) (6464256 * b + 13414336 * r + 0) 18784000 6) (sym e) (below .counts) in
-      on-grid-from 137 _ _ (green-biased b r _ l m refl) (omega arith) (settled b r (greenBits x y margin) l m (u .hi) (v .lo))
+      on-grid-from 137 _ _ (green-biased b r _ l m refl) (omega arith) (settled b r (greenBits x y margin) l m (above .counts) (subst (λ (z : ℕ). Counts z (parts 32768 32768 + slack) (parts b r + 0) unit 6) (sym e) (below .counts)))
     where
-      settled : (b r q : ℕ) → b ≤ 65536 → r ≤ 65536
-          → 65536 * (q * 18784000) + 256 * (6464256 * b + 13414336 * r + slack) ≤ 65536 * (1329594368 * 18784000) + (32768 + 6) * 18784000 + 256 * (6464256 * 32768 + 13414336 * 32768 + 0)
-          → 65536 * (1329594368 * 18784000) + 256 * (6464256 * 32768 + 13414336 * 32768 + slack) ≤ 65536 * (q * 18784000) + (32768 + 6) * 18784000 + 256 * (6464256 * b + 13414336 * r + 0)
-          → q + 137 ≡ 1329594368 + (20509039104 - 101004 * b - 209599 * r) / 75136000
-      settled b r q l m hi lo = omega arith
+      settled : (b r q : ℕ) → b ≤ 65536 → r ≤ 65536 → Counts q (parts 32768 32768 + 0) (parts b r + slack) unit 6 → Counts q (parts 32768 32768 + slack) (parts b r + 0) unit 6 → q + 137 ≡ 1329594368 + (20509039104 - 101004 * b - 209599 * r) / 75136000
+      settled b r q l m u v = omega arith
 
 -- what the code asks of the sum: that it is a number, and that its bits are an i32's
 module _ {x y : Float} {b r : ℕ} (h : Centred x b) (k : Centred y r) where
@@ -78,31 +73,3 @@ module _ {x y : Float} {b r : ℕ} (h : Centred x b) (k : Centred y r) where
   unfolding greenBits
   green-most added = let u = above h k .counts .hi in omega arith
   green-most taken = let u = below h k .counts .hi in omega arith
-
--- ---- a chroma's float moved onto the grid of whole numbers
-
-abbrev pub centre : Float
-centre = fin false 257 (pos 15)
-
-module _ {x : Float} {c : ℕ} (h : Centred x c) where
-  centre-value : HasValue (centre ⊕ x) false (8388608 + c) 1
-  centre-value = let w = centred-value h in let l = h .most in go (w .s) (w .M) (w .is) (w .at)
-    where
-      go : (s : Bool) (M : ℕ) → HasValue x s M 1 → over s M + 32768 ≡ under s M + c → HasValue (centre ⊕ x) false (8388608 + c) 1
-      go false M v e =
-          let l = h .most in
-          let q : 8421376 + M ≡ 8388608 + c = omega arith in
-          subst (λ (z : Float). HasValue z false (8388608 + c) 1) (sym (add-up binary32 centre x 8421376 M 1 (zero-lt-suc 0) (refl, refl) v ∙ ap (λ (z : ℕ). round binary32 false z 1) q)) (round-whole binary32 false (8388608 + c) (omega arith))
-      go true M v e =
-          let l = h .most in
-          let q : 8421376 - M ≡ 8388608 + c = omega arith in
-          subst (λ (z : Float). HasValue z false (8388608 + c) 1) (sym (add-down binary32 centre x 8421376 M 1 (zero-lt-suc 0) (refl, refl) v (omega arith) ∙ ap (λ (z : ℕ). round binary32 false z 1) q)) (round-whole binary32 false (8388608 + c) (omega arith))
-
-  pub back-number : T (not (isNan (centre ⊕ x)))
-  back-number = value-no-nan (centre ⊕ x) false (8388608 + c) 1 centre-value
-
-  pub back-bits : toBits binary32 (centre ⊕ x) ≡ 1258291200 + c
-  back-bits = let l = h .most in grid-bits 0 (centre ⊕ x) (8388608 + c) (omega arith) (omega arith) (subst (λ (z : ℕ). HasValue (centre ⊕ x) false z 1) (sym (mul-one (8388608 + c))) centre-value) ∙ last c
-    where
-      last : (c : ℕ) → (149 + 0) * 8388608 + (8388608 + c) ≡ 1258291200 + c
-      last c = omega arith

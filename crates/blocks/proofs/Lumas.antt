@@ -1,13 +1,14 @@
--- Luma below the grid's bits, and an offset above them.
+-- Luma below the grid's bits, an offset above them, and their sum.
 use mathlib.Core.Path.{_≡_, sym, ap, subst, _∙_}
-use Prim.Native.Nat.{ℕ, _+_}
+use Prim.Native.Nat.{ℕ, _+_, _≤_}
 use native.Mathlib.Omega.{arith}
 use lib.IntN.{ℤ, pos, _+ℤ_, _-ℤ_}
 use mir.Syntax.{w32}
 use mir.Val.{toZ, ofZ}
 use mir.ValLaws.{toZ-ofZ}
 use Rattle.laws.specs.Differences.{Diff, limit}
-use Rattle.laws.proofs.Differences.{of-pos, move, plus, minus, unique, from-sum}
+use Rattle.laws.proofs.Differences.{of-pos, move, plus, minus, unique, as-sum, from-sum}
+use Rattle.convert.specs.Forms.{Biased}
 use Rattle.blocks.specs.Floating.{OnGrid, Lowered, Luma}
 use Rattle.blocks.proofs.Signed.{holds}
 
@@ -26,6 +27,12 @@ lowered-held h = record { most = h .most; is = lowered-back h ∙ h .is }
 
 pub luma-held : {z : ℤ} → Luma z → Luma (toZ w32 (ofZ w32 z))
 luma-held h = (h .0, lowered-held (h .1))
+
+-- an offset with another bias
+pub on-grid-from : {z : ℤ} (bias q r : ℕ) → Biased z bias q → bias ≤ 227 → r + bias ≡ 1329594368 + q → OnGrid z r
+on-grid-from {z} bias q r h l e =
+    let f = h .fits in
+    record { is = record { is = as-sum r 1329594368 (move r 1329594368 (from-sum z q bias (h .is)) (omega arith)); fits = omega arith }; most = omega arith }
 
 -- the bits of the two cancel
 pub sum-is : {y z : ℤ} {l r : ℕ} → Lowered y l → OnGrid z r → y +ℤ pos r ≡ pos l +ℤ z

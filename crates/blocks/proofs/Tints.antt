@@ -3,80 +3,23 @@ use mathlib.Core.Path.{_≡_, refl, sym, ap, _∙_, subst}
 use mathlib.Core.Bool.{Bool, true, false, not, _&&_}
 use mathlib.Core.Logic.{_⊎_, inl, inr}
 use Prim.Native.Nat.{ℕ, zero, suc, _+_, _-_, _*_, _/_, _%_, _≤_, _<_}
-use native.Mathlib.Nat.{zero-lt-suc, mul-pos, mul-le-mul-left, eq-or-lt-of-le, le-of-suc-le-suc, div-lt-iff-lt-mul}
+use native.Mathlib.Nat.{mul-le-mul-left, eq-or-lt-of-le, le-of-suc-le-suc, div-lt-iff-lt-mul}
 use native.Mathlib.Omega.{arith}
-use lib.IntN.{ℤ, pos, negsuc}
 use lib.Arith.{digits-div}
-use lib.Dec.{T, ltb, eqb, ltb→lt, nltb→le, eqb→eq, lit<}
-use lib.Ieee.{Float, fin, binary32, add, sub, mul, ofInt, isNan, toBits}
-use lib.Ieee.Back.{round-whole}
+use lib.Dec.{T, ltb, eqb, ltb→lt, eqb→eq, lit<}
+use lib.Ieee.{Float, binary32, add, sub, mul, ofInt, isNan, toBits}
 use lib.Ieee.Exact.{HasValue}
 use lib.Ieee.Fits.{and-l, and-r}
 use borrow.Author.Tests.{ltb-false}
-use Rattle.laws.specs.Floats.{f32, _⊕_, _⊖_, _⊗_, over, under, Close, Near}
-use Rattle.laws.proofs.Differences.{move, as-sum, from-sum}
-use Rattle.laws.proofs.Values.{whole-value}
-use Rattle.laws.proofs.Operators.{sub-up, sub-down, mul-by}
+use Rattle.laws.specs.Floats.{f32, _⊕_, _⊖_, _⊗_, Close, Near}
 use Rattle.laws.proofs.Nearness.{mild-step, near-chain, value-near, add-near}
 use Rattle.convert.specs.Kernels.{centred}
-use Rattle.convert.specs.Forms.{chromaOffset, Biased, Suits, raised}
+use Rattle.convert.specs.Forms.{chromaOffset, Suits, raised}
 use Rattle.convert.proofs.Channels.{red-suits, blue-suits, chroma-biased}
-use Rattle.blocks.specs.Floating.{Centred, OnGrid, Tint, forRed, forBlue, middle}
+use Rattle.blocks.specs.Floating.{Centred, OnGrid, Tint, red1402, blue1772, noTie, blueTie, forRed, forBlue, middle}
 use Rattle.blocks.proofs.Nearby.{Counts, Bits, plus-bits}
-
--- ---- an offset with another bias
-pub on-grid-from : {z : ℤ} (bias q r : ℕ) → Biased z bias q → bias ≤ 227 → r + bias ≡ 1329594368 + q → OnGrid z r
-on-grid-from {z} bias q r h l e =
-    let f = h .fits in
-    record { is = record { is = as-sum r 1329594368 (move r 1329594368 (from-sum z q bias (h .is)) (omega arith)); fits = omega arith }; most = omega arith }
-
--- ---- a chroma's float is a whole number: c - 32768
-
-pub record Value (x : Float) (c : ℕ) : Type 0 where
-  pub s : Bool
-  pub M : ℕ
-  pub is : HasValue x s M 1
-  pub at : over s M + 32768 ≡ under s M + c
-
-pub centred-value : {x : Float} {c : ℕ} → Centred x c → Value x c
-centred-value {x} {c} h = go (ltb c 32768) (ltb→lt c 32768) (nltb→le c 32768)
-  where
-    a : HasValue (f32 c) false c 1
-    a = let l = h .most in whole-value c (omega arith)
-
-    b : HasValue (f32 32768) false 32768 1
-    b = whole-value 32768 (omega arith)
-
-    go : (t : Bool) → (T t → c < 32768) → (T (not t) → 32768 ≤ c) → Value x c
-    go true f g =
-        let l = f tt in
-        record {
-          s = true;
-          M = 32768 - c;
-          is = subst (λ (z : Float). HasValue z true (32768 - c) 1) (sym (h .is ∙ sub-down binary32 (f32 c) (f32 32768) c 32768 1 (zero-lt-suc 0) a b l)) (round-whole binary32 true (32768 - c) (omega arith));
-          at = omega arith;
-        }
-    go false f g =
-        let l = g tt in
-        let m = h .most in
-        record {
-          s = false;
-          M = c - 32768;
-          is = subst (λ (z : Float). HasValue z false (c - 32768) 1) (sym (h .is ∙ sub-up binary32 (f32 c) (f32 32768) c 32768 1 (zero-lt-suc 0) a b l)) (round-whole binary32 false (c - 32768) (omega arith));
-          at = omega arith;
-        }
-
--- times F / G, at most 2
-pub scaled : (k x : Float) (F G c : ℕ) → HasValue k false F G → 0 < G → F ≤ 2 * G → Centred x c → Near (k ⊗ x) (F * c) (F * 32768) G 1
-scaled k x F G c v z l h =
-    let w = centred-value h in
-    let m : F * c ≤ F * 65536 = mul-le-mul-left F (h .most) in
-    subst (λ (y : Float). Near y (F * c) (F * 32768) G 1) (sym (mul-by binary32 k x (w .s) F G (w .M) 1 z (zero-lt-suc 0) v (w .is)))
-    (mild-step (F * c) (F * 32768) G 0 (record { some = z; top = omega arith; bottom = omega arith; few = omega arith }) (w .s) (F * w .M) (G * 1) (mul-pos z (zero-lt-suc 0)) (exact (w .s) (w .M) (w .at)))
-  where
-    exact : (s : Bool) (M : ℕ) → over s M + 32768 ≡ under s M + c → Close (over s (F * M)) (under s (F * M)) (G * 1) (F * c) (F * 32768) G 0
-    exact false M e = omega (arith, ap (λ (y : ℕ). y * F * G) e)
-    exact true M e = omega (arith, ap (λ (y : ℕ). y * F * G) e)
+use Rattle.blocks.proofs.Chromas.{scaled}
+use Rattle.blocks.proofs.Lumas.{on-grid-from}
 
 -- ---- every q below n passes a test
 every : ℕ → (ℕ → Bool) → Bool
@@ -194,14 +137,14 @@ module _ {k tie : Float} {F G m t s bias steps : ℕ} (n : Numbers k tie F G m t
       on-grid-from bias _ _ (chroma-biased (n .suits) c ((m * c + s) / 256000) (h .most) (ap (λ (y : ℕ). y / 256000) e)) (n .suits .bias-most) (let z = settled in let b = n .suits .bias-most in omega arith)
 
 -- ---- the two
-red-numbers : Numbers (fin false 2940207 (negsuc 20)) (fin true 0 (pos 0)) 2940207 2097152 1402 0 267264 180 360
+red-numbers : Numbers red1402 noTie 2940207 2097152 1402 0 267264 180 360
 unfolding every right judge edge at bits wanted ofInt add sub mul toBits
 red-numbers =
     record {
       value = (refl, refl);
       some = lit< tt;
       twice = omega arith;
-      tie-near = value-near (fin true 0 (pos 0)) true 0 128000 (refl, refl);
+      tie-near = value-near noTie true 0 128000 (refl, refl);
       close = λ c l. omega arith;
       low = omega arith;
       least = omega arith;
@@ -211,14 +154,14 @@ red-numbers =
       suits = red-suits;
     }
 
-blue-numbers : Numbers (fin false 14864613 (negsuc 22)) (fin false 3 (negsuc 9)) 14864613 8388608 1772 375 175104 227 455
+blue-numbers : Numbers blue1772 blueTie 14864613 8388608 1772 375 175104 227 455
 unfolding every right judge edge at bits wanted ofInt add sub mul toBits
 blue-numbers =
     record {
       value = (refl, refl);
       some = lit< tt;
       twice = omega arith;
-      tie-near = value-near (fin false 3 (negsuc 9)) false 375 128000 (refl, refl);
+      tie-near = value-near blueTie false 375 128000 (refl, refl);
       close = λ c l. omega arith;
       low = omega arith;
       least = omega arith;

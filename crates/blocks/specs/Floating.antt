@@ -16,10 +16,24 @@ pub record Centred (x : Float) (c : ℕ) : Type 0 where
 abbrev pub Chroma : Float → Type 0
 Chroma x = (c : ℕ) × Centred x c
 
--- 1.402 and 1.772 to the nearest float, and what is added to break ties upward: 3/1024 for blue; red has none, and -0 changes nothing
+-- 1.402 and 1.772 to the nearest float
+abbrev pub red1402 : Float
+red1402 = fin false 2940207 (negsuc 20)
+
+abbrev pub blue1772 : Float
+blue1772 = fin false 14864613 (negsuc 22)
+
+-- what is added to send halves up: 3/1024 for blue; red has none, and -0 changes nothing
+abbrev pub blueTie : Float
+blueTie = fin false 3 (negsuc 9)
+
+abbrev pub noTie : Float
+noTie = fin true 0 (pos 0)
+
+-- a colour's two, and its multiplier in thousandths
 pub data Tint : Float → Float → ℕ → Type 0 where
-  forRed : Tint (fin false 2940207 (negsuc 20)) (fin true 0 (pos 0)) 1402
-  forBlue : Tint (fin false 14864613 (negsuc 22)) (fin false 3 (negsuc 9)) 1772
+  forRed : Tint red1402 noTie 1402
+  forBlue : Tint blue1772 blueTie 1772
 
 abbrev pub Tinted : Float → Float → Type 0
 Tinted k tie = (m : ℕ) × Tint k tie m

@@ -1,25 +1,36 @@
 // Sixteen pixels of the exact kernel at maxval 255, a colour row at a time.
 ghost use mathlib.Core.Path.{_≡_};
 ghost use Prim.Native.Nat.{ℕ, _<_, _≤_};
-ghost use lib.IntN.{pos, _+ℤ_};
+ghost use lib.IntN.{pos};
 ghost use lib.ListN.{getD};
 ghost use lib.Ieee.{nan};
-ghost use Rattle.laws.specs.Differences.{limit};
 ghost use Rattle.convert.specs.Forms.{plusChroma};
-ghost use Rattle.blocks.specs.Floating.{Centred, Chroma, Tint, Tinted, Lowered, Luma, margin, greenBits, Sure};
+ghost use Rattle.blocks.specs.Floating.{Centred, Chroma, Tint, Tinted, Lowered, Luma, Sure};
 ghost use Rattle.blocks.specs.Blocks.{BlockOf, InLimits, Pixels, Greens};
 use super::limits::limit_sum;
 use crate::fast::Grid;
 use crate::fast::chroma_offset;
+use crate::fast::green_by;
 use crate::fast::green_doubt;
-use crate::fast::green_near;
-use crate::fast::green_offset;
 
 // A block of pixels.
 pub struct Block;
 
 impl Block {
     pub const LEN: usize = 16;
+}
+
+// What red and blue multiply chroma by, and what sends halves up: 3/1024 for blue. Red has none, and -0 changes nothing.
+struct Tints;
+
+impl Tints {
+    const RED: f32 = 1.402;
+
+    const BLUE: f32 = 1.772;
+
+    const NO_TIE: f32 = -0.0;
+
+    const BLUE_TIE: f32 = 0.002_929_687_5;
 }
 
 // Luma below the grid's bits.
@@ -54,8 +65,8 @@ fn chroma_row(k: f32, tie: f32, y: [i32; Block::LEN], x: [f32; Block::LEN]) -> [
     row
 }
 
-// 0 where every pixel's green is sure.
-fn unsure(cb: [f32; Block::LEN], cr: [f32; Block::LEN]) -> u32
+// 0 where green is sure at every pixel.
+fn doubt(cb: [f32; Block::LEN], cr: [f32; Block::LEN]) -> u32
     requires { ⌜ ((i : ℕ) → i < 16 → Chroma (getD cb i nan) × Chroma (getD cr i nan)) ⌝ }
     ensures { λ r. ⌜ (r ≡ 0 → (i : ℕ) → i < 16 → Sure (getD cb i nan) (getD cr i nan)) ⌝ }
 {
@@ -66,39 +77,17 @@ fn unsure(cb: [f32; Block::LEN], cr: [f32; Block::LEN]) -> u32
     d
 }
 
-// The green row where it is sure.
-fn sure_row(y: [i32; Block::LEN], cb: [f32; Block::LEN], cr: [f32; Block::LEN]) -> [u8; Block::LEN]
-    requires { ⌜ Pixels y cb cr ⌝ }
-    ensures { λ r. ⌜ ((i : ℕ) → i < 16 → getD r i 0 ≡ limit 255 (getD y i (pos 0) +ℤ pos (greenBits (getD cb i nan) (getD cr i nan) margin))) ⌝ }
-{
-    let mut row = [0u8; Block::LEN];
-    for i in 0..Block::LEN {
-        row[i] = limit_sum(y[i], green_near(cb[i], cr[i], Grid::MARGIN));
-    }
-    row
-}
-
-// The green row, for every chroma.
-fn exact_row(y: [i32; Block::LEN], cb: [f32; Block::LEN], cr: [f32; Block::LEN]) -> [u8; Block::LEN]
-    requires { ⌜ Pixels y cb cr ⌝ }
-    ensures { λ r. ⌜ Greens r y cb cr ⌝ }
-{
-    let mut row = [0u8; Block::LEN];
-    for i in 0..Block::LEN {
-        row[i] = limit_sum(y[i], green_offset(cb[i], cr[i]));
-    }
-    row
-}
-
-// The green row: the quick form, and the exact one where it might be wrong.
+// The green row.
 fn green_row(y: [i32; Block::LEN], cb: [f32; Block::LEN], cr: [f32; Block::LEN]) -> [u8; Block::LEN]
     requires { ⌜ Pixels y cb cr ⌝ }
     ensures { λ r. ⌜ Greens r y cb cr ⌝ }
 {
-    if unsure(cb, cr) == 0 {
-        return sure_row(y, cb, cr);
+    let d = doubt(cb, cr);
+    let mut row = [0u8; Block::LEN];
+    for i in 0..Block::LEN {
+        row[i] = limit_sum(y[i], green_by(cb[i], cr[i], d));
     }
-    exact_row(y, cb, cr)
+    row
 }
 
 // Inner: the red, the green and the blue row of sixteen pixels; chroma in 256ths, less its centre.
@@ -111,8 +100,8 @@ pub fn rgb_block(
     ensures { λ r. ⌜ BlockOf r y cb cr ⌝ }
 {
     let low = lowered(y);
-    let red = chroma_row(1.402, -0.0, low, cr);
+    let red = chroma_row(Tints::RED, Tints::NO_TIE, low, cr);
     let green = green_row(low, cb, cr);
-    let blue = chroma_row(1.772, 0.002_929_687_5, low, cb);
+    let blue = chroma_row(Tints::BLUE, Tints::BLUE_TIE, low, cb);
     [red, green, blue]
 }

@@ -30,8 +30,8 @@ pub fn chroma_offset(k: f32, tie: f32, x: f32) -> u32
     f32::to_bits(Grid::MIDDLE + (k * x + tie))
 }
 
-// Inner: green's offset with a margin, plus the grid's bits. Where the margin added and taken away give the same, that is the offset.
-pub fn green_near(cb: f32, cr: f32, margin: f32) -> u32
+// Green's offset with a margin, plus the grid's bits. Where the margin added and taken away give the same, that is the offset.
+fn green_near(cb: f32, cr: f32, margin: f32) -> u32
     requires { ⌜ Chroma cb × Chroma cr × Margin margin ⌝ }
     ensures { λ r. ⌜ (r ≡ greenBits cb cr margin) × (r ≤ 2147483647) ⌝ }
 {
@@ -46,7 +46,7 @@ pub fn green_doubt(cb: f32, cr: f32) -> u32
     green_near(cb, cr, Grid::MARGIN) ^ green_near(cb, cr, -Grid::MARGIN)
 }
 
-// Chroma in 256ths, from the bits of the whole number that it is above 2^23.
+// Chroma in 256ths. With 2^23 and the centre added it is a whole number whose bits count from those of 2^23.
 fn in_256ths(x: f32) -> u32
     requires { ⌜ Chroma x ⌝ }
     ensures { λ r. ⌜ (r ≤ 65536) × ((c : ℕ) → Centred x c → r ≡ c) ⌝ }
@@ -72,4 +72,15 @@ pub fn green_offset(cb: f32, cr: f32) -> u32
     ensures { λ q. ⌜ ((b r : ℕ) → Centred cb b → Centred cr r → OnGrid (greenOffset (centred b) (centred r)) q) ⌝ }
 {
     green_whole(in_256ths(cb), in_256ths(cr)) + (Grid::BITS - Bias::GREEN)
+}
+
+// Inner: the same, by the near form where there is no doubt. The doubt is a block's, so that one form serves it whole.
+pub fn green_by(cb: f32, cr: f32, doubt: u32) -> u32
+    requires { ⌜ Chroma cb × Chroma cr × (doubt ≡ 0 → Sure cb cr) ⌝ }
+    ensures { λ q. ⌜ ((b r : ℕ) → Centred cb b → Centred cr r → OnGrid (greenOffset (centred b) (centred r)) q) ⌝ }
+{
+    if doubt == 0 {
+        return green_near(cb, cr, Grid::MARGIN);
+    }
+    green_offset(cb, cr)
 }

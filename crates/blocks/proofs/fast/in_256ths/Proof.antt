@@ -1,6 +1,6 @@
 use native.Mathlib.Omega.{arith}
 use lib.Ieee.{ofBits}
-use Rattle.blocks.proofs.Greens.{back-number, back-bits}
+use Rattle.blocks.proofs.Chromas.{back-number, back-bits}
 use Rattle.blocks.proofs.fast.in_256ths.Statement.{statement}
 use Rattle.blocks.proofs.fast.in_256ths.Tie as tie
 

@@ -6,8 +6,8 @@ use lib.ListN.{getD}
 use lib.Ieee.{nan}
 use borrow.Author.Count.{below-none, below-more}
 use Rattle.blocks.specs.Floating.{Sure}
-use Rattle.blocks.proofs.block.unsure.Statement.{statement}
-use Rattle.blocks.proofs.block.unsure.Tie as tie
+use Rattle.blocks.proofs.block.doubt.Statement.{statement}
+use Rattle.blocks.proofs.block.doubt.Tie as tie
 
 or-zero : (a b : ℕ) → bitOr a b ≡ 0 → (a ≡ 0) × (b ≡ 0)
 or-zero a b e = let s = or-add-and a b in let l = and-le-l a b in let r = and-le-r a b in (omega arith, omega arith)
@@ -48,8 +48,8 @@ loop-again c = (omega arith, λ e. let z = or-zero _ _ e in below-more (λ (j : 
 returns : tie.Need-returns Inv-loop μ-loop
 returns c = λ e j h. c .before .loop .inv .1 e j (omega arith)
 
-pub unsure-spec : {M : Type 1} → statement M
-unsure-spec =
+pub doubt-spec : {M : Type 1} → statement M
+doubt-spec =
     tie.close
     (tie.spec
     Inv-loop
