@@ -118,3 +118,7 @@ pairs-fit r cw w h l k =
       fit = rw (mul-comm r ((w - r / 2) / r)) (div-mul-le-self (w - r / 2) r);
       cells = div-lt-iff-lt-mul z .1 (omega arith);
     }
+
+-- a row of 18 has eight pairs at ratio 2
+pub eight-pairs : (r w : ℕ) → 18 ≤ w → r ≡ 2 → 8 ≤ (w - r / 2) / r
+eight-pairs r w h e = rw e (omega arith)

@@ -3,6 +3,7 @@ ghost use mathlib.Core.Path.{_≡_};
 ghost use Prim.Native.Nat.{_+_, _*_, _≤_, _<_};
 ghost use lib.ListN.{length};
 ghost use Rattle.linear_rows.specs.Rows.{downRun, acrossRun, betweenRun};
+use super::twos::Lanes;
 use super::twos::across_twos;
 use taps::fraction;
 use taps::lerp;
@@ -33,7 +34,7 @@ pub fn down_row(
     }
 }
 
-// n outputs of a row over the cells at src, from output `from` on, each by its own tap: the edges, and all of ratio 1.
+// n outputs of a row over the cells at src, from output `from` on, each by its own tap: the edges, all of ratio 1, and narrow rows.
 fn across_taps(s: &mut [f32], src: usize, cw: usize, r: usize, dst: usize, from: usize, n: usize)
     requires { ⌜ (0 < r) × (r ≤ 4) × (0 < cw) × (from + n ≤ 8192) × (from + n ≤ cw * r) ⌝ }
     requires { ⌜ (dst + from + n ≤ src) × (src + cw ≤ length (now s)) ⌝ }
@@ -91,7 +92,7 @@ fn across_fours(s: &mut [f32], src: usize, n: usize, dst: usize)
 
 // The outputs between n pairs of neighbouring cells: a loop for each ratio, with no tap in it.
 fn across_between(s: &mut [f32], src: usize, r: usize, n: usize, dst: usize)
-    requires { ⌜ (1 < r) × (r ≤ 4) × (dst + r * n ≤ src) × (src + (n + 1) ≤ length (now s)) ⌝ }
+    requires { ⌜ (1 < r) × (r ≤ 4) × (dst + r * n ≤ src) × (src + (n + 1) ≤ length (now s)) × (r ≡ 2 → 8 ≤ n) ⌝ }
     ensures { λ _. ⌜ now (s .exit) ≡ betweenRun r src n dst (now (s .entry)) ⌝ }
 {
     if r == 2 {
@@ -116,7 +117,7 @@ pub fn across_row(s: &mut [f32], src: usize, cw: usize, r: usize, dst: usize, w:
         across_taps(s, src, cw, r, dst, 0, w);
         return;
     }
-    if w <= head {
+    if w < Lanes::ROW {
         across_taps(s, src, cw, r, dst, 0, w);
         return;
     }

@@ -8,32 +8,19 @@ ghost use Rattle.linear_rows.specs.Rows.{betweenAt, betweenRun};
 use taps::fraction;
 use taps::lerp;
 
-struct Lanes;
+// How many pairs and outputs go at a time.
+pub struct Lanes;
 
 impl Lanes {
     const PAIRS: usize = 8;
 
     const OUTPUTS: usize = 16;
+
+    // A row as wide as this has eight pairs at ratio 2.
+    pub const ROW: usize = 18;
 }
 
-// The outputs between n pairs, pair by pair.
-fn twos_plain(s: &mut [f32], src: usize, n: usize, dst: usize)
-    requires { ⌜ (dst + 2 * n ≤ src) × (src + (n + 1) ≤ length (now s)) ⌝ }
-    ensures { λ _. ⌜ now (s .exit) ≡ betweenRun 2 src n dst (now (s .entry)) ⌝ }
-{
-    let f0 = fraction(1, 4);
-    let f1 = fraction(3, 4);
-    let mut i = 0;
-    while i < n {
-        let a = s[src + i];
-        let b = s[src + (i + 1)];
-        s[dst + 2 * i] = lerp(a, b, f0);
-        s[dst + (2 * i + 1)] = lerp(a, b, f1);
-        i += 1;
-    }
-}
-
-// Of eight pairs, from pair i on.
+// The outputs between eight pairs of the cells at src, from pair i on.
 fn twos_block(s: &[f32], src: usize, i: usize) -> [f32; Lanes::OUTPUTS]
     requires { ⌜ src + (i + 9) ≤ length (now s) ⌝ }
     ensures { λ r. ⌜ ((k : ℕ) → k < 16 → getD r k nan ≡ betweenAt 2 (now (s .entry)) src (2 * i + k)) ⌝ }
@@ -69,8 +56,8 @@ fn block_start(done: usize, n: usize) -> usize
     if done < last { done } else { last }
 }
 
-// The outputs between n pairs, by blocks. The last block ends with them: it overlaps the one before, and stores what that stored again.
-fn twos_blocks(s: &mut [f32], src: usize, n: usize, dst: usize)
+// Inner: the outputs between n pairs of the cells at src, to s from dst on. The last block ends with them: it overlaps the one before, and stores what that stored again.
+pub fn across_twos(s: &mut [f32], src: usize, n: usize, dst: usize)
     requires { ⌜ (8 ≤ n) × (dst + 2 * n ≤ src) × (src + (n + 1) ≤ length (now s)) ⌝ }
     ensures { λ _. ⌜ now (s .exit) ≡ betweenRun 2 src n dst (now (s .entry)) ⌝ }
 {
@@ -81,16 +68,4 @@ fn twos_blocks(s: &mut [f32], src: usize, n: usize, dst: usize)
         put_block(s, dst + 2 * i, v);
         done = i + Lanes::PAIRS;
     }
-}
-
-// Inner: the outputs between n pairs of the cells at src, to s from dst on.
-pub fn across_twos(s: &mut [f32], src: usize, n: usize, dst: usize)
-    requires { ⌜ (dst + 2 * n ≤ src) × (src + (n + 1) ≤ length (now s)) ⌝ }
-    ensures { λ _. ⌜ now (s .exit) ≡ betweenRun 2 src n dst (now (s .entry)) ⌝ }
-{
-    if n < Lanes::PAIRS {
-        twos_plain(s, src, n, dst);
-        return;
-    }
-    twos_blocks(s, src, n, dst);
 }

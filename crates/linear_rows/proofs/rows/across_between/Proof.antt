@@ -10,7 +10,7 @@ four : (r : ℕ) → (r ≡ 2 → ⊥) → (r ≡ 3 → ⊥) → 1 < r → r ≤
 four r p q h k = omega arith
 
 across-twos-requires : tie.Need-across-twos-requires
-across-twos-requires c κs = let a = c .before .before .before .args in let e : a .r * a .n ≡ 2 * a .n = ap (λ (k : ℕ). k * a .n) (c .before .if1 .taken) in omega arith
+across-twos-requires c κs = let a = c .before .before .before .args in let e : a .r * a .n ≡ 2 * a .n = ap (λ (k : ℕ). k * a .n) (c .before .if1 .taken) in let h = c .before .before .before .pre .4 (c .before .if1 .taken) in omega arith
 
 same-length : tie.Need-same-length
 same-length c = search needs

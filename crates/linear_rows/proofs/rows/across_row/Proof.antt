@@ -3,13 +3,13 @@ use Prim.Native.Nat.{ℕ, _+_, _-_, _*_, _/_, _<_}
 use lib.Ieee.{Float}
 use mathlib.Core.List.{List}
 use Rattle.linear_rows.specs.Rows.{acrossRun}
-use Rattle.linear_rows.proofs.Across.{Pairs, pairs-fit, between-taps, across-parts}
+use Rattle.linear_rows.proofs.Across.{Pairs, pairs-fit, eight-pairs, between-taps, across-parts}
 use native.Mathlib.Omega.{arith}
 use borrow.Author.Needs.{needs}
 use Rattle.linear_rows.proofs.rows.across_row.Statement.{statement}
 use Rattle.linear_rows.proofs.rows.across_row.Tie as tie
 
--- where the head is not the whole row
+-- in a row that is not narrow
 facts : (c : tie.Else2) → Pairs (c .before .before .before .args .r) (c .before .before .before .args .cw) (c .before .before .before .args .w)
 facts c = let a = c .before .before .before .args in pairs-fit (a .r) (a .cw) (a .w) (some (a .r / 2) (c .before .if1 .left)) (omega arith) (omega arith)
   where
@@ -50,7 +50,11 @@ add-across-between : tie.Need-add-across-between
 add-across-between c = search needs
 
 across-between-requires : tie.Need-across-between-requires
-across-between-requires c κs = let f = facts (c .before .before .before .before .before) in omega arith
+across-between-requires c κs =
+    let e = c .before .before .before .before .before in
+    let a = e .before .before .before .args in
+    let f = facts e in
+    (omega arith, omega arith, omega arith, omega arith, eight-pairs (a .r) (a .w) (omega arith))
 
 add-across-taps : tie.Need-add-across-taps
 add-across-taps c = let f = facts (c .before .before .before .before .before .before .before .before .before) in omega arith

@@ -7,8 +7,8 @@ use Rattle.laws.proofs.Lists.{Run, run-none, run-at, run-end, run-after}
 use Rattle.linear_rows.specs.Rows.{betweenAt, betweenRun}
 use Rattle.linear_rows.proofs.Across.{between-same}
 use Rattle.linear_rows.proofs.Overlap.{run-over}
-use Rattle.linear_rows.proofs.twos.twos_blocks.Statement.{statement}
-use Rattle.linear_rows.proofs.twos.twos_blocks.Tie as tie
+use Rattle.linear_rows.proofs.twos.across_twos.Statement.{statement}
+use Rattle.linear_rows.proofs.twos.across_twos.Tie as tie
 
 abbrev Inv-loop : tie.InvT-loop
 Inv-loop s₀ src n dst done₀ s done = (done ≤ n) × Run s₀ s dst (2 * done) (betweenAt 2 s₀ src)
@@ -61,8 +61,8 @@ returns : tie.Need-returns Inv-loop μ-loop
 unfolding betweenRun
 returns c = run-end (c .before .loop .inv .1) _ (omega arith) (omega arith)
 
-pub twos-blocks-spec : {M : Type 1} → statement M
-twos-blocks-spec =
+pub across-twos-spec : {M : Type 1} → statement M
+across-twos-spec =
     tie.close
     (tie.spec
     Inv-loop
