@@ -3,14 +3,14 @@ use Prim.Native.Nat.{_-_, _≤_}
 use native.Mathlib.Omega.{arith}
 use lib.ListN.{length}
 use borrow.Author.Needs.{needs}
-use Rattle.plane_cases.proofs.replayed.Statement.{statement}
-use Rattle.plane_cases.proofs.replayed.Tie as tie
+use Rattle.picture_cases.proofs.replay_all.Statement.{statement}
+use Rattle.picture_cases.proofs.replay_all.Tie as tie
 
 abbrev Inv-loop : tie.InvT-loop
-Inv-loop luma plane₀ s₀ out₀ ran₀ differ₀ text₀ counter₀ plane s out ran differ text counter = (ran ≤ counter) × (differ ≤ counter) × (counter ≤ 65536) × (length text ≡ 92) × (length plane ≡ length plane₀) × (length s ≡ length s₀) × (length out ≡ length out₀)
+Inv-loop base₀ input₀ s₀ len₀ text₀ counter₀ base input s len text counter = (counter ≤ 65536) × (length text ≡ 17) × (len ≤ length input) × (length base ≡ length base₀) × (length input ≡ length input₀) × (length s ≡ length s₀)
 
 abbrev μ-loop : tie.MeasureT-loop
-μ-loop luma plane₀ s₀ out₀ ran₀ differ₀ text₀ counter₀ plane s out ran differ text counter = 65536 - counter
+μ-loop base₀ input₀ s₀ len₀ text₀ counter₀ base input s len text counter = 65536 - counter
 
 loop-holds : tie.Need-loop-holds Inv-loop μ-loop
 loop-holds c = omega arith
@@ -21,20 +21,11 @@ slice-aggregate-read-full c = omega arith
 read-full-requires : tie.Need-read-full-requires Inv-loop μ-loop
 read-full-requires c κs = search needs
 
-add-ran : tie.Need-add-ran Inv-loop μ-loop
-add-ran c = omega arith
+slice-aggregate-replayed : tie.Need-slice-aggregate-replayed Inv-loop μ-loop
+slice-aggregate-replayed c = omega arith
 
-slice-aggregate-right : tie.Need-slice-aggregate-right Inv-loop μ-loop
-slice-aggregate-right c = omega arith
-
-right-requires : tie.Need-right-requires Inv-loop μ-loop
-right-requires c κs = search needs
-
-more-requires : tie.Need-more-requires Inv-loop μ-loop
-more-requires c κs = search needs
-
-add-differ : tie.Need-add-differ Inv-loop μ-loop
-add-differ c = omega arith
+replayed-requires : tie.Need-replayed-requires Inv-loop μ-loop
+replayed-requires c κs = search needs
 
 add-counter : tie.Need-add-counter Inv-loop μ-loop
 add-counter c = omega arith
@@ -69,8 +60,8 @@ same-length-6 c = omega arith
 returns-2 : tie.Need-returns-2 Inv-loop μ-loop
 returns-2 c = search needs
 
-pub replayed-spec : {M : Type 1} → statement M
-replayed-spec =
+pub replay-all-spec : {M : Type 1} → statement M
+replay-all-spec =
     tie.close
     (tie.spec
     Inv-loop
@@ -78,11 +69,8 @@ replayed-spec =
     loop-holds
     slice-aggregate-read-full
     read-full-requires
-    add-ran
-    slice-aggregate-right
-    right-requires
-    more-requires
-    add-differ
+    slice-aggregate-replayed
+    replayed-requires
     add-counter
     loop-less
     loop-again
