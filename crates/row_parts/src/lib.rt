@@ -1,20 +1,17 @@
-// The row call: its checks, its steps over scratch, and the finished rows given out.
+// What a row call does beside its steps over scratch: its checks, the state that it leaves, and the finished rows given out.
 ghost use mathlib.Core.Path.{_≡_};
-ghost use Prim.Native.Nat.{_+_, _≤_, _<_};
+ghost use Prim.Native.Nat.{_+_, _*_, _≤_, _<_};
 ghost use lib.ListN.{length};
 ghost use Rattle.laws.specs.Lists.{put};
 ghost use Rattle.laws.specs.Refusals.{first};
 ghost use Rattle.image.specs.Tests.{Sound};
 ghost use Rattle.image.specs.Scratch.{cellAt};
-ghost use Rattle.guided.specs.Calls.{layoutOf, rowed, rowTests, RowGiven};
+ghost use Rattle.guided.specs.Calls.{layoutOf, rowed, rowTests};
 use guided::Reader;
-use guided::Reply;
-use guided_rows::row_steps;
 use laws::Answer;
-use lent::bad_planes;
 
-// The lowest refusal of `row` that applies. It writes nothing.
-fn row_answer(
+// Inner: the lowest refusal of `row` that applies. It writes nothing.
+pub fn row_answer(
     reader: Reader,
     y: &[u8],
     y_stride: usize,
@@ -33,7 +30,7 @@ fn row_answer(
         return Answer::Refused(1);
     }
     let layout = state::layout_of(reader);
-    if bad_planes(layout, y, y_stride, cb, cb_stride, cr, cr_stride) {
+    if lent::bad_planes(layout, y, y_stride, cb, cb_stride, cr, cr_stride) {
         return Answer::Refused(7);
     }
     if s.len() < lent::scratch_need(layout) {
@@ -51,8 +48,8 @@ fn row_answer(
     Answer::Accepted
 }
 
-// The state that row leaves.
-fn rowed_state(reader: Reader, y: usize) -> Reader
+// Inner: the state that row leaves.
+pub fn rowed_state(reader: Reader, y: usize) -> Reader
     requires { ⌜ Sound (layoutOf reader) ⌝ }
     requires { ⌜ y < reader .geometry .h ⌝ }
     ensures { λ r. ⌜ r ≡ rowed reader y ⌝ }
@@ -81,59 +78,11 @@ fn copy_row(s: &[f32], src: usize, n: usize, out: &mut [f32], at: usize)
     }
 }
 
-// Row `row` of Cb and of Cr to the front of the outputs: the guided rows of the picture that was opened, whatever was read before.
-// Refusals 1, 7, 9, 10, 11 and 12. Scratch afterwards is `rowScratch` of guided's specs/Calls.
-pub fn row(
-    reader: Reader,
-    y: &[u8],
-    y_stride: usize,
-    cb: &[u8],
-    cb_stride: usize,
-    cr: &[u8],
-    cr_stride: usize,
-    row: usize,
-    s: &mut [f32],
-    out_cb: &mut [f32],
-    out_cr: &mut [f32],
-) -> Reply
-    ensures { λ r. ⌜ RowGiven (record { y = row; planes = record { y = record { bytes = now (y .entry); stride = «y_stride» }; cb = record { bytes = now (cb .entry); stride = «cb_stride» }; cr = record { bytes = now (cr .entry); stride = «cr_stride» } }; reader = reader; scratch = now (s .entry); outCb = now («out_cb» .entry); outCr = now («out_cr» .entry) }) r (now (s .exit)) (now («out_cb» .exit)) (now («out_cr» .exit)) ⌝ }
+// Inner: the finished rows, Cb's at 0 and Cr's at w, to the front of the outputs.
+pub fn copy_rows(s: &[f32], w: usize, out_cb: &mut [f32], out_cr: &mut [f32])
+    requires { ⌜ (2 * w ≤ length (now s)) × (w ≤ length (now «out_cb»)) × (w ≤ length (now «out_cr»)) ⌝ }
+    ensures { λ _. ⌜ (now («out_cb» .exit) ≡ put (now («out_cb» .entry)) 0 w (cellAt (now (s .entry)) 0)) × (now («out_cr» .exit) ≡ put (now («out_cr» .entry)) 0 w (cellAt (now (s .entry)) w)) ⌝ }
 {
-    let answer = row_answer(
-        reader,
-        y,
-        y_stride,
-        cb,
-        cb_stride,
-        cr,
-        cr_stride,
-        row,
-        s,
-        out_cb,
-        out_cr,
-    );
-    if image::refused(answer) {
-        return Reply { answer, reader };
-    }
-    let layout = state::layout_of(reader);
-    let w = layout.w;
-    row_steps(
-        layout,
-        y,
-        y_stride,
-        cb,
-        cb_stride,
-        cr,
-        cr_stride,
-        true,
-        reader.h_next,
-        reader.f_next,
-        row,
-        s,
-    );
     copy_row(s, 0, w, out_cb, 0);
     copy_row(s, w, w, out_cr, 0);
-    Reply {
-        answer,
-        reader: rowed_state(reader, row),
-    }
 }

@@ -9,8 +9,8 @@ use Rattle.image.specs.Picture.{badPlanes}
 use Rattle.image.specs.Scratch.{scratchNeed}
 use Rattle.guided.specs.Calls.{RowCall, layoutOf, badState, rowTests}
 use Rattle.guided.proofs.Acceptance.{fine}
-use Rattle.reader.proofs.rows.row_answer.Statement.{statement}
-use Rattle.reader.proofs.rows.row_answer.Tie as tie
+use Rattle.row_parts.proofs.row_answer.Statement.{statement}
+use Rattle.row_parts.proofs.row_answer.Tie as tie
 
 -- the call, as the specification has it
 abbrev call : (c : tie.After-bad-state) → RowCall

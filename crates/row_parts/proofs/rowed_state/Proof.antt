@@ -1,8 +1,8 @@
 use Rattle.guided.specs.Calls.{layoutOf, rowed, readerAt}
 use mathlib.Core.Path.{refl}
 use borrow.Author.Needs.{needs}
-use Rattle.reader.proofs.rows.rowed_state.Statement.{statement}
-use Rattle.reader.proofs.rows.rowed_state.Tie as tie
+use Rattle.row_parts.proofs.rowed_state.Statement.{statement}
+use Rattle.row_parts.proofs.rowed_state.Tie as tie
 
 layout-of-requires : tie.Need-layout-of-requires
 layout-of-requires c κs = search needs

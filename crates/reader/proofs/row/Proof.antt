@@ -16,8 +16,8 @@ use Rattle.guided.proofs.Places.{front-fits}
 use Rattle.guided.proofs.FinishedRows.{length-row}
 use Rattle.guided.proofs.Acceptance.{fine, RowHanded, row-handed}
 use Rattle.places.specs.Lent.{Lent}
-use Rattle.reader.proofs.rows.row.Statement.{statement}
-use Rattle.reader.proofs.rows.row.Tie as tie
+use Rattle.reader.proofs.row.Statement.{statement}
+use Rattle.reader.proofs.row.Tie as tie
 
 -- the call, as the specification has it
 abbrev call : (c : tie.After-row-answer) → RowCall
@@ -98,26 +98,18 @@ row-steps-requires c κs =
     let h = handed (c .before .before) in
     rw (c .before .layout-of .ensures) (lent (c .before .before), (h .inside, h .room))
 
-copy-row-requires : tie.Need-copy-row-requires
-copy-row-requires c κs =
-    let r = c .before .before .before .before in
+copy-rows-requires : tie.Need-copy-rows-requires
+copy-rows-requires c κs =
+    let r = c .before .before .before .before .before in
     let h = handed (calm r) in
     let e = ap (λ (l : Layout). l .w) (r .before .before .layout-of .ensures) in
     let m = made-room r in
-    (omega arith, omega arith)
-
-copy-row-requires-2 : tie.Need-copy-row-requires-2
-copy-row-requires-2 c κs =
-    let r = c .before .before .before .before .before .before .before .before .before in
-    let h = handed (calm r) in
-    let e = ap (λ (l : Layout). l .w) (r .before .before .layout-of .ensures) in
-    let m = made-room r in
-    (omega arith, omega arith)
+    (omega arith, omega arith, omega arith)
 
 rowed-state-requires : tie.Need-rowed-state-requires
 unfolding layoutOf
 rowed-state-requires c κs =
-    let h = handed (calm (c .before .before .before .before .before .before .before .before .before .before .before .before)) in
+    let h = handed (calm (c .before .before .before .before .before .before .before .before .before .before)) in
     (fine _ (h .state) .sound, h .inside)
 
 same-length-4 : tie.Need-same-length-4
@@ -132,17 +124,16 @@ same-length-6 c = search needs
 returns-2 : tie.Need-returns-2
 unfolding rowOut finishedAt layoutOf
 returns-2 c =
-    let d = c .before .before .before in
-    let b = d .before .before .before .before .before in
-    let r = b .before .before .before .before .before in
+    let d = c .before .before .before .before .before in
+    let r = d .before .before .before .before .before .before in
     let e = ap (λ (l : Layout). l .w) (r .before .before .layout-of .ensures) in
     let a = passed (calm r) in
     record {
       answers = calm r .before .before .row-answer .ensures;
       leaves = rw a (c .rowed-state .ensures);
       scratches = rw a (made r);
-      cbs = rw a (b .copy-row .ensures ∙ rw (e, made r) refl);
-      crs = rw a (d .copy-row2 .ensures ∙ rw (e, made r) refl);
+      cbs = rw a (d .copy-rows .ensures .0 ∙ rw (e, made r) refl);
+      crs = rw a (d .copy-rows .ensures .1 ∙ rw (e, made r) refl);
     }
 
 pub row-spec : {M : Type 1} → statement M
@@ -157,8 +148,7 @@ row-spec =
     returns
     layout-of-requires
     row-steps-requires
-    copy-row-requires
-    copy-row-requires-2
+    copy-rows-requires
     rowed-state-requires
     same-length-4
     same-length-5

@@ -3,8 +3,8 @@ use mathlib.Core.Path.{refl}
 use Prim.Native.Nat.{_-_, _≤_}
 use Rattle.laws.proofs.Lists.{Run, run-none, run-more, run-end}
 use native.Mathlib.Omega.{arith}
-use Rattle.reader.proofs.rows.copy_row.Statement.{statement}
-use Rattle.reader.proofs.rows.copy_row.Tie as tie
+use Rattle.row_parts.proofs.copy_row.Statement.{statement}
+use Rattle.row_parts.proofs.copy_row.Tie as tie
 
 abbrev Inv-loop : tie.InvT-loop
 Inv-loop s src n out₀ at i₀ out i = (i ≤ n) × Run out₀ out at i (cellAt s src)
