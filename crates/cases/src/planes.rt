@@ -1,4 +1,5 @@
-// What calls are handed: planes grown from a seed, and buffers marked, so that whatever is written shows.
+// What calls are handed: planes grown from a seed.
+ghost use Prim.Native.Nat.{_<_};
 
 // The next state of a linear congruential generator.
 fn next(state: u32) -> u32 {
@@ -30,42 +31,20 @@ pub fn grow(plane: &mut [u8], seed: usize, shape: usize) {
     }
 }
 
-// Inner: every byte marked with a value.
-pub fn mark_bytes(out: &mut [u8], value: u8) {
-    let mut i = 0;
-    while i < out.len() {
-        out[i] = value;
-        i += 1;
-    }
+// Inner: a plane of n bytes, with room for as many as a word can say.
+pub fn grown(n: usize, seed: usize, shape: usize) -> [u8; 65_536]
+    requires { ⌜ n < 65536 ⌝ }
+{
+    let mut plane = io::large_buffer();
+    grow(&mut plane[..n], seed, shape);
+    plane
 }
 
-// Inner: every value marked.
-pub fn mark_values(out: &mut [u16], value: u16) {
-    let mut i = 0;
-    while i < out.len() {
-        out[i] = value;
-        i += 1;
-    }
-}
-
-// Inner: every float marked.
-pub fn mark_floats(out: &mut [f32], value: f32) {
-    let mut i = 0;
-    while i < out.len() {
-        out[i] = value;
-        i += 1;
-    }
-}
-
-// Inner: whether a float at or past a place no longer holds the number it was marked with.
-pub fn touched(s: &[f32], from: usize, value: f32) -> bool {
-    let mut touched = false;
-    let mut i = from;
-    while i < s.len() {
-        if s[i] != value {
-            touched = true;
-        }
-        i += 1;
-    }
-    touched
+// Inner: plane k of a line of three: Y, Cb and Cr.
+pub fn plane(text: &[u8], k: usize) -> [u8; 65_536]
+    requires { ⌜ k < 3 ⌝ }
+{
+    let n = crate::word(text, 12 + k);
+    let seed = crate::word(text, 15) + k;
+    grown(n, seed, crate::word(text, 16 + k))
 }

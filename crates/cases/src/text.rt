@@ -11,15 +11,6 @@ pub fn byte(text: &[u8], at: usize) -> u8 {
     0
 }
 
-// Inner: whether a text ends as a line does.
-pub fn is_line(text: &[u8]) -> bool {
-    let n = text.len();
-    if n == 0 {
-        return false;
-    }
-    text[n - 1] == b'\n'
-}
-
 // A hex digit; 0 for any other byte, whose line then has a wrong number in it.
 fn digit(b: u8) -> usize
     ensures { λ r. ⌜ r < 16 ⌝ }

@@ -1,16 +1,16 @@
 use mathlib.Core.Path.{_≡_}
 use Prim.Native.Nat.{_-_, _≤_}
 use native.Mathlib.Omega.{arith}
-use borrow.Author.Needs.{needs}
 use lib.ListN.{length}
+use borrow.Author.Needs.{needs}
 use Rattle.rounding_cases.proofs.main.Statement.{statement}
 use Rattle.rounding_cases.proofs.main.Tie as tie
 
 abbrev Inv-loop : tie.InvT-loop
-Inv-loop count₀ text₀ t3 t4 counter₀ count text counter = (counter ≤ 65536) × (length text ≡ 29)
+Inv-loop text₀ counter₀ text counter = (counter ≤ 65536) × (length text ≡ 20)
 
 abbrev μ-loop : tie.MeasureT-loop
-μ-loop count₀ text₀ t3 t4 counter₀ count text counter = 65536 - counter
+μ-loop text₀ counter₀ text counter = 65536 - counter
 
 loop-holds : tie.Need-loop-holds Inv-loop μ-loop
 loop-holds c = omega arith
@@ -21,11 +21,14 @@ slice-aggregate-read-full c = omega arith
 read-full-requires : tie.Need-read-full-requires Inv-loop μ-loop
 read-full-requires c κs = search needs
 
-slice-aggregate-counted : tie.Need-slice-aggregate-counted Inv-loop μ-loop
-slice-aggregate-counted c = omega arith
+slice-aggregate-answer : tie.Need-slice-aggregate-answer Inv-loop μ-loop
+slice-aggregate-answer c = omega arith
 
-counted-requires : tie.Need-counted-requires Inv-loop μ-loop
-counted-requires c κs = search needs
+answer-requires : tie.Need-answer-requires Inv-loop μ-loop
+answer-requires c κs = search needs
+
+write-line-requires : tie.Need-write-line-requires Inv-loop μ-loop
+write-line-requires c κs = search needs
 
 add-counter : tie.Need-add-counter Inv-loop μ-loop
 add-counter c = omega arith
@@ -36,26 +39,11 @@ loop-less c = omega arith
 loop-again : tie.Need-loop-again Inv-loop μ-loop
 loop-again c = omega arith
 
-print-decimal-requires : tie.Need-print-decimal-requires Inv-loop μ-loop
-print-decimal-requires c κs = search needs
-
-slice-aggregate-write-all : tie.Need-slice-aggregate-write-all Inv-loop μ-loop
-slice-aggregate-write-all c = omega arith
-
-write-all-requires : tie.Need-write-all-requires Inv-loop μ-loop
-write-all-requires c κs = search needs
-
-print-decimal-requires-2 : tie.Need-print-decimal-requires-2 Inv-loop μ-loop
-print-decimal-requires-2 c κs = search needs
-
-slice-aggregate-write-all-2 : tie.Need-slice-aggregate-write-all-2 Inv-loop μ-loop
-slice-aggregate-write-all-2 c = omega arith
-
-write-all-requires-2 : tie.Need-write-all-requires-2 Inv-loop μ-loop
-write-all-requires-2 c κs = search needs
-
 returns : tie.Need-returns Inv-loop μ-loop
 returns c = search needs
+
+returns-2 : tie.Need-returns-2 Inv-loop μ-loop
+returns-2 c = search needs
 
 pub main-spec : {M : Type 1} → statement M
 main-spec =
@@ -66,15 +54,11 @@ main-spec =
     loop-holds
     slice-aggregate-read-full
     read-full-requires
-    slice-aggregate-counted
-    counted-requires
+    slice-aggregate-answer
+    answer-requires
+    write-line-requires
     add-counter
     loop-less
     loop-again
-    print-decimal-requires
-    slice-aggregate-write-all
-    write-all-requires
-    print-decimal-requires-2
-    slice-aggregate-write-all-2
-    write-all-requires-2
-    returns)
+    returns
+    returns-2)

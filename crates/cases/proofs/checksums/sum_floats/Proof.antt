@@ -6,10 +6,10 @@ use borrow.Author.Needs.{needs}
 use Rattle.cases.proofs.checksums.sum_floats.Tie as tie
 
 abbrev Inv-loop : tie.InvT-loop
-Inv-loop sum out sum₀ i₀ sum' i = i ≤ length out
+Inv-loop sum out from sum₀ i₀ sum' i = 0 ≤ i
 
 abbrev μ-loop : tie.MeasureT-loop
-μ-loop sum out sum₀ i₀ sum' i = length out - i
+μ-loop sum out from sum₀ i₀ sum' i = length out - i
 
 loop-holds : tie.Need-loop-holds Inv-loop μ-loop
 loop-holds c = omega arith
