@@ -1,6 +1,6 @@
 // Numbers limited to one byte, in a form for many at a time.
 ghost use mathlib.Core.Path.{_≡_};
-ghost use Prim.Native.Nat.{_-_, _≤_, min};
+ghost use Prim.Native.Nat.{_≤_};
 ghost use lib.IntN.{pos, _+ℤ_};
 ghost use Rattle.laws.specs.Differences.{limit};
 ghost use Rattle.blocks.specs.Floating.{Luma};
@@ -16,14 +16,6 @@ fn limit_byte(z: i32) -> u8
         return 0;
     }
     z as u8
-}
-
-// Inner: v less its bias, limited to 0..=255.
-pub fn limit_pack(v: u32, bias: u32) -> u8
-    requires { ⌜ (v ≤ 2147483647) × (bias ≤ 2147483647) ⌝ }
-    ensures { λ r. ⌜ r ≡ min (v - bias) 255 ⌝ }
-{
-    limit_byte(v as i32 - bias as i32)
 }
 
 // Inner: luma below the grid's bits plus an offset above them, limited to 0..=255. No constant stands beside the limits: it would be moved into them, and they would not become packs.
