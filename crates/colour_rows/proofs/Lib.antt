@@ -1,4 +1,4 @@
 -- Laws of rows of colour.
 pub mod Stored
-pub mod Gathered
+pub mod Samples
 pub mod Colouring

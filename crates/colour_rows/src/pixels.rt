@@ -1,7 +1,7 @@
 // A row pixel by pixel, by the plain forms: what has no block, and rows narrower than one.
 ghost use mathlib.Core.Path.{_≡_};
 ghost use mathlib.Core.Logic.{_≢_};
-ghost use Prim.Native.Nat.{_+_, _*_, _≤_};
+ghost use Prim.Native.Nat.{ℕ, _+_, _*_, _≤_};
 ghost use lib.ListN.{length};
 ghost use Rattle.laws.specs.Floats.{f32, _⊗_};
 ghost use Rattle.fround.specs.Rounding.{Rounded};
@@ -40,9 +40,9 @@ fn scaled_pixel(y: u32, cb: f32, cr: f32, maxval: u32) -> Rgb
 }
 
 // A pixel by the fixed kernel: chroma goes to whole numbers first.
-fn fixed_pixel(y: u32, cb: f32, cr: f32, maxval: u32) -> Rgb
+fn fixed_pixel(y: u32, cb: f32, cr: f32) -> Rgb
     requires { ⌜ y ≤ 65535 ⌝ }
-    ensures { λ p. ⌜ colourOf p ≡ colourBy FixedPoint16 maxval y cb cr ⌝ }
+    ensures { λ p. ⌜ ((d : ℕ) → colourOf p ≡ colourBy FixedPoint16 d y cb cr) ⌝ }
 {
     convert::ycbcr_to_rgb8_fixed(y, whole_at(cb) as u32, whole_at(cr) as u32)
 }
@@ -59,7 +59,7 @@ fn plain_pixel(kernel: YcbcrKernel, y: u32, cb: f32, cr: f32, maxval: u32) -> Rg
             }
             scaled_pixel(y, cb, cr, maxval)
         }
-        YcbcrKernel::FixedPoint16 => fixed_pixel(y, cb, cr, maxval),
+        YcbcrKernel::FixedPoint16 => fixed_pixel(y, cb, cr),
     }
 }
 

@@ -5,7 +5,7 @@ use native.Mathlib.Omega.{arith}
 use lib.ListN.{length}
 use Rattle.image.specs.Samples.{Plane}
 use Rattle.image.proofs.Planes.{short-holds, row-inside}
-use Rattle.colour_rows.proofs.Gathered.{one-byte, two-bytes}
+use Rattle.colour_rows.proofs.Samples.{one-byte, two-bytes}
 use Rattle.colour_rows.proofs.gather.luma16.Statement.{statement}
 use Rattle.colour_rows.proofs.gather.luma16.Tie as tie
 

@@ -20,7 +20,7 @@ ycbcr-to-rgb8-fixed-requires : tie.Need-ycbcr-to-rgb8-fixed-requires
 ycbcr-to-rgb8-fixed-requires c κs = search needs
 
 returns : tie.Need-returns
-returns c = c .ycbcr-to-rgb8-fixed .ensures ∙ fixed-by _ _ _ _ (c .before .before .whole-at .ensures) (c .before .whole-at2 .ensures)
+returns c = λ d. c .ycbcr-to-rgb8-fixed .ensures ∙ fixed-by _ _ _ d (c .before .before .whole-at .ensures) (c .before .whole-at2 .ensures)
 
 pub fixed-pixel-spec : {M : Type 1} → statement M
 fixed-pixel-spec =

@@ -24,7 +24,7 @@ returns-2 : tie.Need-returns-2
 returns-2 c = rw (c .before .before .enum-told .given .1) (c .scaled-pixel .ensures)
 
 returns-3 : tie.Need-returns-3
-returns-3 c = rw (c .before .enum-told2 .given .1) (c .fixed-pixel .ensures)
+returns-3 c = rw (c .before .enum-told2 .given .1) (c .fixed-pixel .ensures _)
 
 pub plain-pixel-spec : {M : Type 1} → statement M
 plain-pixel-spec =
