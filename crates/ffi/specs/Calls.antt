@@ -13,8 +13,8 @@ use Rattle.convert.specs.declared.Pixel.{Pixel}
 use Rattle.convert.specs.declared.Pixel.the-variants as P
 use Rattle.colour_rows.specs.declared.YcbcrKernel.{YcbcrKernel}
 use Rattle.colour_rows.specs.declared.YcbcrKernel.the-variants.{Exact, FixedPoint16}
-use Rattle.fill.specs.declared.ChromaUpsampling.{ChromaUpsampling}
-use Rattle.fill.specs.declared.ChromaUpsampling.the-variants.{Linear, LumaGuided}
+use Rattle.fill_answer.specs.declared.ChromaUpsampling.{ChromaUpsampling}
+use Rattle.fill_answer.specs.declared.ChromaUpsampling.the-variants.{Linear, LumaGuided}
 use Rattle.picture.specs.declared.Outcome.{Outcome}
 use Rattle.picture.specs.declared.Outcome.the-variants.{Written, Refused}
 use Rattle.forms.specs.declared.forms.ChromaStrides.{ChromaStrides}
