@@ -4,8 +4,8 @@ use libc::STDOUT_FILENO;
 
 mod checksums;
 mod floats;
+mod lines;
 mod planes;
-mod text;
 
 pub use checksums::added;
 pub use checksums::sum_bytes;
@@ -13,16 +13,16 @@ pub use checksums::sum_floats;
 pub use checksums::sum_values;
 pub use floats::bits;
 pub use floats::float;
+pub use lines::layout;
+pub use lines::scratch_part;
 pub use planes::grow;
 pub use planes::grown;
 pub use planes::plane;
-pub use text::byte;
-pub use text::eight;
-pub use text::layout;
-pub use text::long;
-pub use text::scratch_part;
-pub use text::size;
-pub use text::word;
+pub use words::byte;
+pub use words::eight;
+pub use words::long;
+pub use words::size;
+pub use words::word;
 
 // Inner: an answer as a line says it: 0, or the refusal's number.
 pub fn number(answer: Answer) -> usize {

@@ -44,7 +44,7 @@ pub fn grown(n: usize, seed: usize, shape: usize) -> [u8; 65_536]
 pub fn plane(text: &[u8], k: usize) -> [u8; 65_536]
     requires { ⌜ k < 3 ⌝ }
 {
-    let n = crate::word(text, 12 + k);
-    let seed = crate::word(text, 15) + k;
-    grown(n, seed, crate::word(text, 16 + k))
+    let n = words::word(text, 12 + k);
+    let seed = words::word(text, 15) + k;
+    grown(n, seed, words::word(text, 16 + k))
 }

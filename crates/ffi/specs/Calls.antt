@@ -1,11 +1,10 @@
 -- What the calls for C promise: the Rattle calls' own records, of the values that C's stand for. Definitions only.
 use mathlib.Core.Path.{_≡_}
-use mathlib.Core.Bool.{Bool, true, false, _||_, cond}
+use mathlib.Core.Bool.{Bool, true, false, _||_}
 use mathlib.Core.List.{List}
 use Prim.Native.Nat.{ℕ}
 use lib.Dec.{eqb, ltb}
 use Rattle.laws.specs.declared.Answer.{Answer}
-use Rattle.laws.specs.Refusals.{accepted}
 use Rattle.image.specs.Samples.{Plane}
 use Rattle.image.specs.Picture.{Planes}
 use Rattle.guided.specs.declared.state.Reply.{Reply}
@@ -13,8 +12,8 @@ use Rattle.convert.specs.declared.Pixel.{Pixel}
 use Rattle.convert.specs.declared.Pixel.the-variants as P
 use Rattle.colour_rows.specs.declared.YcbcrKernel.{YcbcrKernel}
 use Rattle.colour_rows.specs.declared.YcbcrKernel.the-variants.{Exact, FixedPoint16}
-use Rattle.fill.specs.declared.ChromaUpsampling.{ChromaUpsampling}
-use Rattle.fill.specs.declared.ChromaUpsampling.the-variants.{Linear, LumaGuided}
+use Rattle.fill_answer.specs.declared.ChromaUpsampling.{ChromaUpsampling}
+use Rattle.fill_answer.specs.declared.ChromaUpsampling.the-variants.{Linear, LumaGuided}
 use Rattle.picture.specs.declared.Outcome.{Outcome}
 use Rattle.picture.specs.declared.Outcome.the-variants.{Written, Refused}
 use Rattle.forms.specs.declared.forms.ChromaStrides.{ChromaStrides}
@@ -22,7 +21,8 @@ use Rattle.forms.specs.declared.forms.ChromaReader.{ChromaReader}
 use Rattle.forms.specs.declared.forms.ChromaReply.{ChromaReply}
 use Rattle.forms.specs.declared.forms.ChromaPixel.{ChromaPixel}
 use Rattle.forms.specs.declared.forms.ChromaWritten.{ChromaWritten}
-use Rattle.forms.specs.Forms.{numberOf, chromaReader, strangePhases}
+use Rattle.forms.specs.Forms.{numberOf, strangePhases}
+use Rattle.replies.specs.Replies.{replyTo}
 
 -- ---- numbers for answers
 
@@ -33,10 +33,6 @@ pub record Answered (Given : Answer → Type 0) (r : ℕ) : Type 0 where
   pub number : r ≡ numberOf answer
 
 -- ---- the reader
-
--- a reply in C's form: the number of its answer, and its state; a refused call hands back what it was handed
-unfoldable pub replyTo : ChromaReader → Reply → ChromaReply
-replyTo handed p = record { refusal = numberOf (p .answer); reader = cond (accepted (p .answer)) (chromaReader (p .reader)) handed }
 
 -- a reply that stands for the Rattle call's, of which `Given` holds
 pub record Replied (handed : ChromaReader) (Given : Reply → Type 0) (r : ChromaReply) : Type 0 where

@@ -2,36 +2,15 @@
 ghost use mathlib.Core.Path.{_≡_};
 ghost use Rattle.guided.specs.Calls.{OpenGiven, SeekGiven, RowGiven};
 ghost use Rattle.forms.specs.Forms.{asLayout, asReader};
-ghost use Rattle.ffi.specs.Calls.{replyTo, Replied, Checked, lentPlanes};
+ghost use Rattle.ffi.specs.Calls.{Replied, Checked, lentPlanes};
 use forms::ChromaLayout;
 use forms::ChromaReader;
 use forms::ChromaReply;
 use forms::ChromaStrides;
-use forms::from_reader;
-use forms::number_of;
 use forms::strange_phases;
 use forms::to_layout;
 use forms::to_reader;
-use guided::Reply;
-
-// A reply in C's form; `handed` comes back, bit for bit, where the call was refused.
-fn reply_to(handed: ChromaReader, reply: Reply) -> ChromaReply
-    ensures { λ r. ⌜ r ≡ replyTo handed reply ⌝ }
-{
-    let answer = reply.answer;
-    let refusal = number_of(answer);
-    if image::refused(answer) {
-        return ChromaReply {
-            refusal,
-            reader: handed,
-        };
-    }
-    let reader = reply.reader;
-    ChromaReply {
-        refusal,
-        reader: from_reader(reader),
-    }
-}
+use replies::reply_to;
 
 // `open`: a picture's reader at row 0. The state that it is handed may hold anything.
 #[no_mangle]

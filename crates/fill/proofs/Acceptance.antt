@@ -13,18 +13,9 @@ use Rattle.image.specs.Tests.{outsideOf, layoutTests}
 use Rattle.image.specs.Picture.{shortPlane, badPlanes}
 use Rattle.image.proofs.Layouts.{neither, sound}
 use Rattle.image.specs.Scratch.{scratchNeed}
-use Rattle.fill.specs.Fill.{FillCall, isFixed, fillTests}
+use Rattle.fill_answer.specs.Tests.{FillCall, isFixed, fillTests}
+use Rattle.fill_answer.proofs.Later.{sized, laterTests}
 use Rattle.fill.specs.Steps.{FillLent}
-
--- a pixel size that passes
-pub sized : (size : ℕ) → outsideOf 3 4 size ≡ false → (3 ≤ size) × (size ≤ 4)
-sized size e = let p = neither (ltb size 3) (ltb 4 size) e in (ltb-false size 3 (p .0), ltb-false 4 size (p .1))
-
--- the tests after the layout's
-abbrev pub laterTests : FillCall → List Test
-laterTests c =
-    let l = c .layout in
-    (badPlanes l (c .planes), 7) ∷ (outsideOf 3 4 (c .size), 8) ∷ (ltb (length (c .scratch)) (scratchNeed l), 9) ∷ (ltb (length (c .out)) (l .w * l .h * c .size), 10) ∷ []
 
 pub ready : (c : FillCall) → first (fillTests c) ≡ Accepted → FillLent (c .layout) (c .planes) (c .size) (length (c .scratch)) (length (c .out))
 unfolding fillTests badPlanes

@@ -16,7 +16,8 @@ use Rattle.image.specs.Picture.{pictureOf}
 use Rattle.convert.specs.Kernels.{Colour}
 use Rattle.blocks.specs.Stores.{channel}
 use Rattle.blocks.proofs.Puts.{length-pixels, pixels-other, before, after, pixels-channel}
-use Rattle.fill.specs.Fill.{FillCall, FillGiven, fillColour, pixelRows}
+use Rattle.fill_answer.specs.Tests.{FillCall}
+use Rattle.fill.specs.Fill.{FillGiven, fillColour, pixelRows}
 use Rattle.fill.specs.Steps.{FillLent}
 use Rattle.fill.proofs.Acceptance.{ready}
 

@@ -20,7 +20,7 @@ use Rattle.blocks.specs.Stores.{pixels}
 use Rattle.blocks.proofs.Puts.{length-pixels, pixels-same}
 use Rattle.colour_rows.specs.declared.YcbcrKernel.{YcbcrKernel}
 use Rattle.colour_rows.specs.Colours.{rowColour, colourRow}
-use Rattle.fill.specs.declared.ChromaUpsampling.{ChromaUpsampling}
+use Rattle.fill_answer.specs.declared.ChromaUpsampling.{ChromaUpsampling}
 use Rattle.fill.specs.Fill.{fillColour, pixelRows}
 use Rattle.fill.specs.Steps.{fillStep, FillLent}
 use Rattle.fill.proofs.Chroma.{Scratched, chroma-is}

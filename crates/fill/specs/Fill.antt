@@ -1,48 +1,23 @@
--- 'fill to RGB (linear or guided)' of document 01: the reasons for turning the call down, and what it gives. Definitions only.
+-- 'fill to RGB (linear or guided)' of document 01: what it gives. Why it turns a call down stands in fill_answer/specs/Tests. Definitions only.
 use mathlib.Core.Path.{_≡_}
-use mathlib.Core.Bool.{Bool, true, false, cond}
-use mathlib.Core.List.{List, [], _∷_, _++_}
+use mathlib.Core.Bool.{cond}
+use mathlib.Core.List.{List, [], _∷_}
 use Prim.Native.Nat.{ℕ, zero, suc, _+_, _*_}
-use lib.Dec.{ltb}
-use lib.ListN.{length}
 use lib.Ieee.{Float}
-use Rattle.laws.specs.Refusals.{Test, first, accepted}
+use Rattle.laws.specs.Refusals.{first, accepted}
 use Rattle.laws.specs.declared.Answer.{Answer}
 use Rattle.image.specs.declared.layout.Layout.{Layout}
-use Rattle.image.specs.Tests.{outsideOf, layoutTests}
-use Rattle.image.specs.Picture.{Chroma, Cb, Cr, Picture, Planes, pictureOf, badPlanes}
+use Rattle.image.specs.Picture.{Chroma, Cb, Cr, Picture, Planes, pictureOf}
 use Rattle.resample.specs.Linear.{linearSample, linearRow}
-use Rattle.image.specs.Scratch.{scratchNeed}
 use Rattle.guidance.specs.Guided.{guidedSample}
 use Rattle.guided_rows.specs.Rows.{guidedRows}
 use Rattle.convert.specs.Kernels.{Colour}
 use Rattle.blocks.specs.Stores.{pixels}
 use Rattle.colour_rows.specs.declared.YcbcrKernel.{YcbcrKernel}
-use Rattle.colour_rows.specs.declared.YcbcrKernel.the-variants.{Exact, FixedPoint16}
 use Rattle.colour_rows.specs.Colours.{colourBy}
-use Rattle.fill.specs.declared.ChromaUpsampling.{ChromaUpsampling}
-use Rattle.fill.specs.declared.ChromaUpsampling.the-variants.{Linear, LumaGuided}
-
--- what a fill is handed
-pub record FillCall : Type 0 where
-  pub layout : Layout
-  pub planes : Planes
-  pub upsampling : ChromaUpsampling
-  pub kernel : YcbcrKernel
-  pub size : ℕ
-  pub scratch : List Float
-  pub out : List ℕ
-
-abbrev pub isFixed : YcbcrKernel → Bool
-isFixed Exact = false
-isFixed FixedPoint16 = true
-
--- 2, 3, 4, 5, then 7, 8: "pixel size not 3 or 4", 9 and 10: "output too short"
-unfoldable pub fillTests : FillCall → List Test
-fillTests c =
-    let l = c .layout in
-    layoutTests (isFixed (c .kernel)) l
-    ++ ((badPlanes l (c .planes), 7) ∷ (outsideOf 3 4 (c .size), 8) ∷ (ltb (length (c .scratch)) (scratchNeed l), 9) ∷ (ltb (length (c .out)) (l .w * l .h * c .size), 10) ∷ [])
+use Rattle.fill_answer.specs.Tests.{FillCall, fillTests}
+use Rattle.fill_answer.specs.declared.ChromaUpsampling.{ChromaUpsampling}
+use Rattle.fill_answer.specs.declared.ChromaUpsampling.the-variants.{Linear, LumaGuided}
 
 -- the chroma of column x of row y, "linear or guided"
 unfoldable pub chromaBy : ChromaUpsampling → Picture → Chroma → ℕ → ℕ → Float

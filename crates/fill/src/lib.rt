@@ -1,20 +1,14 @@
 // Fill to RGB: a whole picture's colour from its planes, chroma linear or guided by luma. The original's fill_ycbcr_interp on one thread.
 ghost use Rattle.fill.specs.Fill.{FillGiven};
 
-mod answer;
 mod rows;
 
-pub use answer::fill_answer;
 use colour_rows::YcbcrKernel;
+pub use fill_answer::ChromaUpsampling;
+use fill_answer::fill_answer;
 use image::Layout;
 use laws::Answer;
 pub use rows::fill_rows;
-
-// How chroma is reconstructed.
-pub enum ChromaUpsampling {
-    Linear,
-    LumaGuided,
-}
 
 // The picture's w by h pixels into out, `size` bytes each, red, green and blue first; a fourth byte keeps what it held. Refusals 2, 3, 4, 5, 7, 8, 9 and 10.
 // Scratch afterwards is `fillScratch` of specs/Fill.

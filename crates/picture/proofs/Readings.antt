@@ -19,8 +19,9 @@ use Rattle.image.specs.Tests.{badPlane, layoutTests, Sound}
 use Rattle.image.proofs.Layouts.{sound}
 use Rattle.image.specs.Scratch.{scratchNeed}
 use Rattle.colour_rows.specs.declared.YcbcrKernel.the-variants.{Exact}
-use Rattle.fill.specs.declared.ChromaUpsampling.the-variants.{LumaGuided}
-use Rattle.fill.specs.Fill.{fillTests, FillGiven, fillColour, fillScratch, pixelRows}
+use Rattle.fill_answer.specs.declared.ChromaUpsampling.the-variants.{LumaGuided}
+use Rattle.fill_answer.specs.Tests.{fillTests}
+use Rattle.fill.specs.Fill.{FillGiven, fillColour, fillScratch, pixelRows}
 use Rattle.netpbm.specs.declared.reading.Reading.the-variants.{Read, Refused}
 use Rattle.pgm.specs.Images.{rowsAt}
 use Rattle.netpbm.specs.Reading.{cbAt, crAt, layoutOf, readingTests, pickReading, readingOf}

@@ -7,7 +7,8 @@ use Rattle.laws.specs.declared.Answer.the-variants.{Accepted}
 use Rattle.laws.specs.Refusals.{accepted}
 use Rattle.laws.proofs.Refusals.{accepted-is}
 use Rattle.image.specs.Picture.{pictureOf}
-use Rattle.fill.specs.Fill.{FillCall, fillColour, pixelRows, fillScratch}
+use Rattle.fill_answer.specs.Tests.{FillCall}
+use Rattle.fill.specs.Fill.{fillColour, pixelRows, fillScratch}
 use Rattle.fill.proofs.Acceptance.{ready}
 use Rattle.fill.proofs.fill.Statement.{statement}
 use Rattle.fill.proofs.fill.Tie as tie

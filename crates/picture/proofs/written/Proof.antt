@@ -2,7 +2,7 @@ use mathlib.Core.Path.{refl, sym, _∙_, ap}
 use native.Mathlib.Omega.{arith}
 use borrow.Author.Needs.{needs}
 use Rattle.image.specs.declared.layout.Layout.{Layout}
-use Rattle.fill.specs.declared.ChromaUpsampling.the-variants.{LumaGuided}
+use Rattle.fill_answer.specs.declared.ChromaUpsampling.the-variants.{LumaGuided}
 use Rattle.fill.specs.Fill.{fillScratch}
 use Rattle.lines.specs.Lines.{ppmHeader}
 use Rattle.netpbm.proofs.Acceptance.{taken}

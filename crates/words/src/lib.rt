@@ -1,7 +1,6 @@
 // The numbers of a line: words of four hex digits, a blank before each, after a byte for the kind.
 // Past a line's end every byte is 0 and every digit too.
 ghost use Prim.Native.Nat.{_<_};
-use image::Layout;
 
 // Inner: the byte at a place.
 pub fn byte(text: &[u8], at: usize) -> u8 {
@@ -77,26 +76,4 @@ pub fn size(text: &[u8], k: usize) -> usize
         return 18_446_744_073_709_551_615;
     }
     n
-}
-
-// Inner: the layout that a line begins with: its first nine words.
-pub fn layout(text: &[u8]) -> Layout {
-    Layout {
-        w: size(text, 0),
-        h: size(text, 1),
-        rh: size(text, 2),
-        rv: size(text, 3),
-        cw: size(text, 4),
-        ch: size(text, 5),
-        sample_bytes: size(text, 6),
-        maxval: long(text, 7) as u32,
-    }
-}
-
-// Inner: how much of its scratch a line's call may touch: the 64·cw + 8·w floats that it needs, or none where its answer is a refusal.
-pub fn scratch_part(text: &[u8], answer: usize) -> usize {
-    if answer != 0 {
-        return 0;
-    }
-    64 * word(text, 4) + 8 * word(text, 0)
 }

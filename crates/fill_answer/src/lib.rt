@@ -1,11 +1,16 @@
-// The checks of fill.
+// The checks of fill, the lowest refusal first.
 ghost use mathlib.Core.Path.{_≡_};
 ghost use Rattle.laws.specs.Refusals.{first};
-ghost use Rattle.fill.specs.Fill.{isFixed, fillTests};
-use crate::ChromaUpsampling;
+ghost use Rattle.fill_answer.specs.Tests.{isFixed, fillTests};
 use colour_rows::YcbcrKernel;
 use image::Layout;
 use laws::Answer;
+
+// How chroma is reconstructed.
+pub enum ChromaUpsampling {
+    Linear,
+    LumaGuided,
+}
 
 fn is_fixed(kernel: YcbcrKernel) -> bool
     ensures { λ r. ⌜ r ≡ isFixed kernel ⌝ }

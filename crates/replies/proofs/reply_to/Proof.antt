@@ -2,9 +2,9 @@ use Rattle.laws.specs.Refusals.{accepted}
 use borrow.Author.Tests.{not-true, not-false}
 use mathlib.Core.Path.{refl, sym, _∙_}
 use borrow.Author.Needs.{needs}
-use Rattle.ffi.proofs.reading.reply_to.Statement.{statement}
-use Rattle.ffi.specs.Calls.{replyTo}
-use Rattle.ffi.proofs.reading.reply_to.Tie as tie
+use Rattle.replies.proofs.reply_to.Statement.{statement}
+use Rattle.replies.specs.Replies.{replyTo}
+use Rattle.replies.proofs.reply_to.Tie as tie
 
 number-of-requires : tie.Need-number-of-requires
 number-of-requires c κs = search needs

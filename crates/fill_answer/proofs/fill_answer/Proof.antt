@@ -14,10 +14,10 @@ use Rattle.image.specs.Tests.{outsideOf, layoutTests, Sound}
 use Rattle.image.specs.Picture.{badPlanes}
 use Rattle.image.proofs.Layouts.{sound-answer, area}
 use Rattle.image.specs.Scratch.{scratchNeed}
-use Rattle.fill.specs.Fill.{FillCall, isFixed, fillTests}
-use Rattle.fill.proofs.Acceptance.{sized, laterTests}
-use Rattle.fill.proofs.answer.fill_answer.Statement.{statement}
-use Rattle.fill.proofs.answer.fill_answer.Tie as tie
+use Rattle.fill_answer.specs.Tests.{FillCall, isFixed, fillTests}
+use Rattle.fill_answer.proofs.Later.{sized, laterTests}
+use Rattle.fill_answer.proofs.fill_answer.Statement.{statement}
+use Rattle.fill_answer.proofs.fill_answer.Tie as tie
 
 -- the call, as the specification has it
 abbrev call : (c : tie.After-answer) → FillCall
