@@ -9,7 +9,7 @@ use Rattle.convert.specs.Kernels.{exact255}
 use Rattle.blocks.specs.Floating.{Centred}
 use Rattle.blocks.specs.Blocks.{BlockOf}
 use Rattle.convert.specs.Forms.{colourOf}
-use Rattle.blocks.specs.Stores.{blockPixel}
+use Rattle.stores.specs.Stores.{blockPixel}
 
 module _ {rows : List (List ℕ)} {y : List ℕ} {cb cr : List Float} (o : BlockOf rows y cb cr) (k : ℕ) (h : k < 16) {b r : ℕ} (u : Centred (getD cb k nan) b) (v : Centred (getD cr k nan) r) where
   -- pixel k of a block is the exact kernel's

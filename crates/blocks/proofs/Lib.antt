@@ -1,4 +1,4 @@
--- Laws of the fast forms, of blocks and of stored pixels, which callers cite.
+-- Laws of the fast forms and of blocks, which callers cite.
 pub mod Offsets
 mod Signed
 mod Lumas
@@ -7,6 +7,3 @@ mod Chromas
 mod Tints
 mod Greens
 pub mod Blocks
-pub mod Puts
-pub mod Packed
-pub mod FixedBytes

@@ -1,16 +1,13 @@
 -- "blocks of sixteen pixels, three colour rows each". Definitions only.
 use mathlib.Core.Path.{_≡_}
-use mathlib.Core.List.{List, []}
+use mathlib.Core.List.{List}
 use Prim.Native.Nat.{ℕ, _<_, _≤_}
 use lib.ListN.{getD}
 use lib.IntN.{ℤ, pos}
 use lib.Ieee.{Float, nan}
 use Rattle.convert.specs.Kernels.{exact255}
+use Rattle.stores.specs.Stores.{entry}
 use Rattle.blocks.specs.Floating.{Centred, Chroma, Lowered, Luma}
-
--- entry k of row n
-abbrev pub entry : List (List ℕ) → ℕ → ℕ → ℕ
-entry rows n k = getD (getD rows n []) k 0
 
 -- row 0 is red, row 1 green, row 2 blue, of the exact kernel at each pixel; chroma as floats, centred
 pub record BlockOf (rows : List (List ℕ)) (y : List ℕ) (cb cr : List Float) : Type 0 where

@@ -1,3 +1,2 @@
 pub mod Floating
 pub mod Blocks
-pub mod Stores

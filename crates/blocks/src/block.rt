@@ -12,13 +12,7 @@ use crate::fast::Grid;
 use crate::fast::chroma_offset;
 use crate::fast::green_by;
 use crate::fast::green_doubt;
-
-// A block of pixels.
-pub struct Block;
-
-impl Block {
-    pub const LEN: usize = 16;
-}
+use stores::Block;
 
 // What red and blue multiply chroma by, and what sends halves up: 3/1024 for blue. Red has none, and -0 changes nothing.
 struct Tints;

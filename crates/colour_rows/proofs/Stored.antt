@@ -6,8 +6,8 @@ use native.Mathlib.Omega.{arith}
 use lib.ListN.{length, getD}
 use lib.Seq.{set-getD}
 use Rattle.convert.specs.Kernels.{Colour}
-use Rattle.blocks.specs.Stores.{pixel, pixels, channel}
-use Rattle.blocks.proofs.Puts.{length-pixel, length-pixels, pixels-none, pixels-more, pixels-add, pixels-same, pixels-channel}
+use Rattle.stores.specs.Stores.{pixel, pixels, channel}
+use Rattle.stores.proofs.Puts.{length-pixel, length-pixels, pixels-none, pixels-more, pixels-add, pixels-same, pixels-channel}
 
 -- ---- pixels stored a second time
 

@@ -11,7 +11,7 @@ use Rattle.fround.specs.Rounding.{roundClamped}
 use Rattle.image.specs.Scratch.{cellAt}
 use Rattle.convert.specs.Kernels.{Colour, fixed255}
 use Rattle.convert.specs.Pixels.{exactColour}
-use Rattle.blocks.specs.Stores.{pixels}
+use Rattle.stores.specs.Stores.{pixels}
 use Rattle.colour_rows.specs.declared.YcbcrKernel.{YcbcrKernel}
 use Rattle.colour_rows.specs.declared.YcbcrKernel.the-variants.{Exact, FixedPoint16}
 

@@ -6,14 +6,13 @@ ghost use lib.ListN.{length};
 ghost use Rattle.colour_rows.specs.Colours.{colourRow};
 ghost use Rattle.colour_rows.specs.Lent.{RowLent, Blocked};
 
-mod gather;
 mod pixels;
 mod sixteens;
 
-use blocks::Block;
 use image::Layout;
 use pixels::plain_row;
 use sixteens::block_row;
+use stores::Block;
 
 // Which of document 01's kernels makes the colour.
 pub enum YcbcrKernel {

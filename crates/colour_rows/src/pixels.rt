@@ -9,12 +9,12 @@ ghost use Rattle.convert.specs.Forms.{colourOf};
 ghost use Rattle.colour_rows.specs.Colours.{colourBy, colourRow};
 ghost use Rattle.colour_rows.specs.Lent.{RowLent};
 ghost use Rattle.colour_rows.specs.declared.YcbcrKernel.the-variants.{Exact, FixedPoint16};
-use super::gather::chroma_at;
-use super::gather::luma_at;
-use super::gather::whole_at;
 use crate::YcbcrKernel;
 use convert::Rgb;
 use image::Layout;
+use row_samples::chroma_at;
+use row_samples::luma_at;
+use row_samples::whole_at;
 
 // A pixel by the exact kernel at maxval 255.
 fn exact_pixel(y: u32, cb: f32, cr: f32) -> Rgb
@@ -84,7 +84,7 @@ pub fn plain_row(
     while x < w {
         let y = luma_at(layout, plane, stride, row, x);
         let p = plain_pixel(kernel, y, s[x], s[w + x], layout.maxval);
-        blocks::put_pixel(out, at + x * size, p.r, p.g, p.b);
+        stores::put_pixel(out, at + x * size, p.r, p.g, p.b);
         x += 1;
     }
 }

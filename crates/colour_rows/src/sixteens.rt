@@ -3,17 +3,17 @@ ghost use mathlib.Core.Path.{_≡_};
 ghost use Prim.Native.Nat.{ℕ, _+_, _-_, _*_, _≤_, _<_, min};
 ghost use lib.ListN.{length, getD};
 ghost use Rattle.image.specs.Scratch.{cellAt};
-ghost use Rattle.blocks.specs.Stores.{blockPixel};
+ghost use Rattle.stores.specs.Stores.{blockPixel};
 ghost use Rattle.colour_rows.specs.Colours.{colourBy, rowColour, colourRow};
 ghost use Rattle.colour_rows.specs.Lent.{RowLent, Blocked};
 ghost use Rattle.colour_rows.specs.declared.YcbcrKernel.the-variants.{Exact, FixedPoint16};
-use super::gather::chroma16;
-use super::gather::luma16;
-use super::gather::whole16;
-use super::gather::wide16;
 use crate::YcbcrKernel;
-use blocks::Block;
 use image::Layout;
+use row_samples::chroma16;
+use row_samples::luma16;
+use row_samples::whole16;
+use row_samples::wide16;
+use stores::Block;
 
 // Sixteen pixels by the exact kernel at maxval 255, chroma from column x on.
 fn exact16(y: [u16; Block::LEN], s: &[f32], w: usize, x: usize) -> [[u8; Block::LEN]; 3]
@@ -32,7 +32,7 @@ fn fixed16(y: [u16; Block::LEN], s: &[f32], w: usize, x: usize) -> [[u8; Block::
 {
     let cb = whole16(s, 0, x);
     let cr = whole16(s, w, x);
-    blocks::fixed_block(y, cb, cr)
+    fixed_blocks::fixed_block(y, cb, cr)
 }
 
 // The sixteen pixels from column x on.
@@ -84,7 +84,7 @@ fn blocks3(
     while done < layout.w {
         let x = block_start(done, layout.w);
         let rows = block_at(layout, kernel, plane, stride, row, s, x);
-        blocks::put_block(out, at + x * 3, 3, rows);
+        stores::put_block(out, at + x * 3, 3, rows);
         done = x + Block::LEN;
     }
 }
@@ -109,7 +109,7 @@ fn blocks4(
     while done < layout.w {
         let x = block_start(done, layout.w);
         let rows = block_at(layout, kernel, plane, stride, row, s, x);
-        blocks::put_words(out, at + x * 4, low, rows);
+        stores::put_words(out, at + x * 4, low, rows);
         done = x + Block::LEN;
     }
 }

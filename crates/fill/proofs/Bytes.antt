@@ -14,8 +14,8 @@ use Rattle.laws.proofs.Refusals.{accepted-is}
 use Rattle.laws.proofs.Rows.{row-fits}
 use Rattle.image.specs.Picture.{pictureOf}
 use Rattle.convert.specs.Kernels.{Colour}
-use Rattle.blocks.specs.Stores.{channel}
-use Rattle.blocks.proofs.Puts.{length-pixels, pixels-other, before, after, pixels-channel}
+use Rattle.stores.specs.Stores.{channel}
+use Rattle.stores.proofs.Puts.{length-pixels, pixels-other, before, after, pixels-channel}
 use Rattle.fill_answer.specs.Tests.{FillCall}
 use Rattle.fill.specs.Fill.{FillGiven, fillColour, pixelRows}
 use Rattle.fill.specs.Steps.{FillLent}

@@ -16,8 +16,8 @@ use Rattle.image.proofs.Pictures.{inside-is}
 use Rattle.image.specs.Scratch.{scratchNeed}
 use Rattle.guided.specs.Scratch.{finishedAt}
 use Rattle.convert.specs.Kernels.{Colour}
-use Rattle.blocks.specs.Stores.{pixels}
-use Rattle.blocks.proofs.Puts.{length-pixels, pixels-same}
+use Rattle.stores.specs.Stores.{pixels}
+use Rattle.stores.proofs.Puts.{length-pixels, pixels-same}
 use Rattle.colour_rows.specs.declared.YcbcrKernel.{YcbcrKernel}
 use Rattle.colour_rows.specs.Colours.{rowColour, colourRow}
 use Rattle.fill_answer.specs.declared.ChromaUpsampling.{ChromaUpsampling}

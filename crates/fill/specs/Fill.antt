@@ -12,7 +12,7 @@ use Rattle.resample.specs.Linear.{linearSample, linearRow}
 use Rattle.guidance.specs.Guided.{guidedSample}
 use Rattle.guided_rows.specs.Rows.{guidedRows}
 use Rattle.convert.specs.Kernels.{Colour}
-use Rattle.blocks.specs.Stores.{pixels}
+use Rattle.stores.specs.Stores.{pixels}
 use Rattle.colour_rows.specs.declared.YcbcrKernel.{YcbcrKernel}
 use Rattle.colour_rows.specs.Colours.{colourBy}
 use Rattle.fill_answer.specs.Tests.{FillCall, fillTests}

@@ -1,0 +1,2 @@
+-- The laws of the three bytes.
+mod FixedBytes

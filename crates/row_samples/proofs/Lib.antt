@@ -1,0 +1,2 @@
+-- Laws of samples by their columns.
+mod Samples
