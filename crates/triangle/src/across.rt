@@ -6,7 +6,7 @@ ghost use Rattle.laws.specs.Lists.{put};
 ghost use Rattle.triangle.specs.Weights.{oneAxis};
 ghost use Rattle.triangle.specs.Rows.{RowInside, Doubled, cells};
 use crate::weights::cell;
-use crate::weights::one_axis;
+use axes::one_axis;
 
 // The two outputs of a cell.
 fn put_pair(out: &mut [u16], at: usize, before: u32, near: u32, after: u32)

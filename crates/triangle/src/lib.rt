@@ -3,10 +3,10 @@ mod across;
 mod weights;
 
 pub use across::across_row;
-pub use weights::both_axes;
+pub use axes::both_axes;
+pub use axes::one_axis;
 pub use weights::byte_sum;
 pub use weights::cell;
 pub use weights::cell_sum;
 pub use weights::far;
-pub use weights::one_axis;
 pub use weights::one_axis_bias;

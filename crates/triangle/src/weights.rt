@@ -1,7 +1,7 @@
 // The weights, the cells that they weigh, and the far cell of a row.
 ghost use mathlib.Core.Path.{_≡_};
 ghost use mathlib.Core.Bool.{cond};
-ghost use Prim.Native.Nat.{_+_, _*_, _/_, _<_, _≤_};
+ghost use Prim.Native.Nat.{_+_, _/_, _<_, _≤_};
 ghost use lib.ListN.{length};
 ghost use Rattle.triangle.specs.Weights.{even};
 ghost use Rattle.triangle.specs.Weights as weights;
@@ -24,22 +24,6 @@ pub fn one_axis_bias(y: usize) -> u8
     ensures { λ r. ⌜ (r ≡ cond (even y) 1 2) × (r ≤ 2) ⌝ }
 {
     if y % 2 == 0 { 1 } else { 2 }
-}
-
-// Inner: one axis, for cells of at most 65,535.
-pub fn one_axis(near: u32, far: u32, bias: u32) -> u16
-    requires { ⌜ (near ≤ 65535) × (far ≤ 65535) × (bias ≤ 2) ⌝ }
-    ensures { λ r. ⌜ r ≡ (3 * near + far + bias) / 4 ⌝ }
-{
-    ((3 * near + far + bias) >> 2) as u16
-}
-
-// Inner: both axes, for vertical sums of such cells.
-pub fn both_axes(near: u32, far: u32, bias: u32) -> u16
-    requires { ⌜ (near ≤ 262140) × (far ≤ 262140) × (bias ≤ 8) ⌝ }
-    ensures { λ r. ⌜ r ≡ (3 * near + far + bias) / 16 ⌝ }
-{
-    ((3 * near + far + bias) >> 4) as u16
 }
 
 // Inner: cell i of the row of cells that begins at `row`.
