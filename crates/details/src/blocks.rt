@@ -7,10 +7,10 @@ ghost use Rattle.luma.specs.Luma.{Cells};
 ghost use Rattle.details.specs.Pixels.{detailIn, detailPair, detailRun};
 use super::detail::detail_run;
 use image::Layout;
-use lerps::Lanes;
+use lanes::Lanes;
+use lanes::put_block;
 use lerps::Pair;
 use lerps::pair_at;
-use lerps::put_block;
 use places::sample_at;
 
 // The detail of the pixels of cell i + 1 at ratio 2: no phase and no edge is looked at.

@@ -7,7 +7,7 @@ use native.Mathlib.Nat.{eq-or-lt-of-le, le-of-suc-le-suc, zero-add, suc-mul}
 use native.Mathlib.Numerals.{add-one}
 use native.Mathlib.Omega.{arith}
 use lib.ListN.{length, getD, set, take, length-set, length-append, List·getD-append}
-use lib.Seq.{getD-at, getD-set-same, getD-set-other, take-suc-set}
+use lib.Seq.{getD-at, getD-set-same, getD-set-other, set-getD, take-suc-set}
 use Rattle.laws.proofs.Rows.{rows-apart}
 use Rattle.laws.specs.Lists.{put, rows, table}
 
@@ -58,19 +58,13 @@ module _ {A : Type 0} where
       let r : put xs at n f ≡ put xs at n g = put-same xs at n f g (λ i l. h i (omega arith)) in
       cc
 
-  -- storing what is already there changes nothing
-  pub set-held : (xs : List A) (i : ℕ) (v d : A) → getD xs i d ≡ v → i < length xs → set xs i v ≡ xs
-  set-held [] i v d e h = refl
-  set-held (x ∷ xs) zero v d e h = ap (λ (y : A). y ∷ xs) (sym e)
-  set-held (x ∷ xs) (suc i) v d e h = ap (λ (ys : List A). x ∷ ys) (set-held xs i v d e (omega arith))
-
-  -- so does a part of a run that is put again
+  -- a part of a run that is put again changes nothing
   put-again : (xs : List A) (at n : ℕ) (f : ℕ → A) (a k : ℕ) (d : A) → a + k ≤ n → at + n ≤ length xs → put (put xs at n f) (at + a) k (λ i. f (a + i)) ≡ put xs at n f
   unfolding put
   put-again xs at n f a zero d h l = refl
   put-again xs at n f a (suc k) d h l =
       let e : at + a + k ≡ at + (a + k) = omega arith in
-      rw (put-again xs at n f a k d (omega arith) l, e) (set-held (put xs at n f) (at + (a + k)) (f (a + k)) d (put-inside xs at n f (a + k) d (omega arith) l) (rw length-put (omega arith)))
+      rw (put-again xs at n f a k d (omega arith) l, e, ← (put-inside xs at n f (a + k) d (omega arith) l)) (set-getD (put xs at n f) (at + (a + k)) d)
 
   -- n values, and then k of which the first were among them, are one run: a last block may overlap the one before
   pub put-over : (xs : List A) (at n : ℕ) (f : ℕ → A) (a k : ℕ) (d : A) → a ≤ n → n ≤ a + k → at + n ≤ length xs → put (put xs at n f) (at + a) k (λ i. f (a + i)) ≡ put xs at (a + k) f

@@ -4,9 +4,7 @@ mod pairs;
 
 pub use columns::column_at;
 pub use columns::down_column;
-pub use pairs::Lanes;
 pub use pairs::Pair;
 pub use pairs::across_pixel;
 pub use pairs::cell_at;
 pub use pairs::pair_at;
-pub use pairs::put_block;

@@ -68,24 +68,6 @@ pub fn cell_at(layout: Layout, s: &[f32], src: usize, phases: [Phase; 4], i: usi
     ]
 }
 
-pub struct Lanes;
-
-impl Lanes {
-    pub const CELLS: usize = 8;
-
-    pub const PIXELS: usize = 16;
-}
-
-// Inner: a block of values, to s from `at` on.
-pub fn put_block(s: &mut [f32], at: usize, block: [f32; Lanes::PIXELS])
-    requires { ⌜ at + 16 ≤ length (now s) ⌝ }
-    ensures { λ _. ⌜ now (s .exit) ≡ put (now (s .entry)) at 16 (λ k. getD block k nan) ⌝ }
-{
-    for k in 0..Lanes::PIXELS {
-        s[at + k] = block[k];
-    }
-}
-
 // The two pixels of a cell at ratio 2.
 pub struct Pair {
     pub left: f32,

@@ -1,3 +1,2 @@
 -- Laws of rows over scratch.
 pub mod Across
-pub mod Overlap

@@ -3,7 +3,7 @@ ghost use mathlib.Core.Path.{_≡_};
 ghost use Prim.Native.Nat.{_+_, _*_, _≤_, _<_};
 ghost use lib.ListN.{length};
 ghost use Rattle.linear_rows.specs.Rows.{downRun, acrossRun, betweenRun};
-use super::twos::Lanes;
+use super::twos::Twos;
 use super::twos::across_twos;
 use taps::fraction;
 use taps::lerp;
@@ -117,7 +117,7 @@ pub fn across_row(s: &mut [f32], src: usize, cw: usize, r: usize, dst: usize, w:
         across_taps(s, src, cw, r, dst, 0, w);
         return;
     }
-    if w < Lanes::ROW {
+    if w < Twos::ROW {
         across_taps(s, src, cw, r, dst, 0, w);
         return;
     }

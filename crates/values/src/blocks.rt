@@ -9,10 +9,10 @@ use super::bands::Bands;
 use super::bands::limited;
 use super::pixels::value_run;
 use image::Layout;
-use lerps::Lanes;
+use lanes::Lanes;
+use lanes::put_block;
 use lerps::Pair;
 use lerps::pair_at;
-use lerps::put_block;
 
 // A component's values in the pixels of cell i + 1 at ratio 2: no edge is met.
 fn value_pair(layout: Layout, s: &[f32], t: Bands, i: usize) -> Pair

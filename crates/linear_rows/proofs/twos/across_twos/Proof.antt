@@ -3,10 +3,9 @@ use Prim.Native.Nat.{_+_, _-_, _*_, _≤_, _<_}
 use native.Mathlib.Omega.{arith}
 use borrow.Author.Needs.{needs}
 use lib.Ieee.{nan}
-use Rattle.laws.proofs.Lists.{Run, run-none, run-at, run-end, run-after}
+use Rattle.laws.proofs.Lists.{put-same, Run, run-none, run-at, run-end, run-after, run-over}
 use Rattle.linear_rows.specs.Rows.{betweenAt, betweenRun}
 use Rattle.linear_rows.proofs.Across.{between-same}
-use Rattle.linear_rows.proofs.Overlap.{run-over}
 use Rattle.linear_rows.proofs.twos.across_twos.Statement.{statement}
 use Rattle.linear_rows.proofs.twos.across_twos.Tie as tie
 
@@ -17,14 +16,17 @@ abbrev μ-loop : tie.MeasureT-loop
 μ-loop s₀ src n dst done₀ s done = n - done
 
 -- the block starts where outputs are stored already, and ends with the last pair at the latest
-place : (c : tie.After-block-start Inv-loop μ-loop) → (let i = c .block-start .result in let l = c .before .before in (i ≤ l .loop .done) × (l .loop .done < i + 8) × (i + 8 ≤ l .before .before .args .n))
-place c = let e = c .block-start .ensures in (omega arith, omega arith, omega arith)
+place : (c : tie.After-least Inv-loop μ-loop) → (let i = c .least .result in let l = c .before .before in (i ≤ l .loop .done) × (l .loop .done < i + 8) × (i + 8 ≤ l .before .before .args .n))
+place c = let e = c .least .ensures in (omega arith, omega arith, omega arith)
 
 loop-holds : tie.Need-loop-holds Inv-loop μ-loop
 loop-holds c = (omega arith, run-none _ _ _)
 
-block-start-requires : tie.Need-block-start-requires Inv-loop μ-loop
-block-start-requires c κs = search needs
+sub-least : tie.Need-sub-least Inv-loop μ-loop
+sub-least c = omega arith
+
+least-requires : tie.Need-least-requires Inv-loop μ-loop
+least-requires c κs = search needs
 
 twos-block-requires : tie.Need-twos-block-requires Inv-loop μ-loop
 twos-block-requires c κs = let h = place (c .before) in let l = c .before .before .before .loop .inv .1 .len in omega arith
@@ -49,9 +51,9 @@ loop-again c =
     let h = place (c .before .before .before .before .before .before) in
     let l = c .before .before .before .before .before .before .before .before in
     let a = l .before .before .args in
-    let i = c .before .before .before .before .before .before .block-start .result in
+    let i = c .before .before .before .before .before .before .least .result in
     let r = l .loop .inv .1 in
-    let z = run-over r nan _ (2 * i) 16 _ (c .before .before .put-block .ensures) (omega arith) (omega arith) (omega arith) (λ k q. c .before .before .before .before .twos-block .ensures k q ∙ between-same 2 (l .loop .s) (a .s .now) (a .src) (2 * i + k) (λ m. run-after r (a .src + m) nan (omega arith))) in
+    let z = run-over r _ (2 * i) 16 nan (c .before .before .put-block .ensures ∙ put-same _ _ 16 _ _ (λ k q. c .before .before .before .before .twos-block .ensures k q ∙ between-same 2 (l .loop .s) (a .s .now) (a .src) (2 * i + k) (λ m. run-after r (a .src + m) nan (omega arith)))) (omega arith) (omega arith) (omega arith) in
     (h .2, run-at z (2 * (i + 8)) (omega arith))
 
 same-length : tie.Need-same-length Inv-loop μ-loop
@@ -68,7 +70,8 @@ across-twos-spec =
     Inv-loop
     μ-loop
     loop-holds
-    block-start-requires
+    sub-least
+    least-requires
     twos-block-requires
     mul-put-block
     add-put-block

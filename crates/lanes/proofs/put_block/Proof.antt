@@ -1,11 +1,11 @@
 use native.Mathlib.Omega.{arith}
-use Rattle.lerps.proofs.pairs.put_block.Statement.{statement}
+use Rattle.lanes.proofs.put_block.Statement.{statement}
 use Rattle.laws.proofs.Lists.{Run, run-end, run-more, run-none}
 use Prim.Native.Nat.{_-_, _≤_}
 use lib.ListN.{getD}
 use lib.Ieee.{nan}
 use mathlib.Core.Path.{refl}
-use Rattle.lerps.proofs.pairs.put_block.Tie as tie
+use Rattle.lanes.proofs.put_block.Tie as tie
 
 abbrev Inv-loop : tie.InvT-loop
 Inv-loop s₀ at block k₀ s k = (k ≤ 16) × Run s₀ s at k (λ i. getD block i nan)
