@@ -184,29 +184,27 @@ fn row(text: &[u8], given: Reader, y: &[u8], cb: &[u8], cr: &[u8], s: &mut [f32]
     )
 }
 
-fn open_or_row(text: &[u8], given: Reader, y: &[u8], cb: &[u8], cr: &[u8], s: &mut [f32]) -> Done {
-    if cases::byte(text, 0) == b'o' {
-        return open(text, given, y, cb, cr, s);
-    }
-    row(text, given, y, cb, cr, s)
+fn seek(text: &[u8], given: Reader) -> Done {
+    done_by(reconstruction::seek(given, cases::size(text, 23)), 0)
 }
 
-// A line's open or row call, lent its planes.
-fn lent(text: &[u8], given: Reader, s: &mut [f32]) -> Done {
+fn lent(text: &[u8], given: Reader, y: &[u8], cb: &[u8], cr: &[u8], s: &mut [f32]) -> Done {
+    match cases::byte(text, 0) {
+        b'o' => open(text, given, y, cb, cr, s),
+        b's' => seek(text, given),
+        _ => row(text, given, y, cb, cr, s),
+    }
+}
+
+// A line's call, lent its planes; seek has no use for them.
+fn called(text: &[u8], given: Reader, s: &mut [f32]) -> Done {
     let y = cases::plane(text, 0);
     let cb = cases::plane(text, 1);
     let cr = cases::plane(text, 2);
     let y_len = cases::word(text, 12);
     let cb_len = cases::word(text, 13);
     let cr_len = cases::word(text, 14);
-    open_or_row(text, given, &y[..y_len], &cb[..cb_len], &cr[..cr_len], s)
-}
-
-fn called(text: &[u8], given: Reader, s: &mut [f32]) -> Done {
-    if cases::byte(text, 0) == b's' {
-        return done_by(reconstruction::seek(given, cases::size(text, 23)), 0);
-    }
-    lent(text, given, s)
+    lent(text, given, &y[..y_len], &cb[..cb_len], &cr[..cr_len], s)
 }
 
 // Writes a call's line: the sum is of its outputs, of the reader that it gave, and of whether it was refused and changed scratch.

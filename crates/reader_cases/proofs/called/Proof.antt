@@ -1,8 +1,8 @@
 use native.Mathlib.Omega.{arith}
 use lib.ListN.{length-take}
 use borrow.Author.Needs.{needs}
-use Rattle.reader_cases.proofs.lent.Statement.{statement}
-use Rattle.reader_cases.proofs.lent.Tie as tie
+use Rattle.reader_cases.proofs.called.Statement.{statement}
+use Rattle.reader_cases.proofs.called.Tie as tie
 
 plane-requires : tie.Need-plane-requires
 plane-requires c κs = search needs
@@ -25,23 +25,23 @@ word-requires-3 c κs = search needs
 array-share-prefix-y : tie.Need-array-share-prefix-y
 array-share-prefix-y c = search needs
 
-slice-aggregate-open-or-row : tie.Need-slice-aggregate-open-or-row
-slice-aggregate-open-or-row c = simp length-take (omega arith)
+slice-aggregate-lent : tie.Need-slice-aggregate-lent
+slice-aggregate-lent c = simp length-take (omega arith)
 
 array-share-prefix-cb : tie.Need-array-share-prefix-cb
 array-share-prefix-cb c = search needs
 
-slice-aggregate-open-or-row-2 : tie.Need-slice-aggregate-open-or-row-2
-slice-aggregate-open-or-row-2 c = simp length-take (omega arith)
+slice-aggregate-lent-2 : tie.Need-slice-aggregate-lent-2
+slice-aggregate-lent-2 c = simp length-take (omega arith)
 
 array-share-prefix-cr : tie.Need-array-share-prefix-cr
 array-share-prefix-cr c = search needs
 
-slice-aggregate-open-or-row-3 : tie.Need-slice-aggregate-open-or-row-3
-slice-aggregate-open-or-row-3 c = simp length-take (omega arith)
+slice-aggregate-lent-3 : tie.Need-slice-aggregate-lent-3
+slice-aggregate-lent-3 c = simp length-take (omega arith)
 
-open-or-row-requires : tie.Need-open-or-row-requires
-open-or-row-requires c κs = search needs
+lent-requires : tie.Need-lent-requires
+lent-requires c κs = search needs
 
 same-length : tie.Need-same-length
 same-length c = search needs
@@ -49,8 +49,8 @@ same-length c = search needs
 returns : tie.Need-returns
 returns c = search needs
 
-pub lent-spec : {M : Type 1} → statement M
-lent-spec =
+pub called-spec : {M : Type 1} → statement M
+called-spec =
     tie.close
     (tie.spec
     plane-requires
@@ -60,11 +60,11 @@ lent-spec =
     word-requires-2
     word-requires-3
     array-share-prefix-y
-    slice-aggregate-open-or-row
+    slice-aggregate-lent
     array-share-prefix-cb
-    slice-aggregate-open-or-row-2
+    slice-aggregate-lent-2
     array-share-prefix-cr
-    slice-aggregate-open-or-row-3
-    open-or-row-requires
+    slice-aggregate-lent-3
+    lent-requires
     same-length
     returns)
