@@ -9,7 +9,8 @@ use lib.Dec.{leb, ltb, eqb}
 use lib.ListN.{length, getD, drop, length-drop, drop-of-length-le, List·getD-eq-default}
 use lib.Seq.{drop-cons}
 use borrow.Author.Tests.{ltb-true, ltb-false, leb-true}
-use Rattle.pgm.specs.Bytes.{isBlank, isDigit, leading, hasBlank, hasDigit, digitsAt, pastBlanks, pastDigits}
+use Rattle.ascii.specs.Ascii.{isBlank, isDigit}
+use Rattle.pgm.specs.Bytes.{leading, hasBlank, hasDigit, digitsAt, pastBlanks, pastDigits}
 use Rattle.pgm.specs.Images.{hasMagic}
 
 pub leading-most : (p : ℕ → Bool) (xs : List ℕ) → leading p xs ≤ length xs

@@ -1,18 +1,10 @@
 -- The bytes of a header: whitespace, digits, and the number that digits are. Definitions only.
 -- Past the end of a list `getD` gives 0, which is neither whitespace nor a digit.
-use mathlib.Core.Bool.{Bool, _&&_, _||_, cond}
+use mathlib.Core.Bool.{Bool, cond}
 use mathlib.Core.List.{List, [], _∷_}
 use Prim.Native.Nat.{ℕ, suc, _+_, _-_, _*_}
-use lib.Dec.{leb, eqb}
 use lib.ListN.{getD, take, drop}
-
--- "blanks, tabs, CRs or LFs"
-abbrev pub isBlank : ℕ → Bool
-isBlank b = (eqb b 32 || eqb b 9) || (eqb b 13 || eqb b 10)
-
--- the bytes 0 to 9
-abbrev pub isDigit : ℕ → Bool
-isDigit b = leb 48 b && leb b 57
+use Rattle.ascii.specs.Ascii.{isBlank, isDigit}
 
 -- how many entries at the front of a list pass a test
 unfoldable pub leading : (ℕ → Bool) → List ℕ → ℕ

@@ -3,9 +3,11 @@ ghost use mathlib.Core.Path.{_≡_};
 ghost use mathlib.Core.Bool.{true};
 ghost use Prim.Native.Nat.{_-_, _≤_};
 ghost use lib.ListN.{getD};
-ghost use Rattle.pgm.specs.Bytes.{isBlank, isDigit, hasBlank, hasDigit, pastBlanks};
+ghost use Rattle.pgm.specs.Bytes.{hasBlank, hasDigit, pastBlanks};
 ghost use Rattle.pgm.specs.Images.{hasMagic};
 ghost use Rattle.pgm.specs.Held.{numberHeld};
+use ascii::is_blank;
+use ascii::is_digit;
 
 // A number read from its digits, and where they end.
 pub struct Number {
@@ -16,21 +18,6 @@ pub struct Number {
 impl Number {
     // A value past this is held as this: it is more than every size that is accepted, and no product of two wraps.
     pub const MOST: usize = 65_536;
-}
-
-fn is_blank(b: u8) -> bool
-    ensures { λ r. ⌜ r ≡ isBlank b ⌝ }
-{
-    image::either(
-        image::either(b == b' ', b == b'\t'),
-        image::either(b == b'\r', b == b'\n'),
-    )
-}
-
-fn is_digit(b: u8) -> bool
-    ensures { λ r. ⌜ r ≡ isDigit b ⌝ }
-{
-    image::both(b'0' <= b, b <= b'9')
 }
 
 // Inner: whether a whitespace byte stands at `at`.

@@ -1,6 +1,6 @@
 use borrow.Author.Needs.{needs}
-use Rattle.pgm.proofs.scan.is_blank.Statement.{statement}
-use Rattle.pgm.proofs.scan.is_blank.Tie as tie
+use Rattle.ascii.proofs.is_blank.Statement.{statement}
+use Rattle.ascii.proofs.is_blank.Tie as tie
 
 either-requires : tie.Need-either-requires
 either-requires c κs = search needs
