@@ -1,4 +1,4 @@
--- The bytes of a header: whitespace, digits, and the number that digits are. Definitions only.
+-- The bytes of a header, of which ascii says what is whitespace and what a digit, and the number that digits are. Definitions only.
 -- Past the end of a list `getD` gives 0, which is neither whitespace nor a digit.
 use mathlib.Core.Bool.{Bool, cond}
 use mathlib.Core.List.{List, [], _∷_}
