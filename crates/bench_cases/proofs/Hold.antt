@@ -10,9 +10,9 @@ use Rattle.upsample.specs.Triangular.{triangularSample}
 use Rattle.taps.specs.Taps.{spotAt, spotOf, tapOf, phaseOf}
 use Rattle.resample.specs.Linear.{linearSample, linearDown}
 use Rattle.guided.specs.Calls.{phasesOf, phaseAt}
-use Rattle.convert.specs.T871.{rnd}
-use Rattle.convert.specs.Kernels.{centred, redOffset, greenOffset, blueOffset, exact255, offCentre, exactAt, fixedRed, fixedGreenCb, fixedGreenCr, fixedBlue, fixed255}
-use Rattle.convert.specs.Pixels.{exactColour}
+use Rattle.kernels.specs.T871.{rnd}
+use Rattle.kernels.specs.Kernels.{centred, redOffset, greenOffset, blueOffset, exact255, offCentre, exactAt, fixedRed, fixedGreenCb, fixedGreenCr, fixedBlue, fixed255}
+use Rattle.kernels.specs.Pixels.{exactColour}
 use Rattle.bench_cases.specs.Starred.{starred, AllHold, none, also, Holds}
 
 pub starred-hold : AllHold starred

@@ -13,8 +13,8 @@ use Rattle.upsample.specs.Triangular.{triangularSample}
 use Rattle.taps.specs.declared.taps.Phase.{Phase}
 use Rattle.resample.specs.Linear.{linearSample}
 use Rattle.guided.specs.Calls.{phasesOf}
-use Rattle.convert.specs.Kernels.{Colour, fixed255}
-use Rattle.convert.specs.Pixels.{exactColour}
+use Rattle.kernels.specs.Kernels.{Colour, fixed255}
+use Rattle.kernels.specs.Pixels.{exactColour}
 
 pub data Case : Type 0 where
   -- a float, the limit, and what it rounds to

@@ -4,11 +4,11 @@ use mathlib.Core.List.{List}
 use Prim.Native.Nat.{ℕ, _<_}
 use lib.ListN.{getD}
 use lib.Ieee.{Float, nan}
-use Rattle.convert.specs.declared.bytes.Rgb.{Rgb}
-use Rattle.convert.specs.Kernels.{exact255}
+use Rattle.kernels.specs.declared.bytes.Rgb.{Rgb}
+use Rattle.kernels.specs.Kernels.{exact255}
 use Rattle.blocks.specs.Floating.{Centred}
 use Rattle.blocks.specs.Blocks.{BlockOf}
-use Rattle.convert.specs.Forms.{colourOf}
+use Rattle.kernels.specs.Forms.{colourOf}
 use Rattle.stores.specs.Stores.{blockPixel}
 
 module _ {rows : List (List ℕ)} {y : List ℕ} {cb cr : List Float} (o : BlockOf rows y cb cr) (k : ℕ) (h : k < 16) {b r : ℕ} (u : Centred (getD cb k nan) b) (v : Centred (getD cr k nan) r) where

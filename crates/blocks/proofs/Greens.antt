@@ -8,8 +8,8 @@ use lib.Dec.{T, lit<}
 use lib.Ieee.{Float, fin, isNan}
 use Rattle.laws.specs.Floats.{_⊕_, _⊖_, _⊗_, Near}
 use Rattle.laws.proofs.Nearness.{mild-step, near-chain, value-near, add-near}
-use Rattle.convert.specs.Kernels.{centred, greenOffset}
-use Rattle.convert.proofs.Channels.{green-biased}
+use Rattle.kernels.specs.Kernels.{centred, greenOffset}
+use Rattle.kernels.proofs.Channels.{green-biased}
 use Rattle.blocks.specs.Floating.{Centred, OnGrid, middle, slant, margin, lessMargin, Margin, added, taken, greenBits, Sure}
 use Rattle.blocks.proofs.Nearby.{Counts, Bits, minus-bits}
 use Rattle.blocks.proofs.Chromas.{scaled}

@@ -8,7 +8,7 @@ use mir.Val.{toZ, ofZ}
 use mir.ValLaws.{toZ-ofZ}
 use Rattle.laws.specs.Differences.{Diff, limit}
 use Rattle.laws.proofs.Differences.{of-pos, move, plus, minus, unique, as-sum, from-sum}
-use Rattle.convert.specs.Forms.{Biased}
+use Rattle.kernels.specs.Forms.{Biased}
 use Rattle.blocks.specs.Floating.{OnGrid, Lowered, Luma}
 use Rattle.blocks.proofs.Signed.{holds}
 

@@ -13,9 +13,9 @@ use lib.Ieee.Fits.{and-l, and-r}
 use borrow.Author.Tests.{ltb-false}
 use Rattle.laws.specs.Floats.{f32, _⊕_, _⊖_, _⊗_, Close, Near}
 use Rattle.laws.proofs.Nearness.{mild-step, near-chain, value-near, add-near}
-use Rattle.convert.specs.Kernels.{centred}
-use Rattle.convert.specs.Forms.{chromaOffset, Suits, raised}
-use Rattle.convert.proofs.Channels.{red-suits, blue-suits, chroma-biased}
+use Rattle.kernels.specs.Kernels.{centred}
+use Rattle.kernels.specs.Forms.{chromaOffset, Suits, raised}
+use Rattle.kernels.proofs.Channels.{red-suits, blue-suits, chroma-biased}
 use Rattle.blocks.specs.Floating.{Centred, OnGrid, Tint, red1402, blue1772, noTie, blueTie, forRed, forBlue, middle}
 use Rattle.blocks.proofs.Nearby.{Counts, Bits, plus-bits}
 use Rattle.blocks.proofs.Chromas.{scaled}

@@ -5,7 +5,7 @@ use Prim.Native.Nat.{ℕ, _<_, _≤_}
 use lib.ListN.{getD}
 use lib.IntN.{ℤ, pos}
 use lib.Ieee.{Float, nan}
-use Rattle.convert.specs.Kernels.{exact255}
+use Rattle.kernels.specs.Kernels.{exact255}
 use Rattle.stores.specs.Stores.{entry}
 use Rattle.blocks.specs.Floating.{Centred, Chroma, Lowered, Luma}
 

@@ -5,7 +5,7 @@ use Prim.Native.Nat.{ℕ, _≤_}
 use lib.IntN.{ℤ, pos, negsuc, _-ℤ_}
 use lib.Ieee.{Float, fin, binary32, toBits}
 use Rattle.laws.specs.Floats.{f32, _⊕_, _⊖_, _⊗_}
-use Rattle.convert.specs.Forms.{Biased}
+use Rattle.kernels.specs.Forms.{Biased}
 
 -- x is the chroma c, in 256ths, less its centre
 pub record Centred (x : Float) (c : ℕ) : Type 0 where

@@ -4,7 +4,7 @@ ghost use Prim.Native.Nat.{ℕ, _<_, _≤_};
 ghost use lib.IntN.{pos};
 ghost use lib.ListN.{getD};
 ghost use lib.Ieee.{nan};
-ghost use Rattle.convert.specs.Forms.{plusChroma};
+ghost use Rattle.kernels.specs.Forms.{plusChroma};
 ghost use Rattle.blocks.specs.Floating.{Centred, Chroma, Tint, Tinted, Lowered, Luma, Sure};
 ghost use Rattle.blocks.specs.Blocks.{BlockOf, InLimits, Pixels, Greens};
 use super::limits::limit_sum;

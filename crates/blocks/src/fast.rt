@@ -1,10 +1,10 @@
 // What chroma adds to luma, at maxval 255, without a division: the block's form of the three offsets, in single precision. Chroma is a float, in 256ths less its centre.
 ghost use mathlib.Core.Path.{_≡_};
 ghost use Prim.Native.Nat.{ℕ, _≤_};
-ghost use Rattle.convert.specs.Kernels.{centred, greenOffset};
-ghost use Rattle.convert.specs.Forms.{chromaOffset, Biased};
+ghost use Rattle.kernels.specs.Kernels.{centred, greenOffset};
+ghost use Rattle.kernels.specs.Forms.{chromaOffset, Biased};
 ghost use Rattle.blocks.specs.Floating.{Centred, Chroma, Tint, Tinted, OnGrid, Margin, greenBits, Sure};
-use convert::Bias;
+use kernels::Bias;
 
 // Inner: floats far up, which are 256 apart.
 pub struct Grid;

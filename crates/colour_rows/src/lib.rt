@@ -3,22 +3,13 @@ ghost use mathlib.Core.Path.{_≡_};
 ghost use mathlib.Core.Bool.{true};
 ghost use Prim.Native.Nat.{_+_, _*_, _≤_};
 ghost use lib.ListN.{length};
-ghost use Rattle.colour_rows.specs.Colours.{colourRow};
-ghost use Rattle.colour_rows.specs.Lent.{RowLent, Blocked};
-
-mod pixels;
-mod sixteens;
-
+ghost use Rattle.colour_pixels.specs.Colours.{colourRow};
+ghost use Rattle.colour_pixels.specs.Lent.{RowLent, Blocked};
+use colour_blocks::block_row;
+use colour_pixels::YcbcrKernel;
+use colour_pixels::plain_row;
 use image::Layout;
-use pixels::plain_row;
-use sixteens::block_row;
 use stores::Block;
-
-// Which of document 01's kernels makes the colour.
-pub enum YcbcrKernel {
-    Exact,
-    FixedPoint16,
-}
 
 // Whether a row goes by blocks: it is as wide as one, and its kernel has a block.
 fn by_blocks(layout: Layout, kernel: YcbcrKernel) -> bool

@@ -1,27 +1,13 @@
-// The colour of one pixel: the kernels of the original's src/convert.rs.
+// The colour of one pixel: the single-pixel calls of the original's src/convert.rs.
 ghost use mathlib.Core.Path.{_≡_};
 ghost use mathlib.Core.List.{[], _∷_};
-ghost use Rattle.convert.specs.Pixels.{exactPixel, fixedPixel, exactTests, fixedTests};
-
-mod bytes;
-mod exact;
-mod fixed;
-mod offsets;
-
-pub use bytes::Rgb;
-pub use exact::ycbcr_frac_to_rgb8_8bit;
-pub use exact::ycbcr_frac_to_rgb8_at;
-pub use fixed::ycbcr_to_rgb8_fixed;
+ghost use Rattle.kernels.specs.Pixels.{exactPixel, fixedPixel, exactTests, fixedTests};
+use exact_kernel::ycbcr_frac_to_rgb8_8bit;
+use exact_kernel::ycbcr_frac_to_rgb8_at;
+use fixed_kernel::ycbcr_to_rgb8_fixed;
 use image::either;
 use image::outside;
-pub use offsets::Bias;
-pub use offsets::Multiplier;
-
-// A colour, or the number of a refusal.
-pub enum Pixel {
-    Rgb(u8, u8, u8),
-    Refused(u8),
-}
+pub use kernels::Pixel;
 
 // Refusal 13's test for the exact kernel.
 fn bad_exact(y: u32, cb256: u32, cr256: u32, maxval: u32) -> bool

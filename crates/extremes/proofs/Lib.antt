@@ -1,4 +1,3 @@
 -- Laws that the proofs and callers cite.
 pub mod Nines
 pub mod Wholes
-pub mod Sixteens

@@ -15,7 +15,8 @@ use Rattle.image.proofs.Pictures.{sample-small}
 use Rattle.guidance.specs.Guided.{extremeOf}
 use Rattle.guided.specs.Events.{threeN}
 use Rattle.guided.proofs.Extremes.{least-of, greatest-of}
-use Rattle.extremes.specs.Extremes.{opOf, extremeRun, extremeRow, wholeOp, wholeExtreme, threeFrom, nineFrom}
+use Rattle.extremes.specs.Extremes.{opOf, extremeRun, extremeRow, wholeExtreme}
+use Rattle.nines.specs.Nines.{wholeOp, threeFrom, nineFrom}
 use Rattle.laws.proofs.Counts.{plus-plus}
 
 -- the nine samples round a cell, as floats and as numbers

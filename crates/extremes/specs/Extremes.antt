@@ -1,14 +1,15 @@
 -- The least and greatest samples round the cells of a chroma row, as the inner functions' contracts say them. Definitions only.
 use mathlib.Core.Bool.{Bool, true, false}
 use mathlib.Core.List.{List}
-use Prim.Native.Nat.{ℕ, _+_, _*_, min, max}
+use Prim.Native.Nat.{ℕ, _+_}
 use lib.Ieee.{Float}
 use Rattle.laws.specs.Lists.{put}
 use Rattle.image.specs.declared.layout.Layout.{Layout}
-use Rattle.image.specs.Samples.{Plane, sampleOf, sampleAt}
+use Rattle.image.specs.Samples.{Plane, sampleAt}
 use Rattle.fround.specs.Rounding.{fmin, fmax}
 use Rattle.guidance.specs.Guided.{extremeOf}
 use Rattle.guided.specs.Events.{threeN}
+use Rattle.nines.specs.Nines.{wholeOp}
 
 -- the greater or the smaller of two
 abbrev pub opOf : Bool → Float → Float → Float
@@ -25,18 +26,6 @@ extremeRow l p greatest j dst s = put s dst (l .cw) (extremeOf l (opOf greatest)
 
 -- ---- in whole numbers
 
-abbrev pub wholeOp : Bool → ℕ → ℕ → ℕ
-wholeOp true = max
-wholeOp false = min
-
 -- of the three by three samples round cell i of row j, `c i j` being the samples
 unfoldable pub wholeExtreme : Layout → Bool → (ℕ → ℕ → ℕ) → ℕ → ℕ → ℕ
 wholeExtreme l greatest c j i = threeN (wholeOp greatest) (l .ch) (λ r. threeN (wholeOp greatest) (l .cw) (λ q. c q r) i) j
-
--- of three samples of a row, the first of which begins at `at`
-unfoldable pub threeFrom : Bool → ℕ → List ℕ → ℕ → ℕ
-threeFrom greatest bytes plane at = wholeOp greatest (wholeOp greatest (sampleOf bytes plane at) (sampleOf bytes plane (at + bytes))) (sampleOf bytes plane (at + 2 * bytes))
-
--- of nine, three from each of u, m and d on
-unfoldable pub nineFrom : Bool → ℕ → List ℕ → ℕ → ℕ → ℕ → ℕ
-nineFrom greatest bytes plane u m d = wholeOp greatest (wholeOp greatest (threeFrom greatest bytes plane u) (threeFrom greatest bytes plane m)) (threeFrom greatest bytes plane d)

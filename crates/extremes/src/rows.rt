@@ -5,11 +5,12 @@ ghost use lib.ListN.{length};
 ghost use Rattle.image.specs.Samples.{Plane, sampleAt};
 ghost use Rattle.guided.specs.Events.{threeN};
 ghost use Rattle.places.specs.Lent.{ChromaCells};
-ghost use Rattle.extremes.specs.Extremes.{extremeRun, extremeRow, wholeOp, wholeExtreme};
-use super::inner::byte_run;
-use super::inner::pick_word;
-use super::inner::word_run;
+ghost use Rattle.extremes.specs.Extremes.{extremeRun, extremeRow, wholeExtreme};
+ghost use Rattle.nines.specs.Nines.{wholeOp};
 use image::Layout;
+use nines::byte_run;
+use nines::pick_word;
+use nines::word_run;
 use places::whole_at;
 
 // Of the three cells across round cell i of row r.

@@ -8,10 +8,10 @@ use Rattle.laws.specs.declared.Answer.{Answer}
 use Rattle.image.specs.Samples.{Plane}
 use Rattle.image.specs.Picture.{Planes}
 use Rattle.guided.specs.declared.state.Reply.{Reply}
-use Rattle.convert.specs.declared.Pixel.{Pixel}
-use Rattle.convert.specs.declared.Pixel.the-variants as P
-use Rattle.colour_rows.specs.declared.YcbcrKernel.{YcbcrKernel}
-use Rattle.colour_rows.specs.declared.YcbcrKernel.the-variants.{Exact, FixedPoint16}
+use Rattle.kernels.specs.declared.Pixel.{Pixel}
+use Rattle.kernels.specs.declared.Pixel.the-variants as P
+use Rattle.colour_pixels.specs.declared.YcbcrKernel.{YcbcrKernel}
+use Rattle.colour_pixels.specs.declared.YcbcrKernel.the-variants.{Exact, FixedPoint16}
 use Rattle.fill_answer.specs.declared.ChromaUpsampling.{ChromaUpsampling}
 use Rattle.fill_answer.specs.declared.ChromaUpsampling.the-variants.{Linear, LumaGuided}
 use Rattle.picture.specs.declared.Outcome.{Outcome}

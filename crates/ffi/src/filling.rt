@@ -3,7 +3,7 @@ ghost use mathlib.Core.Path.{_≡_};
 ghost use Rattle.fill.specs.Fill.{FillGiven};
 ghost use Rattle.forms.specs.Forms.{asLayout};
 ghost use Rattle.ffi.specs.Calls.{Filled, lentPlanes, asUpsampling, asKernel};
-use colour_rows::YcbcrKernel;
+use colour_pixels::YcbcrKernel;
 use fill::ChromaUpsampling;
 use forms::ChromaLayout;
 use forms::ChromaStrides;

@@ -1,9 +1,9 @@
 // The colour of one pixel, for C.
 ghost use mathlib.Core.Path.{_≡_};
-ghost use Rattle.convert.specs.Pixels.{exactPixel, fixedPixel};
+ghost use Rattle.kernels.specs.Pixels.{exactPixel, fixedPixel};
 ghost use Rattle.ffi.specs.Calls.{chromaPixel};
-use convert::Pixel;
 use forms::ChromaPixel;
+use kernels::Pixel;
 
 fn from_pixel(p: Pixel) -> ChromaPixel
     ensures { λ r. ⌜ r ≡ chromaPixel p ⌝ }

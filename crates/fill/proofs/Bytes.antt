@@ -13,7 +13,7 @@ use Rattle.laws.specs.Refusals.{accepted}
 use Rattle.laws.proofs.Refusals.{accepted-is}
 use Rattle.laws.proofs.Rows.{row-fits}
 use Rattle.image.specs.Picture.{pictureOf}
-use Rattle.convert.specs.Kernels.{Colour}
+use Rattle.kernels.specs.Kernels.{Colour}
 use Rattle.stores.specs.Stores.{channel}
 use Rattle.stores.proofs.Puts.{length-pixels, pixels-other, before, after, pixels-channel}
 use Rattle.fill_answer.specs.Tests.{FillCall}

@@ -15,11 +15,11 @@ use Rattle.image.specs.Picture.{Cb, Cr, Planes, pictureOf}
 use Rattle.image.proofs.Pictures.{inside-is}
 use Rattle.image.specs.Scratch.{scratchNeed}
 use Rattle.guided.specs.Scratch.{finishedAt}
-use Rattle.convert.specs.Kernels.{Colour}
+use Rattle.kernels.specs.Kernels.{Colour}
 use Rattle.stores.specs.Stores.{pixels}
 use Rattle.stores.proofs.Puts.{length-pixels, pixels-same}
-use Rattle.colour_rows.specs.declared.YcbcrKernel.{YcbcrKernel}
-use Rattle.colour_rows.specs.Colours.{rowColour, colourRow}
+use Rattle.colour_pixels.specs.declared.YcbcrKernel.{YcbcrKernel}
+use Rattle.colour_pixels.specs.Colours.{rowColour, colourRow}
 use Rattle.fill_answer.specs.declared.ChromaUpsampling.{ChromaUpsampling}
 use Rattle.fill.specs.Fill.{fillColour, pixelRows}
 use Rattle.fill.specs.Steps.{fillStep, FillLent}

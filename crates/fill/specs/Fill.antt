@@ -11,10 +11,10 @@ use Rattle.image.specs.Picture.{Chroma, Cb, Cr, Picture, Planes, pictureOf}
 use Rattle.resample.specs.Linear.{linearSample, linearRow}
 use Rattle.guidance.specs.Guided.{guidedSample}
 use Rattle.guided_rows.specs.Rows.{guidedRows}
-use Rattle.convert.specs.Kernels.{Colour}
+use Rattle.kernels.specs.Kernels.{Colour}
 use Rattle.stores.specs.Stores.{pixels}
-use Rattle.colour_rows.specs.declared.YcbcrKernel.{YcbcrKernel}
-use Rattle.colour_rows.specs.Colours.{colourBy}
+use Rattle.colour_pixels.specs.declared.YcbcrKernel.{YcbcrKernel}
+use Rattle.colour_pixels.specs.Colours.{colourBy}
 use Rattle.fill_answer.specs.Tests.{FillCall, fillTests}
 use Rattle.fill_answer.specs.declared.ChromaUpsampling.{ChromaUpsampling}
 use Rattle.fill_answer.specs.declared.ChromaUpsampling.the-variants.{Linear, LumaGuided}

@@ -3,7 +3,7 @@ ghost use Rattle.fill.specs.Fill.{FillGiven};
 
 mod rows;
 
-use colour_rows::YcbcrKernel;
+use colour_pixels::YcbcrKernel;
 pub use fill_answer::ChromaUpsampling;
 use fill_answer::fill_answer;
 use image::Layout;

@@ -7,11 +7,11 @@ ghost use Rattle.image.specs.Picture.{pictureOf};
 ghost use Rattle.resample.specs.Linear.{linearRow, Ready};
 ghost use Rattle.image.specs.Scratch.{scratchNeed};
 ghost use Rattle.places.specs.Lent.{Lent};
-ghost use Rattle.colour_rows.specs.Colours.{colourRow};
+ghost use Rattle.colour_pixels.specs.Colours.{colourRow};
 ghost use Rattle.fill.specs.Fill.{fillColour, pixelRows, fillScratch};
 ghost use Rattle.fill.specs.Steps.{fillStep, FillLent};
 use crate::ChromaUpsampling;
-use colour_rows::YcbcrKernel;
+use colour_pixels::YcbcrKernel;
 use image::Layout;
 
 // A row of linear chroma into scratch: Cb's at 0, Cr's at w.

@@ -10,8 +10,8 @@ use Rattle.image.specs.declared.layout.Layout.{Layout}
 use Rattle.image.specs.Tests.{outsideOf, layoutTests}
 use Rattle.image.specs.Picture.{Planes, badPlanes}
 use Rattle.image.specs.Scratch.{scratchNeed}
-use Rattle.colour_rows.specs.declared.YcbcrKernel.{YcbcrKernel}
-use Rattle.colour_rows.specs.declared.YcbcrKernel.the-variants.{Exact, FixedPoint16}
+use Rattle.colour_pixels.specs.declared.YcbcrKernel.{YcbcrKernel}
+use Rattle.colour_pixels.specs.declared.YcbcrKernel.the-variants.{Exact, FixedPoint16}
 use Rattle.fill_answer.specs.declared.ChromaUpsampling.{ChromaUpsampling}
 
 -- what a fill is handed

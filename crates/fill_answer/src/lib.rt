@@ -2,7 +2,7 @@
 ghost use mathlib.Core.Path.{_≡_};
 ghost use Rattle.laws.specs.Refusals.{first};
 ghost use Rattle.fill_answer.specs.Tests.{isFixed, fillTests};
-use colour_rows::YcbcrKernel;
+use colour_pixels::YcbcrKernel;
 use image::Layout;
 use laws::Answer;
 

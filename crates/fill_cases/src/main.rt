@@ -3,9 +3,9 @@
 // w h rh rv cw ch sample_bytes maxval(2) y_stride cb_stride cr_stride y_len cb_len cr_len seed y_shape cb_shape cr_shape
 // kernel size space(2) room. A pixel's: y(2) cb(2) cr(2) maxval(2), sixteen of 0.
 ghost use Prim.Native.Nat.{_<_};
-use colour_rows::YcbcrKernel;
-use convert::Pixel;
+use colour_pixels::YcbcrKernel;
 use fill::ChromaUpsampling;
+use kernels::Pixel;
 use libc::STDIN_FILENO;
 
 // Scratch as no call leaves it.

@@ -3,9 +3,9 @@ use mathlib.Core.Path.{_≡_, sym, _∙_}
 use Prim.Native.Nat.{ℕ, _+_, _*_, _-_, _/_, _≤_, min}
 use native.Mathlib.Omega.{arith}
 use lib.Dec.{lit<}
-use Rattle.convert.specs.Kernels.{fixed255}
-use Rattle.convert.specs.Forms.{plusFixed}
-use Rattle.convert.proofs.FixedPoint.{plus-fixed, fixed-green}
+use Rattle.kernels.specs.Kernels.{fixed255}
+use Rattle.kernels.specs.Forms.{plusFixed}
+use Rattle.kernels.proofs.FixedPoint.{plus-fixed, fixed-green}
 
 pub red-byte : (y c : ℕ) → min (y + (c + (26345 * c + 2944) / 65536) - 179) 255 ≡ plusFixed 91881 y c
 red-byte y c = let e = plus-fixed 91881 180 y c (lit< tt) in omega arith

@@ -4,8 +4,8 @@
 ghost use mathlib.Core.Path.{_≡_};
 ghost use Prim.Native.Nat.{ℕ, _+_, _-_, _<_, _≤_, min};
 ghost use lib.ListN.{getD};
-ghost use Rattle.convert.specs.Kernels.{fixed255};
-ghost use Rattle.convert.specs.Forms.{plusFixed};
+ghost use Rattle.kernels.specs.Kernels.{fixed255};
+ghost use Rattle.kernels.specs.Forms.{plusFixed};
 ghost use Rattle.stores.specs.Stores.{blockPixel};
 use stores::Block;
 

@@ -7,7 +7,7 @@ use Prim.Native.Nat.{ℕ, _+_, _*_, _%_, _≤_, _<_}
 use native.Mathlib.Nat.{le-trans}
 use native.Mathlib.Omega.{arith}
 use native.Mathlib.Decide.{decLt}
-use lib.Dec.{T, leb, leb→le}
+use lib.Dec.{T, leb, leb→le, lit≤}
 use lib.ListN.{length, getD}
 use lib.Ieee.{Float, nan}
 use Rattle.laws.specs.Lists.{put}
@@ -16,7 +16,7 @@ use Rattle.laws.proofs.Rows.{row-fits}
 use Rattle.image.specs.declared.layout.Layout.{Layout}
 use Rattle.image.specs.Picture.{Chroma, Cb, Cr}
 use Rattle.image.specs.Scratch.{scratchNeed, cellAt}
-use Rattle.guided.specs.Scratch.{finishedAt, detailAt, pitch, bufferAt, slotAt, columnAt}
+use Rattle.guided.specs.Scratch.{finishedAt, detailAt, pitch, bufferAt, slotAt, firstOf, columnAt}
 
 -- ---- the places
 
@@ -28,6 +28,11 @@ pitch-room cw = go (leb 256 cw) (leb→le 256 cw)
     go : (b : Bool) → (T b → 256 ≤ cw) → (cw ≤ cond b (cw + 48) cw) × (50 * cond b (cw + 48) cw ≤ 64 * cw)
     go true h = let k : 256 ≤ cw = h tt in (omega arith, omega arith)
     go false h = (omega arith, omega arith)
+
+-- a component's first buffer has number 3 or 9
+pub first-few : (k : Chroma) → (3 ≤ firstOf k) × (firstOf k ≤ 9)
+first-few Cb = (lit≤ tt, lit≤ tt)
+first-few Cr = (lit≤ tt, lit≤ tt)
 
 -- a buffer ends before the next begins
 pub buffers-apart : (l : Layout) (m n : ℕ) → m < n → bufferAt l m + l .cw ≤ bufferAt l n

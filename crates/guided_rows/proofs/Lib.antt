@@ -1,4 +1,3 @@
--- Laws of a row's steps and of the loops. GuidedRows is what callers cite of rows one after another.
-pub mod RowSteps
+-- Laws of the loops. GuidedRows is what callers cite of rows one after another.
 pub mod Catching
 pub mod GuidedRows

@@ -1,6 +1,4 @@
 // Guided rows over scratch: the chroma rows that a picture row needs, caught up with, and the row itself.
-mod finish;
-mod row;
 mod steps;
 
 pub use steps::catch_up;

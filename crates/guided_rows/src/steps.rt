@@ -9,10 +9,10 @@ ghost use Rattle.guided.specs.Calls.{doneF};
 ghost use Rattle.guided.specs.Scratch.{hsteps, fsteps, rowSteps};
 ghost use Rattle.places.specs.Lent.{Lent, components};
 ghost use Rattle.guided_rows.specs.Rows.{beforeH, beforeF, guidedStep};
-use super::finish::finish;
-use super::row::guided_row;
+use down_rows::finish;
 use image::Layout;
 use state::Counters;
+use window_rows::guided_row;
 
 // The chroma rows from, .. to - 1 across.
 fn across_rows(

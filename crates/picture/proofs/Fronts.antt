@@ -9,7 +9,7 @@ use Rattle.laws.specs.Lists.{put, table}
 use Rattle.laws.proofs.Lists.{length-put, put-after, take-put, length-table, table-at}
 use Rattle.image.specs.declared.layout.Layout.{Layout}
 use Rattle.image.specs.Picture.{Picture, pictureOf}
-use Rattle.colour_rows.specs.declared.YcbcrKernel.the-variants.{Exact}
+use Rattle.colour_pixels.specs.declared.YcbcrKernel.the-variants.{Exact}
 use Rattle.fill_answer.specs.declared.ChromaUpsampling.the-variants.{LumaGuided}
 use Rattle.fill.specs.Fill.{fillColour, pixelRows}
 use Rattle.lines.specs.declared.lines.Line.{Line}

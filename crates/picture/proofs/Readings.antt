@@ -18,7 +18,7 @@ use Rattle.image.specs.Picture.{Planes, shortPlane, badPlanes, Picture, picture
 use Rattle.image.specs.Tests.{badPlane, layoutTests, Sound}
 use Rattle.image.proofs.Layouts.{sound}
 use Rattle.image.specs.Scratch.{scratchNeed}
-use Rattle.colour_rows.specs.declared.YcbcrKernel.the-variants.{Exact}
+use Rattle.colour_pixels.specs.declared.YcbcrKernel.the-variants.{Exact}
 use Rattle.fill_answer.specs.declared.ChromaUpsampling.the-variants.{LumaGuided}
 use Rattle.fill_answer.specs.Tests.{fillTests}
 use Rattle.fill.specs.Fill.{FillGiven, fillColour, fillScratch, pixelRows}

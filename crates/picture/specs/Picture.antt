@@ -12,7 +12,7 @@ use Rattle.laws.specs.Refusals.{Test, first}
 use Rattle.image.specs.declared.layout.Layout.{Layout}
 use Rattle.image.specs.Picture.{Picture, Planes, pictureOf}
 use Rattle.image.specs.Scratch.{scratchNeed}
-use Rattle.colour_rows.specs.declared.YcbcrKernel.the-variants.{Exact}
+use Rattle.colour_pixels.specs.declared.YcbcrKernel.the-variants.{Exact}
 use Rattle.fill_answer.specs.declared.ChromaUpsampling.the-variants.{LumaGuided}
 use Rattle.fill.specs.Fill.{fillColour, pixelRows, fillScratch}
 use Rattle.pgm.specs.Images.{rowsAt}

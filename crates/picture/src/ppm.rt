@@ -9,7 +9,7 @@ ghost use Rattle.netpbm.specs.Reading.{readingOf};
 ghost use Rattle.lines.specs.Lines.{ppmHeader};
 ghost use Rattle.lines.specs.Texts.{lineOf};
 ghost use Rattle.picture.specs.Picture.{planesOf, inputPicture, ppmLength, ppmOver};
-use colour_rows::YcbcrKernel;
+use colour_pixels::YcbcrKernel;
 use fill::ChromaUpsampling;
 use image::Layout;
 use lines::Line;

@@ -3,7 +3,7 @@ ghost use Rattle.guided.specs.Calls.{RowGiven};
 use guided::Reader;
 use guided::Reply;
 use guided_rows::row_steps;
-use row_parts::copy_rows;
+use row_copies::copy_rows;
 use row_parts::row_answer;
 use row_parts::rowed_state;
 

@@ -1,5 +1,5 @@
 // The public crate: document 01's calls and their types, and nothing else.
-pub use colour_rows::YcbcrKernel;
+pub use colour_pixels::YcbcrKernel;
 pub use convert::Pixel;
 pub use convert::ycbcr_frac_to_rgb8;
 pub use convert::ycbcr_to_rgb8_fixed16;

@@ -9,7 +9,7 @@ use Rattle.laws.specs.Floats.{f32, Near}
 use Rattle.laws.proofs.Nearness.{Mild, Part, Step, mild-step, add-near, sub-near, mul-near, whole-near, near-widen, near-aim}
 use Rattle.taps.specs.Taps.{Spot, lerpOf, fractionOf, tapOn}
 use Rattle.resample.specs.Linear.{downBy}
-use Rattle.linear_rows.specs.Rows.{acrossBy}
+use Rattle.linear_across.specs.Rows.{acrossBy}
 use Rattle.resample.specs.Bound.{mix, exactNum, exactDen}
 use Rattle.taps.proofs.Spots.{Valid}
 use Rattle.taps.proofs.Table.{tap-fraction}

@@ -23,9 +23,9 @@ use Rattle.fround.specs.Rounding.{roundClamped}
 use Rattle.taps.specs.declared.taps.Tap.{Tap}
 use Rattle.taps.specs.Taps.{tapOf, TapGiven}
 use Rattle.resample.specs.Linear.{downBy, linearDown, linearSample, linearRow, linearScratch, columnAt, linearTests, Ready}
-use Rattle.linear_rows.specs.Rows.{acrossBy}
 use Rattle.image.specs.Scratch.{scratchNeed, cellAt}
-use Rattle.linear_rows.specs.Rows.{downRun, acrossRun}
+use Rattle.linear_down.specs.Down.{downRun}
+use Rattle.linear_across.specs.Rows.{acrossBy, acrossRun}
 use Rattle.resample.specs.Stores.{storeRun}
 use Rattle.taps.proofs.Spots.{tap-given}
 use Rattle.laws.proofs.Counts.{none-plus, plus-none}

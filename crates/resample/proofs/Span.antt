@@ -16,7 +16,7 @@ use Rattle.laws.specs.Floats.{f32}
 use Rattle.laws.proofs.Values.{whole-value}
 use Rattle.taps.specs.Taps.{Spot, lerpOf, fractionOf, tapOn}
 use Rattle.resample.specs.Linear.{downBy}
-use Rattle.linear_rows.specs.Rows.{acrossBy}
+use Rattle.linear_across.specs.Rows.{acrossBy}
 use Rattle.resample.specs.Bound.{Spanned}
 use Rattle.taps.proofs.Spots.{Valid}
 use Rattle.taps.proofs.Table.{Fraction, tap-fraction}

@@ -18,7 +18,7 @@ use Rattle.image.specs.Scratch.{scratchNeed}
 use Rattle.fround.specs.Rounding.{roundClamped}
 use Rattle.taps.specs.declared.taps.Tap.{Tap}
 use Rattle.taps.specs.Taps.{lerpOf, tapOf}
-use Rattle.linear_rows.specs.Rows.{acrossBy}
+use Rattle.linear_across.specs.Rows.{acrossBy}
 
 -- the cells of a column lerped down by a tap
 abbrev pub downBy : Tap → (ℕ → ℕ → ℕ) → ℕ → Float

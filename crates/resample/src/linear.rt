@@ -8,8 +8,8 @@ ghost use Rattle.resample.specs.Linear.{linearTests, linearRow, linearPl
 use super::store::store_row;
 use image::Layout;
 use laws::Answer;
-use linear_rows::across_row;
-use linear_rows::down_row;
+use linear_across::across_row;
+use linear_down::down_row;
 use taps::tap_at;
 
 // Inner: row y of a chroma plane, to scratch from dst on: the cells down into the column buffer behind the two finished rows, then across.

@@ -1,3 +1,4 @@
 -- Laws of stored pixels, which callers cite.
 pub mod Puts
 pub mod Packed
+pub mod Stored

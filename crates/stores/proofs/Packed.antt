@@ -9,7 +9,7 @@ use native.Mathlib.Omega.{arith}
 use lib.Bits.{bitAnd, and-mask}
 use lib.ListN.{length, getD, set, length-set}
 use lib.Seq.{getD-set-same, getD-set-other, set-getD}
-use Rattle.convert.specs.Kernels.{Colour, rgb}
+use Rattle.kernels.specs.Kernels.{Colour, rgb}
 use Rattle.stores.specs.Stores.{pixel, pixels, Word}
 use Rattle.stores.proofs.Puts.{pixels-more, fourth}
 

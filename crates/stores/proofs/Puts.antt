@@ -8,7 +8,7 @@ use native.Mathlib.Numerals.{add-one}
 use native.Mathlib.Omega.{arith}
 use lib.ListN.{length, getD, set, length-set}
 use lib.Seq.{getD-set-same, getD-set-other}
-use Rattle.convert.specs.Kernels.{Colour}
+use Rattle.kernels.specs.Kernels.{Colour}
 use Rattle.stores.specs.Stores.{pixel, pixels, channel}
 
 -- ---- one pixel

@@ -3,7 +3,7 @@ use mathlib.Core.Path.{_≡_}
 use mathlib.Core.List.{List, []}
 use Prim.Native.Nat.{ℕ, zero, suc, _+_, _*_, _<_}
 use lib.ListN.{getD, set}
-use Rattle.convert.specs.Kernels.{Colour, rgb}
+use Rattle.kernels.specs.Kernels.{Colour, rgb}
 
 -- entry k of row n
 abbrev pub entry : List (List ℕ) → ℕ → ℕ → ℕ

@@ -3,7 +3,7 @@ ghost use mathlib.Core.Path.{_≡_};
 ghost use Prim.Native.Nat.{_+_, _*_, _≤_};
 ghost use lib.ListN.{length};
 ghost use Rattle.stores.specs.Stores.{pixel, pixels, blockPixel};
-ghost use Rattle.convert.specs.Kernels.{rgb};
+ghost use Rattle.kernels.specs.Kernels.{rgb};
 
 // A block of pixels.
 pub struct Block;

@@ -3,7 +3,7 @@ ghost use mathlib.Core.Path.{_≡_};
 ghost use Prim.Native.Nat.{ℕ, _+_, _*_, _/_, _%_, _<_, _≤_};
 ghost use lib.ListN.{length, getD, set};
 ghost use Rattle.stores.specs.Stores.{pixel, pixels, blockPixel, Word};
-ghost use Rattle.convert.specs.Kernels.{rgb};
+ghost use Rattle.kernels.specs.Kernels.{rgb};
 use crate::store::Block;
 
 // Four bytes as a word, the first the lowest.

@@ -1,8 +1,6 @@
-// One row of triangular chroma upsampling across, and the weights that all rows have: of the original's src/jpeg/upsample.rs.
-mod across;
+// The weights of triangular chroma upsampling, which all rows have: of the original's src/jpeg/upsample.rs.
 mod weights;
 
-pub use across::across_row;
 pub use axes::both_axes;
 pub use axes::one_axis;
 pub use weights::byte_sum;

@@ -1,7 +1,5 @@
 // Triangular chroma upsampling of a whole plane: the original's src/jpeg/upsample.rs.
 mod answer;
-mod both;
-mod down;
 
 ghost use mathlib.Core.Path.{_≡_};
 ghost use Prim.Native.Nat.{_*_, _<_};
@@ -25,17 +23,17 @@ fn triangular_row(layout: Layout, plane: &[u8], stride: usize, y: usize, out: &m
     let w = layout.w;
     let at = y * w;
     if layout.rv == 1 {
-        triangle::across_row(plane, bytes, y * stride, cw, w, out, at);
+        triangle_across::across_row(plane, bytes, y * stride, cw, w, out, at);
         return;
     }
     let near = y / 2 * stride;
     let far = triangle::far(y, layout.ch) * stride;
     if layout.rh == 1 {
         let bias = triangle::one_axis_bias(y);
-        down::down_row(plane, bytes, near, far, bias, w, out, at);
+        triangle_down::down_row(plane, bytes, near, far, bias, w, out, at);
         return;
     }
-    both::both_row(plane, bytes, near, far, cw, w, out, at);
+    triangle_down::both_row(plane, bytes, near, far, cw, w, out, at);
 }
 
 // All rows of an accepted call.

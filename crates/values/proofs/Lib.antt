@@ -1,4 +1,3 @@
 -- Laws that the proofs and callers cite.
-pub mod Values
 pub mod Cells
-pub mod Twos
+pub mod ValuePairs

@@ -6,44 +6,16 @@ ghost use Rattle.image.specs.Tests.{Sound};
 ghost use Rattle.image.specs.Scratch.{scratchNeed};
 ghost use Rattle.guided.specs.Calls.{phasesOf};
 ghost use Rattle.places.specs.Lent.{chromaOf};
-ghost use Rattle.values.specs.Values.{BandsInside, valueAt, valueRun, valueRow};
-use super::bands::Bands;
-use super::bands::bands_of;
-use super::bands::finished_at;
-use super::bands::limited;
-use super::blocks::value_twos;
+ghost use Rattle.value_runs.specs.Values.{BandsInside, valueAt, valueRun, valueRow};
+use super::twos::value_twos;
 use image::Layout;
-use lerps::across_pixel;
 use lerps::cell_at;
 use taps::Phase;
-
-// A component's value in column x: its cells and slopes lerped across, the detail between them, raised to the least and lowered to the greatest of its cell.
-fn value_at(layout: Layout, s: &[f32], t: Bands, x: usize) -> f32
-    requires { ⌜ Sound layout × (x < layout .w) × BandsInside t (3 * layout .w) (layout .cw) (length (now s)) ⌝ }
-    ensures { λ r. ⌜ r ≡ valueAt layout (now (s .entry)) t x ⌝ }
-{
-    let c = across_pixel(layout, s, t.cells, x);
-    let a = across_pixel(layout, s, t.slopes, x);
-    let i = x / layout.rh;
-    let lo = t.least;
-    let hi = t.greatest;
-    let d = s[2 * layout.w + x];
-    limited(c + a * d, s[lo + i], s[hi + i])
-}
-
-// Inner: a component's values in n columns, from column `from` on.
-pub fn value_run(layout: Layout, s: &mut [f32], t: Bands, dst: usize, from: usize, n: usize)
-    requires { ⌜ Sound layout × BandsInside t (3 * layout .w) (layout .cw) (length (now s)) ⌝ }
-    requires { ⌜ (from + n ≤ layout .w) × (dst ≤ layout .w) ⌝ }
-    ensures { λ _. ⌜ now (s .exit) ≡ valueRun layout t dst from n (now (s .entry)) ⌝ }
-{
-    let mut i = 0;
-    while i < n {
-        let v = value_at(layout, s, t, from + i);
-        s[dst + from + i] = v;
-        i += 1;
-    }
-}
+use value_runs::Bands;
+use value_runs::bands_of;
+use value_runs::finished_at;
+use value_runs::limited;
+use value_runs::value_run;
 
 // A component's values in the pixels of cell i: no edge is met.
 fn value_cell(layout: Layout, phases: [Phase; 4], s: &mut [f32], t: Bands, dst: usize, i: usize)

@@ -1,5 +1,5 @@
 use borrow.Author.Needs.{needs}
-use Rattle.convert.specs.Pixels.{exactTests}
+use Rattle.kernels.specs.Pixels.{exactTests}
 use Rattle.convert.proofs.bad_exact.Statement.{statement}
 use Rattle.convert.proofs.bad_exact.Tie as tie
 

@@ -1,5 +1,5 @@
 use borrow.Author.Needs.{needs}
-use Rattle.convert.specs.Pixels.{fixedTests}
+use Rattle.kernels.specs.Pixels.{fixedTests}
 use Rattle.convert.proofs.bad_fixed.Statement.{statement}
 use Rattle.convert.proofs.bad_fixed.Tie as tie
 

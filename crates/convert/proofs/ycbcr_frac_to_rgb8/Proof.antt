@@ -2,8 +2,8 @@ use mathlib.Core.Path.{refl, sym}
 use borrow.Author.Tests.{eq-eqb, ne-eqb}
 use borrow.Author.Needs.{needs}
 use Rattle.laws.specs.Refusals.{first}
-use Rattle.convert.specs.Pixels.{exactPixel, exactColour}
-use Rattle.convert.proofs.Colours.{exact-passed}
+use Rattle.kernels.specs.Pixels.{exactPixel, exactColour}
+use Rattle.kernels.proofs.Colours.{exact-passed}
 use Rattle.convert.proofs.ycbcr_frac_to_rgb8.Statement.{statement}
 use Rattle.convert.proofs.ycbcr_frac_to_rgb8.Tie as tie
 

@@ -1,8 +1,8 @@
 use mathlib.Core.Path.{refl, sym}
 use borrow.Author.Needs.{needs}
 use Rattle.laws.specs.Refusals.{first}
-use Rattle.convert.specs.Pixels.{fixedPixel}
-use Rattle.convert.proofs.Colours.{fixed-passed}
+use Rattle.kernels.specs.Pixels.{fixedPixel}
+use Rattle.kernels.proofs.Colours.{fixed-passed}
 use Rattle.convert.proofs.ycbcr_to_rgb8_fixed16.Statement.{statement}
 use Rattle.convert.proofs.ycbcr_to_rgb8_fixed16.Tie as tie
 

@@ -6,7 +6,7 @@ use lib.IntN.{pos}
 use lib.Ieee.{nan}
 use Rattle.blocks.specs.Floating.{Centred, Tint, Lowered}
 use Rattle.stores.proofs.Packed.{Filled, filled-none, filled-more}
-use Rattle.convert.specs.Forms.{plusChroma}
+use Rattle.kernels.specs.Forms.{plusChroma}
 use Rattle.blocks.proofs.Lumas.{lowered-held, luma-held, byte-is}
 use Rattle.blocks.proofs.block.chroma_row.Statement.{statement}
 use Rattle.blocks.proofs.block.chroma_row.Tie as tie

@@ -6,7 +6,7 @@ use lib.IntN.{pos}
 use lib.Ieee.{nan}
 use Rattle.blocks.specs.Floating.{Centred, Lowered}
 use Rattle.stores.proofs.Packed.{Filled, filled-none, filled-more}
-use Rattle.convert.specs.Kernels.{exact255}
+use Rattle.kernels.specs.Kernels.{exact255}
 use Rattle.blocks.proofs.Lumas.{lowered-held, luma-held, byte-is}
 use Rattle.blocks.proofs.block.green_row.Statement.{statement}
 use Rattle.blocks.proofs.block.green_row.Tie as tie

@@ -2,8 +2,8 @@ use Prim.Native.Nat.{ℕ, _<_}
 use lib.IntN.{pos}
 use lib.ListN.{getD}
 use lib.Ieee.{ofBits, neg}
-use Rattle.convert.specs.Kernels.{redOffset, blueOffset, exact255}
-use Rattle.convert.specs.Forms.{chromaOffset, plusChroma}
+use Rattle.kernels.specs.Kernels.{redOffset, blueOffset, exact255}
+use Rattle.kernels.specs.Forms.{chromaOffset, plusChroma}
 use Rattle.blocks.specs.Floating.{forRed, forBlue, Luma}
 use Rattle.blocks.proofs.block.rgb_block.Statement.{statement}
 use Rattle.blocks.proofs.block.rgb_block.Tie as tie

@@ -1,7 +1,7 @@
 use mathlib.Core.Path.{sym, subst}
 use borrow.Author.Needs.{needs}
 use lib.Ieee.{ofBits}
-use Rattle.convert.specs.Kernels.{centred, greenOffset}
+use Rattle.kernels.specs.Kernels.{centred, greenOffset}
 use Rattle.blocks.specs.Floating.{OnGrid, added}
 use Rattle.blocks.proofs.Greens.{green-sure}
 use Rattle.blocks.proofs.fast.green_by.Statement.{statement}

@@ -2,8 +2,8 @@ use mathlib.Core.Path.{subst}
 use native.Mathlib.Omega.{arith}
 use borrow.Author.Needs.{needs}
 use Prim.Native.Nat.{ℕ}
-use Rattle.convert.specs.Kernels.{centred, greenOffset}
-use Rattle.convert.specs.Forms.{Biased}
+use Rattle.kernels.specs.Kernels.{centred, greenOffset}
+use Rattle.kernels.specs.Forms.{Biased}
 use Rattle.blocks.proofs.Lumas.{on-grid-from}
 use Rattle.blocks.proofs.fast.green_offset.Statement.{statement}
 use Rattle.blocks.proofs.fast.green_offset.Tie as tie

@@ -1,5 +1,5 @@
 use borrow.Author.Needs.{needs}
-use Rattle.convert.proofs.Channels.{green-biased}
+use Rattle.kernels.proofs.Channels.{green-biased}
 use Rattle.blocks.proofs.Offsets.{green-fast}
 use Rattle.blocks.proofs.fast.green_whole.Statement.{statement}
 use Rattle.blocks.proofs.fast.green_whole.Tie as tie

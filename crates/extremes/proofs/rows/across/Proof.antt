@@ -1,5 +1,5 @@
 use Rattle.extremes.proofs.Nines.{three-of}
-use Rattle.extremes.specs.Extremes.{wholeOp}
+use Rattle.nines.specs.Nines.{wholeOp}
 use Rattle.image.specs.Samples.{sampleAt}
 use borrow.Author.Needs.{needs}
 use Rattle.extremes.proofs.rows.across.Statement.{statement}

@@ -1,5 +1,6 @@
 use Rattle.extremes.proofs.Nines.{three-of}
-use Rattle.extremes.specs.Extremes.{wholeOp, wholeExtreme}
+use Rattle.extremes.specs.Extremes.{wholeExtreme}
+use Rattle.nines.specs.Nines.{wholeOp}
 use Rattle.guided.specs.Events.{threeN}
 use Rattle.image.specs.Samples.{Plane, sampleAt}
 use borrow.Author.Needs.{needs}

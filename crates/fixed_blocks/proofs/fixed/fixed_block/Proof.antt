@@ -3,9 +3,9 @@ use native.Mathlib.Omega.{arith}
 use lib.ListN.{getD}
 use Rattle.laws.proofs.Lists.{Run, run-none, front-more, front-at}
 use borrow.Author.Needs.{needs}
-use Rattle.convert.specs.Kernels.{fixed255}
-use Rattle.convert.specs.Forms.{plusFixed}
-use Rattle.convert.proofs.Colours.{colour-fixed}
+use Rattle.kernels.specs.Kernels.{fixed255}
+use Rattle.kernels.specs.Forms.{plusFixed}
+use Rattle.kernels.proofs.Colours.{colour-fixed}
 use Rattle.fixed_blocks.proofs.fixed.fixed_block.Statement.{statement}
 use Rattle.fixed_blocks.proofs.fixed.fixed_block.Tie as tie
 

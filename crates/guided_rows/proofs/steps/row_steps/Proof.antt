@@ -2,7 +2,7 @@ use Rattle.guided.specs.Calls.{doneF}
 use Rattle.image.specs.Picture.{Planes, pictureOf}
 use Rattle.places.specs.Lent.{components}
 use Rattle.guided.specs.Scratch.{fsteps, rowSteps}
-use Rattle.guided_rows.specs.Row.{windowRow}
+use Rattle.window_rows.specs.Row.{windowRow}
 use Rattle.guided.proofs.Taken.{taken}
 use Rattle.guided.proofs.Window.{length-fsteps}
 use mathlib.Core.Path.{ap, _∙_}

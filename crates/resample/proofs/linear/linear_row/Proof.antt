@@ -4,7 +4,7 @@ use Rattle.image.specs.Samples.{Plane}
 use Rattle.image.proofs.Planes.{short-holds, row-inside}
 use Rattle.resample.specs.Linear.{columnAt}
 use Rattle.image.specs.Scratch.{scratchNeed}
-use Rattle.linear_rows.specs.Rows.{acrossRun}
+use Rattle.linear_across.specs.Rows.{acrossRun}
 use Rattle.resample.proofs.LinearRows.{down-is, row-is}
 use native.Mathlib.Omega.{arith}
 use lib.ListN.{length}

@@ -1,6 +1,5 @@
 use Rattle.sums.proofs.ReadBack.{chroma-steps}
-use Rattle.sums.proofs.Statistics.{some}
-use Rattle.guided.proofs.Places.{slot-order}
+use Rattle.guided.proofs.Places.{first-few, slot-order}
 use Rattle.places.specs.Lent.{chromaOf}
 use Rattle.sums.specs.Rows.{cellsAt, productsAt, threeRow}
 use Rattle.image.proofs.Planes.{short-holds, row-inside}
@@ -20,7 +19,7 @@ row c = let l = c .args .layout in row-inside (short-holds l (l .cw) (l .ch) (re
 behind : (c : tie.After-slots-at) → c .before .before .slot-at .result + c .before .before .before .before .before .args .layout .cw ≤ c .slots-at .result .at
 behind c =
     let a = c .before .before .before .before .before .args in
-    let f = some (chromaOf (a .cr)) in
+    let f = first-few (chromaOf (a .cr)) in
     let h = slot-order (a .layout) 0 (c .before .first-of .result) (a .j) (omega arith) in
     omega arith
 

@@ -11,7 +11,7 @@ use Rattle.guided.specs.Scratch.{detailAt}
 use Rattle.fround.specs.Rounding.{fmax, fmin}
 use borrow.Author.Needs.{needs}
 use Rattle.values.proofs.Cells.{value-pixel}
-use Rattle.values.specs.Values.{valueAt, valueRun}
+use Rattle.value_runs.specs.Values.{valueAt, valueRun}
 use Rattle.values.proofs.pixels.value_cell.Tie as tie
 
 abbrev Inv-loop : tie.InvT-loop

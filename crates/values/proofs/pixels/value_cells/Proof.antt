@@ -6,8 +6,8 @@ use Rattle.values.proofs.pixels.value_cells.Statement.{statement}
 use lib.Ieee.{Float}
 use mathlib.Core.List.{List}
 use Rattle.lerps.proofs.Phases.{cells-inside, runs-whole}
-use Rattle.values.proofs.Twos.{value-runs}
-use Rattle.values.specs.Values.{valueRun}
+use Rattle.values.proofs.ValuePairs.{value-runs}
+use Rattle.value_runs.specs.Values.{valueRun}
 use Rattle.values.proofs.pixels.value_cells.Tie as tie
 
 -- the cells between the first and the last lie inside the picture

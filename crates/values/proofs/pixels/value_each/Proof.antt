@@ -2,8 +2,8 @@ use Prim.Native.Nat.{_-_, _≤_}
 use native.Mathlib.Omega.{arith}
 use Rattle.values.proofs.pixels.value_each.Statement.{statement}
 use Rattle.lerps.proofs.Phases.{Each, each-end, each-inside, each-more, each-none}
-use Rattle.values.proofs.Twos.{value-runs}
-use Rattle.values.specs.Values.{valueRun}
+use Rattle.values.proofs.ValuePairs.{value-runs}
+use Rattle.value_runs.specs.Values.{valueRun}
 use Rattle.values.proofs.pixels.value_each.Tie as tie
 
 abbrev Inv-loop : tie.InvT-loop

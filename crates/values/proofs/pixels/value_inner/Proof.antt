@@ -4,7 +4,7 @@ use native.Mathlib.Omega.{arith}
 use borrow.Author.Needs.{needs}
 use Rattle.values.proofs.pixels.value_inner.Statement.{statement}
 use Rattle.lerps.proofs.Phases.{ratio-inside, ratio-run}
-use Rattle.values.specs.Values.{valueRun}
+use Rattle.value_runs.specs.Values.{valueRun}
 use Rattle.values.proofs.pixels.value_inner.Tie as tie
 
 value-ones-requires : tie.Need-value-ones-requires

@@ -7,7 +7,7 @@ use lib.Ieee.{Float}
 use Rattle.image.specs.Scratch.{cellAt}
 use Rattle.guided.specs.Scratch.{detailAt}
 use Rattle.values.proofs.Cells.{value-one}
-use Rattle.values.specs.Values.{valueAt}
+use Rattle.value_runs.specs.Values.{valueAt}
 use Rattle.values.proofs.pixels.value_one.Tie as tie
 
 add-lerp : tie.Need-add-lerp

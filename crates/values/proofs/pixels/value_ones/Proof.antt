@@ -4,8 +4,8 @@ use native.Mathlib.Omega.{arith}
 use Rattle.values.proofs.pixels.value_ones.Statement.{statement}
 use Rattle.laws.proofs.Lists.{Run, run-after, run-end, run-more, run-none}
 use lib.Ieee.{nan}
-use Rattle.values.proofs.Values.{value-same}
-use Rattle.values.specs.Values.{valueAt, valueRun}
+use Rattle.value_runs.proofs.Values.{value-same}
+use Rattle.value_runs.specs.Values.{valueAt, valueRun}
 use Rattle.values.proofs.pixels.value_ones.Tie as tie
 
 abbrev Inv-loop : tie.InvT-loop

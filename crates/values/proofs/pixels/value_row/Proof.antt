@@ -2,7 +2,7 @@ use mathlib.Core.Path.{_∙_}
 use native.Mathlib.Omega.{arith}
 use borrow.Author.Needs.{needs}
 use Rattle.values.proofs.pixels.value_row.Statement.{statement}
-use Rattle.values.proofs.Values.{bands-inside, value-line}
+use Rattle.value_runs.proofs.Values.{bands-inside, value-line}
 use Rattle.places.specs.Lent.{chromaOf}
 use Rattle.guided.proofs.Places.{finished-place}
 use Rattle.values.proofs.pixels.value_row.Tie as tie

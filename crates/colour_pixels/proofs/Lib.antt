@@ -1,0 +1,2 @@
+-- Laws of the colour of a pixel.
+pub mod Colouring

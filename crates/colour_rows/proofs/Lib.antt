@@ -1,3 +1,0 @@
--- Laws of rows of colour.
-pub mod Stored
-pub mod Colouring

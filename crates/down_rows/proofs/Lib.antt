@@ -1,0 +1,2 @@
+-- Laws of a chroma row's steps down.
+pub mod DownSteps

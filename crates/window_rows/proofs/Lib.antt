@@ -1,0 +1,2 @@
+-- Laws of a picture row's steps.
+pub mod RowSteps
