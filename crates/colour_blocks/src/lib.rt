@@ -100,7 +100,7 @@ fn blocks4(
     while done < layout.w {
         let x = image::least(done, layout.w - Block::LEN);
         let rows = block_at(layout, kernel, plane, stride, row, s, x);
-        stores::put_words(out, at + x * 4, low, rows);
+        pixel_words::put_words(out, at + x * 4, low, rows);
         done = x + Block::LEN;
     }
 }

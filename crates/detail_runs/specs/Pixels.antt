@@ -1,12 +1,11 @@
 -- The pixels of a picture row over lent scratch, as the inner functions' contracts say them. Definitions only.
 use mathlib.Core.List.{List}
-use Prim.Native.Nat.{ℕ, _+_, _-_, _*_}
+use Prim.Native.Nat.{ℕ, _+_, _*_}
 use lib.Ieee.{Float}
 use Rattle.laws.specs.Floats.{f32}
 use Rattle.laws.specs.Lists.{put}
 use Rattle.image.specs.declared.layout.Layout.{Layout}
 use Rattle.image.specs.Samples.{Plane, sampleAt}
-use Rattle.taps.specs.declared.taps.Phase.{Phase}
 use Rattle.image.specs.Scratch.{cellAt}
 use Rattle.guidance.specs.Guided.{detailOf}
 use Rattle.guided.specs.Scratch.{detailAt, columnAt}

@@ -1,15 +1,13 @@
 -- What an accepted fill may rely on.
 use mathlib.Core.Path.{_≡_}
-use mathlib.Core.Bool.{false}
-use mathlib.Core.List.{List, [], _∷_, _++_}
-use Prim.Native.Nat.{ℕ, _*_, _≤_}
-use lib.Dec.{ltb}
+use mathlib.Core.List.{_++_}
+use Prim.Native.Nat.{_*_}
 use lib.ListN.{length}
 use borrow.Author.Tests.{ltb-false}
 use Rattle.laws.specs.declared.Answer.the-variants.{Accepted}
-use Rattle.laws.specs.Refusals.{Test, first}
+use Rattle.laws.specs.Refusals.{first}
 use Rattle.laws.proofs.Refusals.{accepted-failed, failed-both}
-use Rattle.image.specs.Tests.{outsideOf, layoutTests}
+use Rattle.image.specs.Tests.{layoutTests}
 use Rattle.image.specs.Picture.{shortPlane, badPlanes}
 use Rattle.image.proofs.Layouts.{neither, sound}
 use Rattle.image.specs.Scratch.{scratchNeed}

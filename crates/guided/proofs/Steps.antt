@@ -11,7 +11,7 @@ use Rattle.laws.specs.Lists.{put}
 use Rattle.laws.proofs.Lists.{length-put}
 use Rattle.image.specs.Picture.{Chroma, Picture}
 use Rattle.image.specs.Scratch.{scratchNeed, cellAt}
-use Rattle.guidance.specs.Guided.{Across, LumaSum, SquareSum, CellSum, ProductSum, acrossVal, slopeOf, extreme, slope}
+use Rattle.guidance.specs.Guided.{Across, LumaSum, SquareSum, CellSum, ProductSum, acrossVal, slope}
 use Rattle.guided.specs.Scratch.{bufferAt, slotAt, Down, Slope, Least, Greatest, numAcross, numDown, readAcross, readDown, parts, downs, downOf, downOver, horizontal, finish}
 use Rattle.guided.proofs.Places.{buffer-other, slot-same, slot-other}
 use Rattle.guided.proofs.Congruence.{Beside, slope-cong}

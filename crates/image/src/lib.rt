@@ -1,6 +1,5 @@
-// What a picture is made of: its layout, the samples of its planes, and the tests behind refusals 2 to 5 and 7.
+// What a picture is made of: its layout, and the tests behind refusals 2 to 5.
 mod layout;
-mod plane;
 
 pub use layout::Layout;
 pub use layout::both;
@@ -9,5 +8,3 @@ pub use layout::either;
 pub use layout::least;
 pub use layout::outside;
 pub use layout::refused;
-pub use plane::bad_plane;
-pub use plane::sample;

@@ -26,8 +26,8 @@ pub fn bad_planes(
     ensures { λ r. ⌜ r ≡ badPlanes layout (record { y = record { bytes = now (y .entry); stride = «y_stride» }; cb = record { bytes = now (cb .entry); stride = «cb_stride» }; cr = record { bytes = now (cr .entry); stride = «cr_stride» } }) ⌝ }
 {
     let size = layout.sample_bytes;
-    let bad_y = image::bad_plane(size, layout.w, layout.h, y_stride, y.len());
-    let bad_cb = image::bad_plane(size, layout.cw, layout.ch, cb_stride, cb.len());
-    let bad_cr = image::bad_plane(size, layout.cw, layout.ch, cr_stride, cr.len());
+    let bad_y = plane_samples::bad_plane(size, layout.w, layout.h, y_stride, y.len());
+    let bad_cb = plane_samples::bad_plane(size, layout.cw, layout.ch, cb_stride, cb.len());
+    let bad_cr = plane_samples::bad_plane(size, layout.cw, layout.ch, cr_stride, cr.len());
     image::either(bad_y, image::either(bad_cb, bad_cr))
 }

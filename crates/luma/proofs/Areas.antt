@@ -15,7 +15,8 @@ use Rattle.image.specs.Picture.{inside}
 use Rattle.image.proofs.Planes.{short-holds, sample-inside}
 use Rattle.image.proofs.Pictures.{inside-is}
 use Rattle.guidance.specs.Guided.{sumTo, lumaOf}
-use Rattle.luma.specs.Luma.{Cells, rowSum, cellSum, quadAt, quadRun, pairAt, pairRun, lumaRun, lumaRow}
+use Rattle.luma.specs.Luma.{Cells, rowSum, cellSum, lumaRun, lumaRow}
+use Rattle.quads.specs.Quads.{quadAt, quadRun, pairAt, pairRun}
 use Rattle.laws.proofs.Counts.{plus-none, none-plus, part-rest}
 
 -- ---- a loop that sums: its invariant is `Summed`, and its steps are `sum-none`, `sum-more` and `sum-end`

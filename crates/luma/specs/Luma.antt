@@ -2,10 +2,8 @@
 use mathlib.Core.Path.{_≡_}
 use mathlib.Core.Bool.{false}
 use mathlib.Core.List.{List}
-use Prim.Native.Nat.{ℕ, _+_, _*_}
-use lib.ListN.{getD}
+use Prim.Native.Nat.{ℕ, _+_}
 use lib.Ieee.{Float}
-use Rattle.laws.specs.Floats.{f32, _⊘_}
 use Rattle.laws.specs.Lists.{put}
 use Rattle.image.specs.declared.layout.Layout.{Layout}
 use Rattle.image.specs.Tests.{Sound}
@@ -24,22 +22,6 @@ rowSum l p x y n = sumTo n (λ dx. sampleAt (l .«sample_bytes») p (x + dx) y)
 
 unfoldable pub cellSum : Layout → Plane → ℕ → ℕ → ℕ → ℕ → ℕ
 cellSum l p x y n m = sumTo m (λ dy. rowSum l p x (y + dy) n)
-
--- the mean of quad i, two by two bytes, of the rows of a plane that begin at top and bottom
-abbrev pub quadAt : List ℕ → ℕ → ℕ → ℕ → Float
-quadAt plane top bottom i =
-    f32 (getD plane (top + 2 * i) 0 + getD plane (top + (2 * i + 1)) 0 + (getD plane (bottom + 2 * i) 0 + getD plane (bottom + (2 * i + 1)) 0)) ⊘ f32 4
-
--- n of them, put at dst
-unfoldable pub quadRun : List ℕ → ℕ → ℕ → ℕ → ℕ → List Float → List Float
-quadRun plane top bottom n dst s = put s dst n (quadAt plane top bottom)
-
--- the mean of pair i of bytes of the row that begins at top, and n of them
-abbrev pub pairAt : List ℕ → ℕ → ℕ → Float
-pairAt plane top i = f32 (getD plane (top + 2 * i) 0 + getD plane (top + (2 * i + 1)) 0) ⊘ f32 2
-
-unfoldable pub pairRun : List ℕ → ℕ → ℕ → ℕ → List Float → List Float
-pairRun plane top n dst s = put s dst n (pairAt plane top)
 
 -- the luma of cells from, .. from + n - 1 of chroma row j, put at dst + from
 unfoldable pub lumaRun : Layout → Plane → ℕ → ℕ → ℕ → ℕ → List Float → List Float

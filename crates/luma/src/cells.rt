@@ -5,8 +5,10 @@ ghost use lib.ListN.{length};
 ghost use Rattle.laws.specs.Floats.{f32, _⊘_};
 ghost use Rattle.image.specs.Samples.{sampleAt};
 ghost use Rattle.guidance.specs.Guided.{lumaOf};
-ghost use Rattle.luma.specs.Luma.{Cells, rowSum, cellSum, quadRun, pairRun, lumaRun, lumaRow};
+ghost use Rattle.luma.specs.Luma.{Cells, rowSum, cellSum, lumaRun, lumaRow};
 use image::Layout;
+use quads::pairs;
+use quads::quads;
 
 // The sum of the n samples of row y from column x on.
 fn row_sum(layout: Layout, plane: &[u8], stride: usize, x: usize, y: usize, n: usize) -> u32
@@ -18,7 +20,7 @@ fn row_sum(layout: Layout, plane: &[u8], stride: usize, x: usize, y: usize, n: u
     let mut t: u32 = 0;
     let mut i = 0;
     while i < n {
-        t += image::sample(plane, bytes, y * stride + (x + i) * bytes) as u32;
+        t += plane_samples::sample(plane, bytes, y * stride + (x + i) * bytes) as u32;
         i += 1;
     }
     t
@@ -92,33 +94,6 @@ fn luma_cells(
     }
 }
 
-fn wide(x: u8) -> u16
-    ensures { λ r. ⌜ (r ≡ x) × (r < 256) ⌝ }
-{
-    x as u16
-}
-
-// A sum of four bytes divided by 4.
-fn quarter(sum: u16) -> f32
-    ensures { λ r. ⌜ r ≡ f32 sum ⊘ f32 4 ⌝ }
-{
-    sum as f32 / 4.0
-}
-
-// The means of n quads, two by two bytes each, of the rows of a plane that begin at top and bottom.
-fn quads(plane: &[u8], top: usize, bottom: usize, n: usize, s: &mut [f32], dst: usize)
-    requires { ⌜ (top + 2 * n ≤ length (now plane)) × (bottom + 2 * n ≤ length (now plane)) × (dst + n ≤ length (now s)) ⌝ }
-    ensures { λ _. ⌜ now (s .exit) ≡ quadRun (now (plane .entry)) top bottom n dst (now (s .entry)) ⌝ }
-{
-    let mut i = 0;
-    while i < n {
-        let a = wide(plane[top + 2 * i]) + wide(plane[top + (2 * i + 1)]);
-        let b = wide(plane[bottom + 2 * i]) + wide(plane[bottom + (2 * i + 1)]);
-        s[dst + i] = quarter(a + b);
-        i += 1;
-    }
-}
-
 // The cells at the row's beginning that are quads of bytes inside the picture, and how many: none at other ratios or sample bytes.
 fn luma_quads(
     layout: Layout,
@@ -148,25 +123,6 @@ fn luma_quads(
     let n = layout.w / 2;
     quads(plane, y * stride, (y + 1) * stride, n, s, dst);
     n
-}
-
-// A sum of two bytes divided by 2.
-fn half(sum: u16) -> f32
-    ensures { λ r. ⌜ r ≡ f32 sum ⊘ f32 2 ⌝ }
-{
-    sum as f32 / 2.0
-}
-
-// The means of n pairs of bytes of the row of a plane that begins at top.
-fn pairs(plane: &[u8], top: usize, n: usize, s: &mut [f32], dst: usize)
-    requires { ⌜ (top + 2 * n ≤ length (now plane)) × (dst + n ≤ length (now s)) ⌝ }
-    ensures { λ _. ⌜ now (s .exit) ≡ pairRun (now (plane .entry)) top n dst (now (s .entry)) ⌝ }
-{
-    let mut i = 0;
-    while i < n {
-        s[dst + i] = half(wide(plane[top + 2 * i]) + wide(plane[top + (2 * i + 1)]));
-        i += 1;
-    }
 }
 
 // Likewise the cells that are pairs of bytes: at vertical ratio 1, and in a last row of one pixel row.

@@ -128,9 +128,9 @@ fn word_three(plane: &[u8], greatest: bool, at: usize) -> u16
     requires { ⌜ at + 6 ≤ length (now plane) ⌝ }
     ensures { λ r. ⌜ r ≡ threeFrom greatest 2 (now (plane .entry)) at ⌝ }
 {
-    let a = image::sample(plane, 2, at);
-    let b = image::sample(plane, 2, at + 2);
-    let c = image::sample(plane, 2, at + 4);
+    let a = plane_samples::sample(plane, 2, at);
+    let b = plane_samples::sample(plane, 2, at + 2);
+    let c = plane_samples::sample(plane, 2, at + 4);
     pick_word(greatest, pick_word(greatest, a, b), c)
 }
 

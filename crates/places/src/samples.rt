@@ -22,7 +22,7 @@ pub fn whole_at(
     ensures { λ r. ⌜ r ≡ sampleAt (layout .«sample_bytes») (record { bytes = now (plane .entry); stride = stride }) x y ⌝ }
 {
     let bytes = layout.sample_bytes;
-    image::sample(plane, bytes, y * stride + x * bytes)
+    plane_samples::sample(plane, bytes, y * stride + x * bytes)
 }
 
 // Inner: the same as a float.

@@ -21,8 +21,8 @@ fn bad_pair(layout: Layout, y: &[u8], y_stride: usize, c: &[u8], c_stride: usize
     ensures { λ r. ⌜ r ≡ shortPair layout (record { bytes = now (y .entry); stride = «y_stride» }) (record { bytes = now (c .entry); stride = «c_stride» }) ⌝ }
 {
     let size = layout.sample_bytes;
-    let bad_y = image::bad_plane(size, layout.w, layout.h, y_stride, y.len());
-    let bad_c = image::bad_plane(size, layout.cw, layout.ch, c_stride, c.len());
+    let bad_y = plane_samples::bad_plane(size, layout.w, layout.h, y_stride, y.len());
+    let bad_c = plane_samples::bad_plane(size, layout.cw, layout.ch, c_stride, c.len());
     image::either(bad_y, bad_c)
 }
 

@@ -40,7 +40,7 @@ pub fn linear_answer(
     if image::refused(early) {
         return early;
     }
-    if image::bad_plane(
+    if plane_samples::bad_plane(
         layout.sample_bytes,
         layout.cw,
         layout.ch,

@@ -16,7 +16,7 @@ fn plane(n: u32) -> [u8; 4] {
 fn sample_one(n: u32, index: u32) -> u32 {
     let plane = plane(n);
     if index < 4 {
-        return image::sample(&plane, 1, index as usize) as u32;
+        return plane_samples::sample(&plane, 1, index as usize) as u32;
     }
     65_536
 }
@@ -25,7 +25,7 @@ fn sample_one(n: u32, index: u32) -> u32 {
 fn sample_two(n: u32, index: u32) -> u32 {
     let plane = plane(n);
     if index < 2 {
-        return image::sample(&plane, 2, index as usize * 2) as u32;
+        return plane_samples::sample(&plane, 2, index as usize * 2) as u32;
     }
     65_536
 }

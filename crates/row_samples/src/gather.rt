@@ -24,7 +24,7 @@ pub fn luma_at(layout: Layout, plane: &[u8], stride: usize, row: usize, x: usize
     ensures { λ r. ⌜ (r ≡ sampleAt (layout .«sample_bytes») (record { bytes = now (plane .entry); stride = stride }) x row) × (r ≤ 65535) ⌝ }
 {
     let bytes = layout.sample_bytes;
-    wide(image::sample(plane, bytes, row * stride + x * bytes))
+    wide(plane_samples::sample(plane, bytes, row * stride + x * bytes))
 }
 
 // Inner: chroma in 256ths, as maxval 255 has it.
@@ -48,7 +48,7 @@ fn bytes16(plane: &[u8], at: usize) -> [u16; Block::LEN]
 {
     let mut v = [0u16; Block::LEN];
     for k in 0..Block::LEN {
-        v[k] = image::sample(plane, 1, at + k);
+        v[k] = plane_samples::sample(plane, 1, at + k);
     }
     v
 }
@@ -60,7 +60,7 @@ fn pairs16(plane: &[u8], at: usize) -> [u16; Block::LEN]
 {
     let mut v = [0u16; Block::LEN];
     for k in 0..Block::LEN {
-        v[k] = image::sample(plane, 2, at + k * 2);
+        v[k] = plane_samples::sample(plane, 2, at + k * 2);
     }
     v
 }

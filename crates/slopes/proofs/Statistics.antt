@@ -14,7 +14,7 @@ use Rattle.slopes.specs.declared.Stats.{Stats}
 use Rattle.slopes.specs.Slopes.{slopeBy, meanAt, slopeAt, slopeRun, Inside, AllInside, Apart, ClearOf, Clear, statsOf, slopeRow}
 use lib.Dec.{lit<}
 use Rattle.image.specs.declared.layout.Layout.{Layout}
-use Rattle.image.specs.Picture.{Chroma, Cb, Cr}
+use Rattle.image.specs.Picture.{Chroma}
 use Rattle.guidance.specs.Guided.{three, mean, slopeOf, epsilon}
 use Rattle.guided.specs.Scratch.{slotAt, firstOf, Slope, numDown, readAcross}
 use Rattle.places.specs.Buffers.{windowOf}

@@ -1,5 +1,4 @@
 -- The slopes of a chroma row over lent scratch, as the inner functions' contracts say them. Definitions only.
-use mathlib.Core.Bool.{Bool}
 use mathlib.Core.Logic.{_⊎_}
 use mathlib.Core.List.{List}
 use Prim.Native.Nat.{ℕ, _+_, _≤_}
@@ -9,7 +8,7 @@ use Rattle.laws.specs.Lists.{put}
 use Rattle.fround.specs.Rounding.{fmax}
 use Rattle.image.specs.Scratch.{cellAt}
 use Rattle.image.specs.declared.layout.Layout.{Layout}
-use Rattle.image.specs.Picture.{Chroma, Cb, Cr}
+use Rattle.image.specs.Picture.{Chroma}
 use Rattle.guidance.specs.Guided.{LumaSum, SquareSum, CellSum, ProductSum, slopeOf}
 use Rattle.guided.specs.Scratch.{slotAt, Slope, numAcross, numDown, readAcross}
 use Rattle.places.specs.Buffers.{windowOf}

@@ -1,4 +1,3 @@
 -- Laws of stored pixels, which callers cite.
 pub mod Puts
-pub mod Packed
 pub mod Stored

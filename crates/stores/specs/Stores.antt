@@ -1,7 +1,6 @@
 -- What a slice holds after pixels were stored. "A pixel has 3 or 4 bytes. The fourth keeps what it held." Definitions only.
-use mathlib.Core.Path.{_≡_}
 use mathlib.Core.List.{List, []}
-use Prim.Native.Nat.{ℕ, zero, suc, _+_, _*_, _<_}
+use Prim.Native.Nat.{ℕ, zero, suc, _+_, _*_}
 use lib.ListN.{getD, set}
 use Rattle.kernels.specs.Kernels.{Colour, rgb}
 
@@ -27,11 +26,3 @@ channel c (suc (suc n)) = c .blue
 -- pixel k of a block's three rows
 abbrev pub blockPixel : List (List ℕ) → ℕ → Colour
 blockPixel rows k = rgb (entry rows 0 k) (entry rows 1 k) (entry rows 2 k)
-
--- w has the bytes of a colour and a fourth one
-pub record Word (w : ℕ) (c : Colour) (fourth : ℕ) : Type 0 where
-  pub is : w ≡ c .red + 256 * c .green + 65536 * c .blue + 16777216 * fourth
-  pub red : c .red < 256
-  pub green : c .green < 256
-  pub blue : c .blue < 256
-  pub last : fourth < 256

@@ -1,8 +1,6 @@
-// Pixels stored into a slice: one, and a block of sixteen as bytes or as words.
+// Pixels stored into a slice: one, and a block of sixteen.
 mod store;
-mod words;
 
 pub use store::Block;
 pub use store::put_block;
 pub use store::put_pixel;
-pub use words::put_words;

@@ -1,15 +1,12 @@
 -- The steps of a chroma row over lent scratch, as the inner functions' contracts say them. Definitions only.
 use mathlib.Core.Path.{_≡_}
-use mathlib.Core.Bool.{Bool}
 use mathlib.Core.List.{List}
 use Prim.Native.Nat.{ℕ, _+_, _≤_}
 use lib.Ieee.{Float}
 use Rattle.laws.specs.Floats.{f32, _⊕_, _⊗_}
 use Rattle.laws.specs.Lists.{put}
 use Rattle.image.specs.declared.layout.Layout.{Layout}
-use Rattle.image.specs.Tests.{Sound}
-use Rattle.image.specs.Samples.{Plane}
-use Rattle.image.specs.Picture.{Chroma, Cb, Cr, Planes}
+use Rattle.image.specs.Picture.{Chroma}
 use Rattle.image.specs.Scratch.{scratchNeed, cellAt}
 use Rattle.guidance.specs.Guided.{three, lumaOf}
 use Rattle.guided.specs.Scratch.{slotAt, firstOf}

@@ -1,6 +1,6 @@
 // Rows of lent scratch: samples of a plane, and sums of three neighbours.
 ghost use mathlib.Core.Path.{_≡_};
-ghost use Prim.Native.Nat.{_+_, _-_, _*_, _≤_, _<_, min};
+ghost use Prim.Native.Nat.{_+_, _-_, _*_, _≤_, _<_};
 ghost use lib.ListN.{length};
 ghost use Rattle.laws.specs.Floats.{_⊕_};
 ghost use Rattle.sums.specs.Rows.{loadRun, cellsAt, productsAt, threeRun, threeRow};
@@ -15,7 +15,7 @@ pub fn load_row(plane: &[u8], sample_bytes: usize, at: usize, n: usize, s: &mut 
 {
     let mut i = 0;
     while i < n {
-        s[dst + i] = image::sample(plane, sample_bytes, at + i * sample_bytes) as f32;
+        s[dst + i] = plane_samples::sample(plane, sample_bytes, at + i * sample_bytes) as f32;
         i += 1;
     }
 }

@@ -31,7 +31,7 @@ pub fn cell(plane: &[u8], sample_bytes: usize, row: usize, i: usize) -> u32
     requires { ⌜ RowInside «sample_bytes» (i + 1) row (length (now plane)) ⌝ }
     ensures { λ r. ⌜ (r ≡ cells «sample_bytes» (now (plane .entry)) row i) × (r ≤ 65535) ⌝ }
 {
-    image::sample(plane, sample_bytes, row + i * sample_bytes) as u32
+    plane_samples::sample(plane, sample_bytes, row + i * sample_bytes) as u32
 }
 
 // Inner: the vertical sum of cell i of two rows.

@@ -33,7 +33,7 @@ pub fn triangular_answer(layout: Layout, plane: &[u8], stride: usize, room: usiz
     if bad_triangular(layout) {
         return Answer::Refused(6);
     }
-    if image::bad_plane(
+    if plane_samples::bad_plane(
         layout.sample_bytes,
         layout.cw,
         layout.ch,

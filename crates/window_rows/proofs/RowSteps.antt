@@ -1,7 +1,7 @@
 -- The steps of a picture row are the definition's: no sample outside the planes is looked at.
 use mathlib.Core.Path.{_≡_, refl, sym, ap, _∙_}
 use mathlib.Core.List.{List, [], _∷_}
-use Prim.Native.Nat.{ℕ, _+_, _/_, _<_}
+use Prim.Native.Nat.{ℕ, _+_, _<_}
 use lib.Ieee.{Float}
 use Rattle.laws.specs.Floats.{f32}
 use Rattle.laws.proofs.Lists.{put-same}

@@ -1,6 +1,5 @@
 use mathlib.Core.Path.{ap, _∙_}
 use mathlib.Core.Bool.{true, false}
-use native.Mathlib.Omega.{arith}
 use borrow.Author.Needs.{needs}
 use Rattle.image.specs.Samples.{Plane}
 use Rattle.places.specs.Lent.{chromaOf}

@@ -3,7 +3,7 @@ use Prim.Native.Nat.{_-_, _≤_}
 use native.Mathlib.Omega.{arith}
 use lib.ListN.{getD}
 use borrow.Author.Needs.{needs}
-use Rattle.stores.proofs.Packed.{Filled, filled-none, filled-more}
+use Rattle.lanes.proofs.Filled.{Filled, filled-none, filled-more}
 use Rattle.row_samples.proofs.gather.wide16.Statement.{statement}
 use Rattle.row_samples.proofs.gather.wide16.Tie as tie
 

@@ -1,0 +1,2 @@
+-- Laws of blocks, which callers cite.
+pub mod Filled
