@@ -14,7 +14,7 @@ use Rattle.image.proofs.Pictures.{inside-is}
 use Rattle.fround.specs.Rounding.{fmin, fmax}
 use Rattle.guidance.specs.Guided.{extremeOf, extreme}
 use Rattle.guided.specs.Scratch.{slotAt, firstOf, Slope, Least, Greatest, numDown, downs, downOf, downOver, finish}
-use Rattle.sums.proofs.Threes.{three-same}
+use Rattle.sum_rows.proofs.Threes.{three-same}
 use Rattle.extremes.specs.Extremes.{extremeRow}
 use Rattle.slopes.specs.Slopes.{slopeRow}
 use Rattle.down_rows.specs.Down.{downRow}

@@ -47,7 +47,7 @@ pub extern "C" fn chroma_seek(reader: ChromaReader, y: usize) -> ChromaReply
     if strange_phases(reader) {
         return ChromaReply { refusal: 1, reader };
     }
-    let reply = state::seek(to_reader(reader), y);
+    let reply = seeking::seek(to_reader(reader), y);
     reply_to(reader, reply)
 }
 

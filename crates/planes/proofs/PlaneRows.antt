@@ -21,7 +21,7 @@ use Rattle.image.specs.Picture.{Cb, Picture, shortPlane}
 use Rattle.image.proofs.Layouts.{neither, sound}
 use Rattle.fround.specs.Rounding.{roundClamped}
 use Rattle.image.specs.Scratch.{scratchNeed}
-use Rattle.resample.specs.Stores.{storeRun}
+use Rattle.rounded_rows.specs.Stores.{storeRun}
 use Rattle.guidance.specs.Guided.{guidedSample}
 use Rattle.guided.specs.Scratch.{finishedAt}
 use Rattle.places.specs.Lent.{Lent}

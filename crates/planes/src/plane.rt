@@ -8,7 +8,7 @@ ghost use Rattle.laws.specs.Refusals.{first};
 ghost use Rattle.image.specs.Tests.{Sound};
 ghost use Rattle.image.specs.Picture.{Cb, pictureOf};
 ghost use Rattle.image.specs.Scratch.{scratchNeed};
-ghost use Rattle.resample.specs.Stores.{storeRun};
+ghost use Rattle.rounded_rows.specs.Stores.{storeRun};
 ghost use Rattle.places.specs.Lent.{Lent};
 ghost use Rattle.guided_rows.specs.Rows.{guidedStep, guidedRows};
 ghost use Rattle.planes.specs.Plane.{planesWith, shortPair, guidedTests, guidedPlane, GuidedGiven};
@@ -83,7 +83,7 @@ fn plane_row(
         row,
         s,
     );
-    resample::store_row(s, 0, layout.w, layout.maxval, out, row * layout.w);
+    rounded_rows::store_row(s, 0, layout.w, layout.maxval, out, row * layout.w);
 }
 
 // Every row of the plane in turn.

@@ -14,6 +14,6 @@ pub use opening::open;
 pub use planes::guided_plane;
 pub use reader::row;
 pub use resample::linear_plane;
-pub use state::seek;
+pub use seeking::seek;
 pub use taps::Phase;
 pub use upsample::triangular_plane;

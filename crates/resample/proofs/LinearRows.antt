@@ -26,7 +26,7 @@ use Rattle.resample.specs.Linear.{downBy, linearDown, linearSample, line
 use Rattle.image.specs.Scratch.{scratchNeed, cellAt}
 use Rattle.linear_down.specs.Down.{downRun}
 use Rattle.linear_across.specs.Rows.{acrossBy, acrossRun}
-use Rattle.resample.specs.Stores.{storeRun}
+use Rattle.rounded_rows.specs.Stores.{storeRun}
 use Rattle.taps.proofs.Spots.{tap-given}
 use Rattle.laws.proofs.Counts.{none-plus, plus-none}
 

@@ -1,3 +1,2 @@
 pub mod Linear
-pub mod Stores
 pub mod Bound

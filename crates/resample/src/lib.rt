@@ -1,8 +1,6 @@
 // Linear reconstruction: rows of it, and whole planes. From the original's src/jpeg/resample.rs.
 mod linear;
-mod store;
 
 pub use linear::linear_answer;
 pub use linear::linear_plane;
 pub use linear::linear_row;
-pub use store::store_row;

@@ -5,11 +5,11 @@ ghost use lib.ListN.{length};
 ghost use Rattle.laws.specs.Refusals.{first};
 ghost use Rattle.image.specs.Samples.{Plane};
 ghost use Rattle.resample.specs.Linear.{linearTests, linearRow, linearPlane, linearScratch, LinearGiven, Ready};
-use super::store::store_row;
 use image::Layout;
 use laws::Answer;
 use linear_across::across_row;
 use linear_down::down_row;
+use rounded_rows::store_row;
 use taps::tap_at;
 
 // Inner: row y of a chroma plane, to scratch from dst on: the cells down into the column buffer behind the two finished rows, then across.

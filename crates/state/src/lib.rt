@@ -1,4 +1,4 @@
-// The reader's state as functions: its checks, its counters, and seek.
+// The reader's state as functions: its checks and its counters.
 mod state;
 
 pub use state::Counters;
@@ -7,6 +7,4 @@ pub use state::done_counters;
 pub use state::fresh_counters;
 pub use state::last_of;
 pub use state::layout_of;
-pub use state::seek;
-pub use state::sought_state;
 pub use state::top_of;

@@ -1,14 +1,12 @@
-// The reader's state: what open, seek and row leave, and the test behind refusal 1.
+// The reader's state: its counters, and the test behind refusal 1.
 ghost use mathlib.Core.Path.{_≡_};
 ghost use mathlib.Core.Bool.{_&&_};
 ghost use Prim.Native.Nat.{_≤_, _<_};
 ghost use lib.Dec.{eqb};
 ghost use Rattle.image.specs.Tests.{Sound};
-ghost use Rattle.guided.specs.Calls.{layoutOf, topOf, lastOf, freshH, freshF, doneH, doneF, sought, badCounters, badState, SeekGiven};
+ghost use Rattle.guided.specs.Calls.{layoutOf, topOf, lastOf, freshH, freshF, doneH, doneF, badCounters, badState};
 use guided::Reader;
-use guided::Reply;
 use image::Layout;
-use laws::Answer;
 use phases::bad_phases;
 
 // Inner: the layout that a state has.
@@ -120,45 +118,4 @@ pub fn bad_state(reader: Reader) -> bool
         return true;
     }
     bad_counters(reader)
-}
-
-// Inner: the state that seek leaves.
-pub fn sought_state(reader: Reader, y: usize) -> Reader
-    requires { ⌜ Sound (layoutOf reader) ⌝ }
-    requires { ⌜ y < reader .geometry .h ⌝ }
-    ensures { λ r. ⌜ r ≡ sought reader y ⌝ }
-{
-    let c = fresh_counters(layout_of(reader), y);
-    let geometry = reader.geometry;
-    Reader {
-        geometry,
-        sample_bytes: reader.sample_bytes,
-        maxval: reader.maxval,
-        place: y,
-        h_next: c.h_next,
-        f_next: c.f_next,
-    }
-}
-
-// Moves a reader to any row, back as well. Refusals 1 and 11.
-pub fn seek(reader: Reader, y: usize) -> Reply
-    ensures { λ r. ⌜ SeekGiven (record { y = y; reader = reader }) r ⌝ }
-{
-    if bad_state(reader) {
-        return Reply {
-            answer: Answer::Refused(1),
-            reader,
-        };
-    }
-    let g = reader.geometry;
-    if g.h <= y {
-        return Reply {
-            answer: Answer::Refused(11),
-            reader,
-        };
-    }
-    Reply {
-        answer: Answer::Accepted,
-        reader: sought_state(reader, y),
-    }
 }

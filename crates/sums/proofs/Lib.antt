@@ -1,3 +1,2 @@
 -- Laws that the proofs and callers cite.
-pub mod Threes
 pub mod ReadBack

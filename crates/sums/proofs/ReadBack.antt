@@ -17,12 +17,12 @@ use Rattle.image.proofs.Pictures.{inside-is}
 use Rattle.image.specs.Scratch.{scratchNeed, cellAt}
 use Rattle.guidance.specs.Guided.{three, lumaOf, cellLuma, cellOf, acrossVal}
 use Rattle.guided.specs.Scratch.{slotAt, firstOf, chromaParts, parts, acrossOver, horizontal}
-use Rattle.sums.specs.Rows.{loadRun, cellsAt, productsAt, threeRow}
+use Rattle.sum_rows.specs.Rows.{loadRun, cellsAt, productsAt, threeRow}
 use Rattle.luma.specs.Luma.{lumaRow}
 use Rattle.sums.specs.declared.across.Slots.{Slots}
 use Rattle.sums.specs.Parts.{SlotsGiven, statRows, lumaPart, chromaPart}
 use Rattle.places.specs.Lent.{components}
-use Rattle.sums.proofs.Threes.{three-same}
+use Rattle.sum_rows.proofs.Threes.{three-same}
 use Rattle.luma.proofs.Areas.{luma-inside}
 use Rattle.guided.proofs.Places.{slot-fits, slot-order}
 

@@ -10,13 +10,13 @@ ghost use Rattle.guided.specs.Scratch.{horizontal};
 ghost use Rattle.luma.specs.Luma.{Cells};
 ghost use Rattle.places.specs.Lent.{chromaOf, ChromaCells, Lent, components};
 ghost use Rattle.sums.specs.Parts.{SlotsGiven, lumaPart, chromaPart};
-use super::rows::load_row;
-use super::rows::product_sum_row;
-use super::rows::sum_row;
 use image::Layout;
 use luma::luma_row;
 use places::first_of;
 use places::slot_at;
+use sum_rows::load_row;
+use sum_rows::product_sum_row;
+use sum_rows::sum_row;
 
 // Three row buffers one behind the other: of cells, of their sums, and of the sums of products.
 pub struct Slots {

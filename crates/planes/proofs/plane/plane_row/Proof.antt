@@ -9,7 +9,7 @@ use borrow.Author.Needs.{needs}
 use Rattle.laws.proofs.Rows.{row-fits}
 use Rattle.image.specs.Picture.{Cb, Picture, pictureOf}
 use Rattle.image.proofs.Layouts.{area}
-use Rattle.resample.specs.Stores.{storeRun}
+use Rattle.rounded_rows.specs.Stores.{storeRun}
 use Rattle.guided.proofs.Places.{front-fits}
 use Rattle.planes.specs.Plane.{planesWith}
 use Rattle.guided_rows.proofs.GuidedRows.{length-step}

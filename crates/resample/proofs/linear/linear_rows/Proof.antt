@@ -8,7 +8,7 @@ use Rattle.image.specs.Samples.{Plane, sampleAt}
 use Rattle.fround.specs.Rounding.{roundClamped}
 use Rattle.resample.specs.Linear.{linearSample, linearPlane, Ready}
 use Rattle.image.specs.Scratch.{scratchNeed}
-use Rattle.resample.specs.Stores.{storeRun}
+use Rattle.rounded_rows.specs.Stores.{storeRun}
 use Rattle.resample.proofs.LinearRows.{Scratched, scratch-none, scratch-more, scratch-end, length-row, stored-is}
 use Rattle.laws.proofs.Rows.{row-fits}
 use native.Mathlib.Omega.{arith}

@@ -1,7 +1,7 @@
 use Rattle.sums.proofs.ReadBack.{chroma-steps}
 use Rattle.guided.proofs.Places.{first-few, slot-order}
 use Rattle.places.specs.Lent.{chromaOf}
-use Rattle.sums.specs.Rows.{cellsAt, productsAt, threeRow}
+use Rattle.sum_rows.specs.Rows.{cellsAt, productsAt, threeRow}
 use Rattle.image.proofs.Planes.{short-holds, row-inside}
 use mathlib.Core.Path.{ap, _∙_}
 use Prim.Native.Nat.{_+_, _*_, _≤_}

@@ -1,5 +1,5 @@
 use Rattle.sums.proofs.ReadBack.{luma-steps}
-use Rattle.sums.specs.Rows.{cellsAt, productsAt, threeRow}
+use Rattle.sum_rows.specs.Rows.{cellsAt, productsAt, threeRow}
 use mathlib.Core.Path.{ap, _∙_}
 use native.Mathlib.Omega.{arith}
 use borrow.Author.Needs.{needs}

@@ -1,0 +1,2 @@
+-- Laws that the proofs and callers cite.
+pub mod Threes
