@@ -147,7 +147,7 @@ impl Course {
     }
 
     fn seek(&mut self, p: &Picture, y: usize) {
-        let a = sources::state::seek(self.state, y);
+        let a = sources::seeking::seek(self.state, y);
         if y < p.layout.h {
             let sought = self.beside.seek(y).is_ok();
             self.expect(sought && a.answer == Answer::Accepted);
@@ -244,7 +244,7 @@ fn pixels(r: &mut Random, n: usize) -> [usize; 3] {
 
 /// One picture filled by one of the eight ways that its maxval has; whether it differs.
 fn fill(r: &mut Random, t: usize) -> usize {
-    use sources::colour_rows::YcbcrKernel;
+    use sources::colour_pixels::YcbcrKernel;
     use sources::fill::ChromaUpsampling;
     let mut p = picture(r, t);
     // Maxval 255, half the time, has both kernels.

@@ -208,7 +208,7 @@ mod states {
     }
 }
 
-pub mod state {
+pub mod seeking {
     use crate::guided::{Reader, Reply};
     use crate::raw::chroma_seek;
     use crate::states::{raw, reply};
@@ -296,7 +296,7 @@ pub mod convert {
     }
 }
 
-pub mod colour_rows {
+pub mod colour_pixels {
     #[derive(Clone, Copy)]
     pub enum YcbcrKernel {
         Exact = 0,
@@ -305,7 +305,7 @@ pub mod colour_rows {
 }
 
 pub mod fill {
-    use crate::colour_rows::YcbcrKernel;
+    use crate::colour_pixels::YcbcrKernel;
     use crate::image::{raw, Layout};
     use crate::laws::{answer, Answer};
     use crate::raw::{chroma_fill, ChromaStrides};
