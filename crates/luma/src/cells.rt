@@ -2,13 +2,13 @@
 ghost use mathlib.Core.Path.{_≡_};
 ghost use Prim.Native.Nat.{_+_, _*_, _≤_, _<_};
 ghost use lib.ListN.{length};
-ghost use Rattle.laws.specs.Floats.{f32, _⊘_};
 ghost use Rattle.image.specs.Samples.{sampleAt};
 ghost use Rattle.guidance.specs.Guided.{lumaOf};
 ghost use Rattle.luma.specs.Luma.{Cells, rowSum, cellSum, lumaRun, lumaRow};
+use byte_cells::cell_run;
+use byte_cells::mean_of;
 use image::Layout;
-use quads::pairs;
-use quads::quads;
+use lanes::Lanes;
 
 // The sum of the n samples of row y from column x on.
 fn row_sum(layout: Layout, plane: &[u8], stride: usize, x: usize, y: usize, n: usize) -> u32
@@ -49,14 +49,6 @@ fn cell_sum(
     t
 }
 
-// A sum divided by the number of its pixels.
-fn mean_of(sum: u32, n: usize) -> f32
-    requires { ⌜ (sum ≤ 1048560) × (n ≤ 16) ⌝ }
-    ensures { λ r. ⌜ r ≡ f32 sum ⊘ f32 n ⌝ }
-{
-    sum as f32 / n as f32
-}
-
 // The luma of cell i of chroma row j, by the pixels that it has inside the picture.
 fn cell_luma(layout: Layout, plane: &[u8], stride: usize, j: usize, i: usize) -> f32
     requires { ⌜ Cells layout (record { bytes = now plane; stride = stride }) ⌝ }
@@ -94,39 +86,8 @@ fn luma_cells(
     }
 }
 
-// The cells at the row's beginning that are quads of bytes inside the picture, and how many: none at other ratios or sample bytes.
-fn luma_quads(
-    layout: Layout,
-    plane: &[u8],
-    stride: usize,
-    j: usize,
-    s: &mut [f32],
-    dst: usize,
-) -> usize
-    requires { ⌜ Cells layout (record { bytes = now plane; stride = stride }) ⌝ }
-    requires { ⌜ (j < layout .ch) × (dst + layout .cw ≤ length (now s)) ⌝ }
-    ensures { λ r. ⌜ (r ≤ layout .cw) × (now (s .exit) ≡ lumaRun layout (record { bytes = now (plane .entry); stride = stride }) j dst 0 r (now (s .entry))) ⌝ }
-{
-    let y = j * 2;
-    if layout.h < y + 2 {
-        return 0;
-    }
-    if layout.rh != 2 {
-        return 0;
-    }
-    if layout.rv != 2 {
-        return 0;
-    }
-    if layout.sample_bytes != 1 {
-        return 0;
-    }
-    let n = layout.w / 2;
-    quads(plane, y * stride, (y + 1) * stride, n, s, dst);
-    n
-}
-
-// Likewise the cells that are pairs of bytes: at vertical ratio 1, and in a last row of one pixel row.
-fn luma_pairs(
+// The cells at the row's beginning that are made by blocks, and how many: at ratio 2 across and of one byte, where there are sixteen of them.
+fn luma_head(
     layout: Layout,
     plane: &[u8],
     stride: usize,
@@ -146,32 +107,13 @@ fn luma_pairs(
     if layout.sample_bytes != 1 {
         return 0;
     }
-    if image::least(rv, layout.h - y) != 1 {
+    let n = layout.w / 2;
+    if n < Lanes::PIXELS {
         return 0;
     }
-    let m = layout.w / 2;
-    pairs(plane, y * stride, m, s, dst);
-    m
-}
-
-// The cells at the row's beginning by whichever of the two fits, and how many.
-fn luma_head(
-    layout: Layout,
-    plane: &[u8],
-    stride: usize,
-    j: usize,
-    s: &mut [f32],
-    dst: usize,
-) -> usize
-    requires { ⌜ Cells layout (record { bytes = now plane; stride = stride }) ⌝ }
-    requires { ⌜ (j < layout .ch) × (dst + layout .cw ≤ length (now s)) ⌝ }
-    ensures { λ r. ⌜ (r ≤ layout .cw) × (now (s .exit) ≡ lumaRun layout (record { bytes = now (plane .entry); stride = stride }) j dst 0 r (now (s .entry))) ⌝ }
-{
-    let n = luma_quads(layout, plane, stride, j, s, dst);
-    if n != 0 {
-        return n;
-    }
-    luma_pairs(layout, plane, stride, j, s, dst)
+    let m = image::least(rv, layout.h - y);
+    cell_run(plane, y * stride, stride, m, n, s, dst);
+    n
 }
 
 // Inner: the luma of the cells of chroma row j, to s from dst on.

@@ -1,4 +1,4 @@
-use Rattle.luma.proofs.Areas.{Summed, sum-none, sum-more, sum-end}
+use Rattle.byte_cells.proofs.SumsTo.{Summed, sum-none, sum-more, sum-end}
 use Rattle.luma.specs.Luma.{rowSum, cellSum}
 use Prim.Native.Nat.{_+_, _-_, _*_, _≤_}
 use native.Mathlib.Omega.{arith}

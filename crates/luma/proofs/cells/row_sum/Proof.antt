@@ -1,4 +1,5 @@
-use Rattle.luma.proofs.Areas.{Summed, sum-none, sum-more, sum-end, within-plane}
+use Rattle.byte_cells.proofs.SumsTo.{Summed, sum-none, sum-more, sum-end}
+use Rattle.luma.proofs.Areas.{within-plane}
 use Rattle.luma.specs.Luma.{rowSum}
 use Rattle.image.specs.Samples.{sampleAt}
 use Prim.Native.Nat.{_+_, _-_, _*_, _≤_}

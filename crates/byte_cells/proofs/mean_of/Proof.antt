@@ -1,8 +1,8 @@
 use Rattle.laws.proofs.Values.{in-float}
 use native.Mathlib.Omega.{arith}
 use borrow.Author.Needs.{needs}
-use Rattle.luma.proofs.cells.mean_of.Statement.{statement}
-use Rattle.luma.proofs.cells.mean_of.Tie as tie
+use Rattle.byte_cells.proofs.mean_of.Statement.{statement}
+use Rattle.byte_cells.proofs.mean_of.Tie as tie
 
 int-to-float-result : tie.Need-int-to-float-result
 int-to-float-result c = in-float (c .before .args .sum) (omega arith)

@@ -3,12 +3,12 @@ use Prim.Native.Nat.{ℕ, _+_, _-_, _≤_, _<_}
 use native.Mathlib.Omega.{arith}
 use borrow.Author.Needs.{needs}
 use Rattle.lanes.proofs.Filled.{Filled, filled-none, filled-more}
-use Rattle.quads.specs.Quads.{pairSum}
-use Rattle.quads.proofs.pair_sums.Statement.{statement}
-use Rattle.quads.proofs.pair_sums.Tie as tie
-use Rattle.quads.proofs.pair_sums.Reads as reads
-use Rattle.quads.proofs.pair_sums.Lts as lts
-use Rattle.quads.proofs.wide.Reads as wide-reads
+use Rattle.byte_cells.specs.ByteCells.{pairSum}
+use Rattle.byte_cells.proofs.pair_sums.Statement.{statement}
+use Rattle.byte_cells.proofs.pair_sums.Tie as tie
+use Rattle.byte_cells.proofs.pair_sums.Reads as reads
+use Rattle.byte_cells.proofs.pair_sums.Lts as lts
+use Rattle.byte_cells.proofs.wide.Reads as wide-reads
 
 abbrev Inv-loop : tie.InvT-loop
 Inv-loop plane at v₀ k₀ v k = (k ≤ 16) × Filled v k (λ m x. (x ≡ pairSum plane at m) × (x ≤ 510))

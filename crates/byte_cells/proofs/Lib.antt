@@ -1,0 +1,3 @@
+-- Laws that the proofs and callers cite.
+pub mod SumsTo
+mod ByteBlocks
