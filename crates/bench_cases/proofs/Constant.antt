@@ -9,9 +9,9 @@ use Rattle.laws.proofs.Order.{lt-asym}
 use Rattle.image.specs.Picture.{Chroma, Picture}
 use Rattle.fround.specs.Rounding.{fmin, fmax}
 use Rattle.image.specs.Tests.{Sound}
-use Rattle.guided.proofs.Congruence.{three-cong}
-use Rattle.guided.proofs.Taken.{own-row, own-column}
-use Rattle.guidance.specs.Guided.{three, extremeOf, extreme, valueOf, guidedSample}
+use Rattle.guided.proofs.calls.Congruence.{three-cong}
+use Rattle.guided.proofs.calls.Taken.{own-row, own-column}
+use Rattle.guided.specs.Guided.{three, extremeOf, extreme, valueOf, guidedSample}
 
 either : (b : Bool) (a : Float) → cond b a a ≡ a
 either true a = refl

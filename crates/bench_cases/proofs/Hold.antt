@@ -5,10 +5,10 @@ use lib.Count.{trailingZeros}
 use Rattle.laws.specs.Lists.{table}
 use Rattle.laws.specs.Differences.{floorDiv, limit, within}
 use Rattle.fround.specs.Rounding.{roundClamped}
-use Rattle.triangle.specs.Weights.{oneAxis, weighed, far}
+use Rattle.upsample.specs.Weights.{oneAxis, weighed, far}
 use Rattle.upsample.specs.Triangular.{triangularSample}
 use Rattle.taps.specs.Taps.{spotAt, spotOf, tapOf, phaseOf}
-use Rattle.resample.specs.Linear.{linearSample, linearDown}
+use Rattle.linear.specs.Linear.{linearSample, linearDown}
 use Rattle.guided.specs.Calls.{phasesOf, phaseAt}
 use Rattle.kernels.specs.T871.{rnd}
 use Rattle.kernels.specs.Kernels.{centred, redOffset, greenOffset, blueOffset, exact255, offCentre, exactAt, fixedRed, fixedGreenCb, fixedGreenCr, fixedBlue, fixed255}

@@ -7,11 +7,11 @@ use lib.ListN.{getD}
 use lib.Ieee.{Float, nan}
 use Rattle.laws.specs.Floats.{f32, _⊘_}
 use Rattle.laws.specs.Lists.{table}
-use Rattle.image.specs.declared.layout.Layout.{Layout}
+use Rattle.image.specs.declared.layouts.layout.Layout.{Layout}
 use Rattle.fround.specs.Rounding.{roundClamped}
 use Rattle.upsample.specs.Triangular.{triangularSample}
 use Rattle.taps.specs.declared.taps.Phase.{Phase}
-use Rattle.resample.specs.Linear.{linearSample}
+use Rattle.linear.specs.Linear.{linearSample}
 use Rattle.guided.specs.Calls.{phasesOf}
 use Rattle.kernels.specs.Kernels.{Colour, fixed255}
 use Rattle.kernels.specs.Pixels.{exactColour}

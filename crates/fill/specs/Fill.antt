@@ -6,18 +6,18 @@ use Prim.Native.Nat.{ℕ, zero, suc, _+_, _*_}
 use lib.Ieee.{Float}
 use Rattle.laws.specs.Refusals.{first, accepted}
 use Rattle.laws.specs.declared.Answer.{Answer}
-use Rattle.image.specs.declared.layout.Layout.{Layout}
+use Rattle.image.specs.declared.layouts.layout.Layout.{Layout}
 use Rattle.image.specs.Picture.{Chroma, Cb, Cr, Picture, Planes, pictureOf}
-use Rattle.resample.specs.Linear.{linearSample, linearRow}
-use Rattle.guidance.specs.Guided.{guidedSample}
+use Rattle.linear.specs.Linear.{linearSample, linearRow}
+use Rattle.guided.specs.Guided.{guidedSample}
 use Rattle.guided_rows.specs.Rows.{guidedRows}
 use Rattle.kernels.specs.Kernels.{Colour}
-use Rattle.stores.specs.Stores.{pixels}
-use Rattle.colour_pixels.specs.declared.YcbcrKernel.{YcbcrKernel}
-use Rattle.colour_pixels.specs.Colours.{colourBy}
-use Rattle.fill_answer.specs.Tests.{FillCall, fillTests}
-use Rattle.fill_answer.specs.declared.ChromaUpsampling.{ChromaUpsampling}
-use Rattle.fill_answer.specs.declared.ChromaUpsampling.the-variants.{Linear, LumaGuided}
+use Rattle.kernel_blocks.specs.Stores.{pixels}
+use Rattle.colour_rows.specs.declared.pixels.YcbcrKernel.{YcbcrKernel}
+use Rattle.colour_rows.specs.Colours.{colourBy}
+use Rattle.fill.specs.Tests.{FillCall, fillTests}
+use Rattle.fill.specs.declared.answer.ChromaUpsampling.{ChromaUpsampling}
+use Rattle.fill.specs.declared.answer.ChromaUpsampling.the-variants.{Linear, LumaGuided}
 
 -- the chroma of column x of row y, "linear or guided"
 unfoldable pub chromaBy : ChromaUpsampling → Picture → Chroma → ℕ → ℕ → Float

@@ -3,9 +3,9 @@
 // w h rh rv cw ch sample_bytes maxval(2) y_stride cb_stride cr_stride y_len cb_len cr_len seed y_shape cb_shape cr_shape
 // kernel size space(2) room. A pixel's: y(2) cb(2) cr(2) maxval(2), sixteen of 0.
 ghost use Prim.Native.Nat.{_<_};
-use colour_pixels::YcbcrKernel;
-use fill::ChromaUpsampling;
-use kernels::Pixel;
+use colour_rows::pixels::YcbcrKernel;
+use fill::calls::ChromaUpsampling;
+use kernels::pixel::Pixel;
 use libc::STDIN_FILENO;
 
 // Scratch as no call leaves it.
@@ -22,10 +22,10 @@ fn unwritten() -> [u8; 65_536] {
 fn write_pixel(pixel: Pixel) {
     match pixel {
         Pixel::Rgb(r, g, b) => {
-            cases::write_line(0, r as u32 * 65_536 + g as u32 * 256 + b as u32);
+            cases::shared::write_line(0, r as u32 * 65_536 + g as u32 * 256 + b as u32);
         }
         Pixel::Refused(n) => {
-            cases::write_line(n as usize, 0);
+            cases::shared::write_line(n as usize, 0);
         }
     }
 }
@@ -34,7 +34,7 @@ fn write_pixel(pixel: Pixel) {
 fn number(text: &[u8], k: usize) -> u32
     requires { ⌜ k < 999 ⌝ }
 {
-    cases::long(text, k) as u32
+    cases::shared::long(text, k) as u32
 }
 
 fn exact(text: &[u8]) {
@@ -55,14 +55,14 @@ fn fixed(text: &[u8]) {
 }
 
 fn upsampling(text: &[u8]) -> ChromaUpsampling {
-    if cases::byte(text, 0) == b'l' {
+    if cases::shared::byte(text, 0) == b'l' {
         return ChromaUpsampling::Linear;
     }
     ChromaUpsampling::LumaGuided
 }
 
 fn kernel(text: &[u8]) -> YcbcrKernel {
-    if cases::word(text, 19) == 0 {
+    if cases::shared::word(text, 19) == 0 {
         return YcbcrKernel::Exact;
     }
     YcbcrKernel::FixedPoint16
@@ -70,49 +70,49 @@ fn kernel(text: &[u8]) -> YcbcrKernel {
 
 // The line of a fill: the sum is of all of out, and of what it may not touch of its scratch.
 fn fill_lent(text: &[u8], y: &[u8], cb: &[u8], cr: &[u8], s: &mut [f32], out: &mut [u8]) {
-    let answer = cases::number(reconstruction::fill(
-        cases::layout(text),
+    let answer = cases::shared::number(reconstruction::fill(
+        cases::shared::layout(text),
         y,
-        cases::size(text, 9),
+        cases::shared::size(text, 9),
         cb,
-        cases::size(text, 10),
+        cases::shared::size(text, 10),
         cr,
-        cases::size(text, 11),
+        cases::shared::size(text, 11),
         upsampling(text),
         kernel(text),
-        cases::size(text, 20),
+        cases::shared::size(text, 20),
         s,
         out,
     ));
-    let sum = cases::sum_floats(
-        cases::sum_bytes(0, out),
+    let sum = cases::shared::sum_floats(
+        cases::shared::sum_bytes(0, out),
         s,
-        cases::scratch_part(text, answer),
+        cases::shared::scratch_part(text, answer),
     );
-    cases::write_line(answer, sum);
+    cases::shared::write_line(answer, sum);
 }
 
 // A fill into scratch and out that no call has touched.
 fn fill_marked(text: &[u8], y: &[u8], cb: &[u8], cr: &[u8]) {
     let mut s = marked();
     let mut out = unwritten();
-    let space = image::least(cases::long(text, 21), 600_000);
-    let room = cases::word(text, 23);
+    let space = image::layouts::least(cases::shared::long(text, 21), 600_000);
+    let room = cases::shared::word(text, 23);
     fill_lent(text, y, cb, cr, &mut s[..space], &mut out[..room]);
 }
 
 fn fill(text: &[u8]) {
-    let y = cases::plane(text, 0);
-    let cb = cases::plane(text, 1);
-    let cr = cases::plane(text, 2);
-    let y_len = cases::word(text, 12);
-    let cb_len = cases::word(text, 13);
-    let cr_len = cases::word(text, 14);
+    let y = cases::shared::plane(text, 0);
+    let cb = cases::shared::plane(text, 1);
+    let cr = cases::shared::plane(text, 2);
+    let y_len = cases::shared::word(text, 12);
+    let cb_len = cases::shared::word(text, 13);
+    let cr_len = cases::shared::word(text, 14);
     fill_marked(text, &y[..y_len], &cb[..cb_len], &cr[..cr_len]);
 }
 
 fn replay(text: &[u8]) {
-    match cases::byte(text, 0) {
+    match cases::shared::byte(text, 0) {
         b'e' => exact(text),
         b'f' => fixed(text),
         _ => fill(text),

@@ -1,3 +1,4 @@
 pub mod Scratch
 pub mod Calls
 pub mod Events
+pub mod Guided

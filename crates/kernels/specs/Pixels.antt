@@ -7,8 +7,8 @@ use Rattle.laws.specs.declared.Answer.{Answer}
 use Rattle.laws.specs.declared.Answer.the-variants.{Accepted, Refused}
 use Rattle.laws.specs.Refusals.{Test, first}
 use Rattle.image.specs.Tests.{outsideOf}
-use Rattle.kernels.specs.declared.Pixel.{Pixel}
-use Rattle.kernels.specs.declared.Pixel.the-variants as P
+use Rattle.kernels.specs.declared.pixel.Pixel.{Pixel}
+use Rattle.kernels.specs.declared.pixel.Pixel.the-variants as P
 use Rattle.kernels.specs.Kernels.{Colour, exact255, exactAt, fixed255}
 
 -- the paper's number, or the three bytes

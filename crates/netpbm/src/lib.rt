@@ -1,6 +1,5 @@
-// Netpbm around the picture: three PGM images read from bytes.
-mod reading;
-mod sizes;
-
-pub use reading::Reading;
-pub use reading::read;
+// netpbm.
+pub mod ascii;
+pub mod images;
+pub mod lines;
+pub mod pgm;

@@ -6,14 +6,14 @@ ghost use Rattle.laws.specs.Lists.{put};
 ghost use Rattle.image.specs.Scratch.{scratchNeed};
 ghost use Rattle.fill.specs.Fill.{fillColour, pixelRows, fillScratch};
 ghost use Rattle.netpbm.specs.Reading.{readingOf};
-ghost use Rattle.lines.specs.Lines.{ppmHeader};
-ghost use Rattle.lines.specs.Texts.{lineOf};
+ghost use Rattle.netpbm.specs.Lines.{ppmHeader};
+ghost use Rattle.netpbm.specs.Texts.{lineOf};
 ghost use Rattle.picture.specs.Picture.{planesOf, inputPicture, ppmLength, ppmOver};
-use colour_pixels::YcbcrKernel;
-use fill::ChromaUpsampling;
-use image::Layout;
-use lines::Line;
-use netpbm::Reading;
+use colour_rows::pixels::YcbcrKernel;
+use fill::calls::ChromaUpsampling;
+use image::layouts::Layout;
+use netpbm::images::Reading;
+use netpbm::lines::Line;
 
 // The bytes of a line, to the front of out.
 fn put_line(line: Line, out: &mut [u8])
@@ -41,7 +41,7 @@ fn put_pixels(
     ensures { λ _. ⌜ now (out .exit) ≡ pixelRows (layout .w) 3 (fillColour ChromaUpsampling.LumaGuided YcbcrKernel.Exact (inputPicture (now (input .entry)))) 0 (layout .h) (now (out .entry)) ⌝ }
     ensures { λ _. ⌜ now (s .exit) ≡ fillScratch ChromaUpsampling.LumaGuided layout (planesOf (now (input .entry))) 0 (layout .h) (now (s .entry)) ⌝ }
 {
-    fill::fill(
+    fill::calls::fill(
         layout,
         &input[y..],
         layout.w,

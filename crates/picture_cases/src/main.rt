@@ -23,10 +23,10 @@ fn copied(source: &[u8], from: usize, to: usize, room: &mut [u8]) -> usize
     if to < from {
         return 0;
     }
-    let n = image::least(to - from, room.len());
+    let n = image::layouts::least(to - from, room.len());
     let mut i = 0;
     while i < n {
-        room[i] = cases::byte(source, from + i);
+        room[i] = cases::shared::byte(source, from + i);
         i += 1;
     }
     n
@@ -36,8 +36,8 @@ fn copied(source: &[u8], from: usize, to: usize, room: &mut [u8]) -> usize
 fn grown(count: usize, seed: usize, shape: usize, room: &mut [u8]) -> usize
     ensures { λ r. ⌜ r ≤ length (now (room .exit)) ⌝ }
 {
-    let n = image::least(count, room.len());
-    cases::grow(&mut room[..n], seed, shape);
+    let n = image::layouts::least(count, room.len());
+    cases::shared::grow(&mut room[..n], seed, shape);
     n
 }
 
@@ -45,24 +45,29 @@ fn grown(count: usize, seed: usize, shape: usize, room: &mut [u8]) -> usize
 fn spelled(text: &[u8], room: &mut [u8]) -> usize
     ensures { λ r. ⌜ r ≤ length (now (room .exit)) ⌝ }
 {
-    let a = cases::word(text, 0);
-    let b = cases::word(text, 1);
+    let a = cases::shared::word(text, 0);
+    let b = cases::shared::word(text, 1);
     let bytes = [
         (a / 256) as u8,
         (a % 256) as u8,
         (b / 256) as u8,
         (b % 256) as u8,
     ];
-    copied(&bytes, 0, (cases::byte(text, 0) % 16) as usize, room)
+    copied(
+        &bytes,
+        0,
+        (cases::shared::byte(text, 0) % 16) as usize,
+        room,
+    )
 }
 
 // A line's piece of the input at the front of a room; how many bytes it is.
 fn put_piece(text: &[u8], base: &[u8], room: &mut [u8]) -> usize
     ensures { λ r. ⌜ r ≤ length (now (room .exit)) ⌝ }
 {
-    let a = cases::word(text, 0);
-    let b = cases::word(text, 1);
-    match cases::byte(text, 0) {
+    let a = cases::shared::word(text, 0);
+    let b = cases::shared::word(text, 1);
+    match cases::shared::byte(text, 0) {
         b'b' => copied(base, a, b, room),
         b'g' => grown(a, b, 0, room),
         b'r' => grown(a, 0, 256 + b, room),
@@ -75,34 +80,34 @@ fn refused_sum(n: u8, out: &[u8]) -> u32 {
     let line = picture::refusal_line(n);
     let len = line.len;
     let bytes = line.bytes;
-    cases::sum_bytes(cases::sum_bytes(0, out), &bytes[..len])
+    cases::shared::sum_bytes(cases::shared::sum_bytes(0, out), &bytes[..len])
 }
 
 // Writes a call's line: the sum is of out and of the length, or of the refusal's line and of whether scratch was changed.
 fn write_outcome(outcome: Outcome, out: &[u8], changed: bool) {
     match outcome {
         Outcome::Written(len) => {
-            let sum = cases::sum_bytes(0, out);
-            cases::write_line(0, cases::added(sum, (len % 4_294_967_296) as u32));
+            let sum = cases::shared::sum_bytes(0, out);
+            cases::shared::write_line(0, cases::shared::added(sum, (len % 4_294_967_296) as u32));
         }
         Outcome::Refused(n) => {
             let fault = if changed { 1 } else { 0 };
-            cases::write_line(n as usize, cases::added(refused_sum(n, out), fault));
+            cases::shared::write_line(n as usize, cases::shared::added(refused_sum(n, out), fault));
         }
     }
 }
 
 fn called(input: &[u8], s: &mut [f32], out: &mut [u8]) {
-    let before = cases::sum_floats(0, s, 0);
+    let before = cases::shared::sum_floats(0, s, 0);
     let outcome = picture::picture(input, s, out);
-    write_outcome(outcome, out, cases::sum_floats(0, s, 0) != before);
+    write_outcome(outcome, out, cases::shared::sum_floats(0, s, 0) != before);
 }
 
 // The call of an input's last line, lent as much as that says, or all that there is.
 fn call(text: &[u8], input: &[u8], s: &mut [f32]) {
     let mut out = unwritten();
-    let space = image::least(cases::word(text, 0), s.len());
-    let room = image::least(cases::long(text, 1), 147_472);
+    let space = image::layouts::least(cases::shared::word(text, 0), s.len());
+    let room = image::layouts::least(cases::shared::long(text, 1), 147_472);
     called(input, &mut s[..space], &mut out[..room]);
 }
 
@@ -111,7 +116,7 @@ fn replayed(text: &[u8], base: &mut [u8], input: &mut [u8], len: usize, s: &mut 
     requires { ⌜ len ≤ length (now input) ⌝ }
     ensures { λ r. ⌜ r ≤ length (now (input .exit)) ⌝ }
 {
-    let kind = cases::byte(text, 0);
+    let kind = cases::shared::byte(text, 0);
     if kind == b'=' {
         copied(input, 0, len, base);
         return 0;

@@ -1,7 +1,7 @@
 -- A window by its three buffers.
 use mathlib.Core.Path.{_≡_, refl, sym}
 use Prim.Native.Nat.{ℕ, _+_, _-_, min}
-use Rattle.image.specs.declared.layout.Layout.{Layout}
+use Rattle.image.specs.declared.layouts.layout.Layout.{Layout}
 use Rattle.guided.specs.Scratch.{slotAt}
 use Rattle.places.specs.Buffers.{windowOf}
 

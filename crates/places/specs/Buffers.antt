@@ -1,7 +1,7 @@
 -- Where the row buffers lie, as the inner functions' contracts say it. Definitions only.
 use mathlib.Core.Path.{_≡_}
 use Prim.Native.Nat.{ℕ, _+_, _-_, _≤_, min}
-use Rattle.image.specs.declared.layout.Layout.{Layout}
+use Rattle.image.specs.declared.layouts.layout.Layout.{Layout}
 use Rattle.image.specs.Scratch.{scratchNeed}
 use Rattle.guided.specs.Scratch.{slotAt}
 use Rattle.places.specs.declared.places.Window.{Window}

@@ -2,7 +2,7 @@
 use mathlib.Core.Path.{_≡_}
 use mathlib.Core.Bool.{Bool, true, false}
 use mathlib.Core.List.{List, [], _∷_}
-use Rattle.image.specs.declared.layout.Layout.{Layout}
+use Rattle.image.specs.declared.layouts.layout.Layout.{Layout}
 use Rattle.image.specs.Tests.{Sound}
 use Rattle.image.specs.Samples.{Plane}
 use Rattle.image.specs.Picture.{Chroma, Cb, Cr, Planes, shortPlane}

@@ -7,7 +7,7 @@ ghost use Rattle.places.specs.Buffers.{SlotGiven, windowOf};
 ghost use Rattle.places.specs.Lent.{chromaOf};
 use super::neighbours::next;
 use super::neighbours::prev;
-use image::Layout;
+use image::layouts::Layout;
 
 // Where one row buffer of chroma rows r - 1, r and r + 1 begins, edges repeated.
 pub struct Window {

@@ -6,7 +6,7 @@ ghost use Rattle.laws.specs.Floats.{f32};
 ghost use Rattle.image.specs.Tests.{Sound};
 ghost use Rattle.image.specs.Samples.{Plane, sampleAt};
 ghost use Rattle.image.specs.Picture.{shortPlane};
-use image::Layout;
+use image::layouts::Layout;
 
 // Inner: the sample in column x of row y of a plane of w columns and h rows, as a whole number.
 pub fn whole_at(
@@ -22,7 +22,7 @@ pub fn whole_at(
     ensures { λ r. ⌜ r ≡ sampleAt (layout .«sample_bytes») (record { bytes = now (plane .entry); stride = stride }) x y ⌝ }
 {
     let bytes = layout.sample_bytes;
-    plane_samples::sample(plane, bytes, y * stride + x * bytes)
+    image::samples::sample(plane, bytes, y * stride + x * bytes)
 }
 
 // Inner: the same as a float.

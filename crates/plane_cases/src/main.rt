@@ -24,14 +24,14 @@ fn luma_stride(w: usize) -> usize {
 
 // A guided plane; luma is one for all lines.
 fn guided(text: &[u8], plane: &[u8], s: &mut [f32], out: &mut [u16]) -> Answer {
-    let luma = cases::grown(20_000, LUMA, 0);
-    let layout = cases::layout(text);
+    let luma = cases::shared::grown(20_000, LUMA, 0);
+    let layout = cases::shared::layout(text);
     reconstruction::guided_plane(
         layout,
         &luma[..20_000],
         luma_stride(layout.w),
         plane,
-        cases::size(text, 9),
+        cases::shared::size(text, 9),
         s,
         out,
     )
@@ -39,17 +39,17 @@ fn guided(text: &[u8], plane: &[u8], s: &mut [f32], out: &mut [u16]) -> Answer {
 
 // The call of a line.
 fn called(text: &[u8], plane: &[u8], s: &mut [f32], out: &mut [u16]) -> Answer {
-    match cases::byte(text, 0) {
+    match cases::shared::byte(text, 0) {
         b't' => reconstruction::triangular_plane(
-            cases::layout(text),
+            cases::shared::layout(text),
             plane,
-            cases::size(text, 9),
+            cases::shared::size(text, 9),
             out,
         ),
         b'l' => reconstruction::linear_plane(
-            cases::layout(text),
+            cases::shared::layout(text),
             plane,
-            cases::size(text, 9),
+            cases::shared::size(text, 9),
             s,
             out,
         ),
@@ -59,18 +59,18 @@ fn called(text: &[u8], plane: &[u8], s: &mut [f32], out: &mut [u16]) -> Answer {
 
 // The line of a call: the sum is of all of out, and of what it may not touch of its scratch.
 fn write_call(text: &[u8], plane: &[u8], s: &mut [f32], out: &mut [u16]) {
-    let answer = cases::number(called(text, plane, s, out));
-    let sum = cases::sum_values(0, out);
-    let spared = cases::scratch_part(text, answer);
-    cases::write_line(answer, cases::sum_floats(sum, s, spared));
+    let answer = cases::shared::number(called(text, plane, s, out));
+    let sum = cases::shared::sum_values(0, out);
+    let spared = cases::shared::scratch_part(text, answer);
+    cases::shared::write_line(answer, cases::shared::sum_floats(sum, s, spared));
 }
 
 // A call into scratch and out that no call has touched.
 fn replay(text: &[u8]) {
-    let plane_len = cases::word(text, 10);
-    let space = image::least(cases::long(text, 11), 200_000);
-    let room = cases::word(text, 13);
-    let plane = cases::grown(plane_len, cases::word(text, 14), 0);
+    let plane_len = cases::shared::word(text, 10);
+    let space = image::layouts::least(cases::shared::long(text, 11), 200_000);
+    let room = cases::shared::word(text, 13);
+    let plane = cases::shared::grown(plane_len, cases::shared::word(text, 14), 0);
     let mut s = marked();
     let mut out = unwritten();
     write_call(text, &plane[..plane_len], &mut s[..space], &mut out[..room]);

@@ -14,20 +14,20 @@ use Rattle.laws.specs.Lists.{put}
 use Rattle.laws.specs.Refusals.{Test, first}
 use Rattle.laws.proofs.Lists.{put-same}
 use Rattle.laws.proofs.Refusals.{accepted-failed, failed-both}
-use Rattle.image.specs.declared.layout.Layout.{Layout}
+use Rattle.image.specs.declared.layouts.layout.Layout.{Layout}
 use Rattle.image.specs.Tests.{layoutTests, Sound}
 use Rattle.image.specs.Samples.{Plane}
 use Rattle.image.specs.Picture.{Cb, Picture, shortPlane}
-use Rattle.image.proofs.Layouts.{neither, sound}
+use Rattle.image.proofs.layouts.Layouts.{neither, sound}
 use Rattle.fround.specs.Rounding.{roundClamped}
 use Rattle.image.specs.Scratch.{scratchNeed}
-use Rattle.rounded_rows.specs.Stores.{storeRun}
-use Rattle.guidance.specs.Guided.{guidedSample}
+use Rattle.linear.specs.Stores.{storeRun}
+use Rattle.guided.specs.Guided.{guidedSample}
 use Rattle.guided.specs.Scratch.{finishedAt}
 use Rattle.places.specs.Lent.{Lent}
 use Rattle.planes.specs.Plane.{planesWith, shortPair, guidedTests}
 use Rattle.guided_rows.proofs.GuidedRows.{Advanced, advanced-row}
-use Rattle.guided.proofs.Runs.{after}
+use Rattle.guided.proofs.calls.Runs.{after}
 use Rattle.guided_rows.specs.Rows.{guidedStep}
 
 -- the next row, as it is rounded out of scratch

@@ -9,13 +9,13 @@ use lib.Ieee.{Float}
 use Rattle.laws.specs.Lists.{rows}
 use Rattle.laws.specs.Refusals.{Test, first, accepted}
 use Rattle.laws.specs.declared.Answer.{Answer}
-use Rattle.image.specs.declared.layout.Layout.{Layout}
+use Rattle.image.specs.declared.layouts.layout.Layout.{Layout}
 use Rattle.image.specs.Tests.{layoutTests}
 use Rattle.image.specs.Samples.{Plane}
 use Rattle.image.specs.Picture.{Cb, Picture, Planes, pictureOf, shortPlane}
 use Rattle.fround.specs.Rounding.{roundClamped}
 use Rattle.image.specs.Scratch.{scratchNeed}
-use Rattle.guidance.specs.Guided.{guidedSample}
+use Rattle.guided.specs.Guided.{guidedSample}
 use Rattle.guided_rows.specs.Rows.{guidedRows}
 
 -- the planes of a picture with luma y and the one chroma plane c: c stands for both components, and only Cb is asked for

@@ -8,12 +8,12 @@ ghost use Rattle.laws.specs.Refusals.{first};
 ghost use Rattle.image.specs.Tests.{Sound};
 ghost use Rattle.image.specs.Picture.{Cb, pictureOf};
 ghost use Rattle.image.specs.Scratch.{scratchNeed};
-ghost use Rattle.rounded_rows.specs.Stores.{storeRun};
+ghost use Rattle.linear.specs.Stores.{storeRun};
 ghost use Rattle.places.specs.Lent.{Lent};
 ghost use Rattle.guided_rows.specs.Rows.{guidedStep, guidedRows};
 ghost use Rattle.planes.specs.Plane.{planesWith, shortPair, guidedTests, guidedPlane, GuidedGiven};
 use guided_rows::guided_step;
-use image::Layout;
+use image::layouts::Layout;
 use laws::Answer;
 
 // Refusal 7's test for luma and one chroma plane.
@@ -21,9 +21,9 @@ fn bad_pair(layout: Layout, y: &[u8], y_stride: usize, c: &[u8], c_stride: usize
     ensures { λ r. ⌜ r ≡ shortPair layout (record { bytes = now (y .entry); stride = «y_stride» }) (record { bytes = now (c .entry); stride = «c_stride» }) ⌝ }
 {
     let size = layout.sample_bytes;
-    let bad_y = plane_samples::bad_plane(size, layout.w, layout.h, y_stride, y.len());
-    let bad_c = plane_samples::bad_plane(size, layout.cw, layout.ch, c_stride, c.len());
-    image::either(bad_y, bad_c)
+    let bad_y = image::samples::bad_plane(size, layout.w, layout.h, y_stride, y.len());
+    let bad_c = image::samples::bad_plane(size, layout.cw, layout.ch, c_stride, c.len());
+    image::layouts::either(bad_y, bad_c)
 }
 
 // The lowest refusal of `guided_plane` that applies; `space` and `room` are the lengths of scratch and output. It writes nothing.
@@ -39,13 +39,13 @@ fn plane_answer(
     ensures { λ r. ⌜ r ≡ first (guidedTests layout (record { bytes = now (y .entry); stride = «y_stride» }) (record { bytes = now (c .entry); stride = «c_stride» }) space room) ⌝ }
 {
     let early = layout.answer(false);
-    if image::refused(early) {
+    if image::layouts::refused(early) {
         return early;
     }
     if bad_pair(layout, y, y_stride, c, c_stride) {
         return Answer::Refused(7);
     }
-    if space < lent::scratch_need(layout) {
+    if space < image::lent::scratch_need(layout) {
         return Answer::Refused(9);
     }
     if room < layout.w * layout.h {
@@ -83,7 +83,7 @@ fn plane_row(
         row,
         s,
     );
-    rounded_rows::store_row(s, 0, layout.w, layout.maxval, out, row * layout.w);
+    linear::rounded::store_row(s, 0, layout.w, layout.maxval, out, row * layout.w);
 }
 
 // Every row of the plane in turn.
@@ -123,7 +123,7 @@ pub fn guided_plane(
     ensures { λ r. ⌜ GuidedGiven layout (record { bytes = now (y .entry); stride = «y_stride» }) (record { bytes = now (c .entry); stride = «c_stride» }) (now (s .entry)) (now (out .entry)) r (now (s .exit)) (now (out .exit)) ⌝ }
 {
     let answer = plane_answer(layout, y, y_stride, c, c_stride, s.len(), out.len());
-    if image::refused(answer) {
+    if image::layouts::refused(answer) {
         return answer;
     }
     plane_rows(layout, y, y_stride, c, c_stride, s, out);

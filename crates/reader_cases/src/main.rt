@@ -3,9 +3,9 @@
 // oracle/reader-cases made the list and what must be written for it: a line of 142 bytes for each call, a kind and 28 words of four hex digits:
 // w h rh rv cw ch sample_bytes maxval(2) y_stride cb_stride cr_stride y_len cb_len cr_len seed y_shape cb_shape cr_shape
 // space(2) room_cb room_cr row change value(3).
-use guided::Geometry;
-use guided::Reader;
-use guided::Reply;
+use guided::calls::Geometry;
+use guided::calls::Reader;
+use guided::calls::Reply;
 use libc::STDIN_FILENO;
 use taps::Phase;
 
@@ -20,7 +20,7 @@ fn done_by(reply: Reply, sum: u32) -> Done {
     let answer = reply.answer;
     let reader = reply.reader;
     Done {
-        answer: cases::number(answer),
+        answer: cases::shared::number(answer),
         reader,
         sum,
     }
@@ -34,9 +34,9 @@ fn unwritten() -> [f32; 65_536] {
 // A phase as a number: its fraction's bits, and above them whether it goes to the left.
 fn phase_number(p: Phase) -> usize {
     if p.left {
-        return 4_294_967_296 + cases::bits(p.f) as usize;
+        return 4_294_967_296 + cases::shared::bits(p.f) as usize;
     }
-    cases::bits(p.f) as usize
+    cases::shared::bits(p.f) as usize
 }
 
 // A reader as numbers: none, place, h_next, f_next, maxval, sample_bytes, w h rh rv cw ch and the phases.
@@ -70,7 +70,7 @@ fn low(n: usize) -> u32 {
 fn phase(n: usize) -> Phase {
     Phase {
         left: n >= 4_294_967_296,
-        f: cases::float(low(n)),
+        f: cases::shared::float(low(n)),
     }
 }
 
@@ -98,16 +98,16 @@ fn reader_of(n: [usize; 16]) -> Reader {
 
 // A line's value; ffffffff stands for the largest usize.
 fn value(text: &[u8]) -> usize {
-    let n = cases::long(text, 26);
+    let n = cases::shared::long(text, 26);
     if n == 4_294_967_295 {
         return 18_446_744_073_709_551_615;
     }
-    cases::word(text, 25) * 4_294_967_296 + n
+    cases::shared::word(text, 25) * 4_294_967_296 + n
 }
 
 // The reader that a line's call is handed: the one at hand, with one number changed where the line says which.
 fn handed(text: &[u8], r: Reader) -> Reader {
-    let change = cases::word(text, 24);
+    let change = cases::shared::word(text, 24);
     let mut n = numbers(r);
     if change < 16 {
         n[change] = value(text);
@@ -119,7 +119,10 @@ fn sum_numbers(sum: u32, n: &[usize]) -> u32 {
     let mut sum = sum;
     let mut i = 0;
     while i < n.len() {
-        sum = cases::added(cases::added(sum, low(n[i] / 4_294_967_296)), low(n[i]));
+        sum = cases::shared::added(
+            cases::shared::added(sum, low(n[i] / 4_294_967_296)),
+            low(n[i]),
+        );
         i += 1;
     }
     sum
@@ -127,13 +130,13 @@ fn sum_numbers(sum: u32, n: &[usize]) -> u32 {
 
 fn open(text: &[u8], given: Reader, y: &[u8], cb: &[u8], cr: &[u8], s: &[f32]) -> Done {
     let reply = reconstruction::open(
-        cases::layout(text),
+        cases::shared::layout(text),
         y,
-        cases::size(text, 9),
+        cases::shared::size(text, 9),
         cb,
-        cases::size(text, 10),
+        cases::shared::size(text, 10),
         cr,
-        cases::size(text, 11),
+        cases::shared::size(text, 11),
         s,
         given,
     );
@@ -153,25 +156,25 @@ fn row_into(
     let reply = reconstruction::row(
         given,
         y,
-        cases::size(text, 9),
+        cases::shared::size(text, 9),
         cb,
-        cases::size(text, 10),
+        cases::shared::size(text, 10),
         cr,
-        cases::size(text, 11),
-        cases::size(text, 23),
+        cases::shared::size(text, 11),
+        cases::shared::size(text, 23),
         s,
         out_cb,
         out_cr,
     );
-    let sum = cases::sum_floats(cases::sum_floats(0, out_cb, 0), out_cr, 0);
+    let sum = cases::shared::sum_floats(cases::shared::sum_floats(0, out_cb, 0), out_cr, 0);
     done_by(reply, sum)
 }
 
 fn row(text: &[u8], given: Reader, y: &[u8], cb: &[u8], cr: &[u8], s: &mut [f32]) -> Done {
     let mut out_cb = unwritten();
     let mut out_cr = unwritten();
-    let room_cb = cases::word(text, 21);
-    let room_cr = cases::word(text, 22);
+    let room_cb = cases::shared::word(text, 21);
+    let room_cr = cases::shared::word(text, 22);
     row_into(
         text,
         given,
@@ -185,11 +188,14 @@ fn row(text: &[u8], given: Reader, y: &[u8], cb: &[u8], cr: &[u8], s: &mut [f32]
 }
 
 fn seek(text: &[u8], given: Reader) -> Done {
-    done_by(reconstruction::seek(given, cases::size(text, 23)), 0)
+    done_by(
+        reconstruction::seek(given, cases::shared::size(text, 23)),
+        0,
+    )
 }
 
 fn lent(text: &[u8], given: Reader, y: &[u8], cb: &[u8], cr: &[u8], s: &mut [f32]) -> Done {
-    match cases::byte(text, 0) {
+    match cases::shared::byte(text, 0) {
         b'o' => open(text, given, y, cb, cr, s),
         b's' => seek(text, given),
         _ => row(text, given, y, cb, cr, s),
@@ -198,12 +204,12 @@ fn lent(text: &[u8], given: Reader, y: &[u8], cb: &[u8], cr: &[u8], s: &mut [f32
 
 // A line's call, lent its planes; seek has no use for them.
 fn called(text: &[u8], given: Reader, s: &mut [f32]) -> Done {
-    let y = cases::plane(text, 0);
-    let cb = cases::plane(text, 1);
-    let cr = cases::plane(text, 2);
-    let y_len = cases::word(text, 12);
-    let cb_len = cases::word(text, 13);
-    let cr_len = cases::word(text, 14);
+    let y = cases::shared::plane(text, 0);
+    let cb = cases::shared::plane(text, 1);
+    let cr = cases::shared::plane(text, 2);
+    let y_len = cases::shared::word(text, 12);
+    let cb_len = cases::shared::word(text, 13);
+    let cr_len = cases::shared::word(text, 14);
     lent(text, given, &y[..y_len], &cb[..cb_len], &cr[..cr_len], s)
 }
 
@@ -212,15 +218,15 @@ fn write_call(done: Done, changed: bool) {
     let n = numbers(done.reader);
     let sum = sum_numbers(done.sum, &n);
     let fault = if changed && done.answer != 0 { 1 } else { 0 };
-    cases::write_line(done.answer, cases::added(sum, fault));
+    cases::shared::write_line(done.answer, cases::shared::added(sum, fault));
 }
 
 // The reader after a line's call. That of a changed one is dropped.
 fn replayed(text: &[u8], reader: Reader, s: &mut [f32]) -> Reader {
-    let before = cases::sum_floats(0, s, 0);
+    let before = cases::shared::sum_floats(0, s, 0);
     let done = called(text, handed(text, reader), s);
-    write_call(done, cases::sum_floats(0, s, 0) != before);
-    if cases::word(text, 24) != 0 {
+    write_call(done, cases::shared::sum_floats(0, s, 0) != before);
+    if cases::shared::word(text, 24) != 0 {
         return reader;
     }
     done.reader
@@ -228,7 +234,7 @@ fn replayed(text: &[u8], reader: Reader, s: &mut [f32]) -> Reader {
 
 // The same, lent the front of scratch.
 fn replay(text: &[u8], reader: Reader, s: &mut [f32]) -> Reader {
-    let space = image::least(cases::long(text, 19), s.len());
+    let space = image::layouts::least(cases::shared::long(text, 19), s.len());
     replayed(text, reader, &mut s[..space])
 }
 

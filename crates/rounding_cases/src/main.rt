@@ -16,7 +16,7 @@ fn plane(n: u32) -> [u8; 4] {
 fn sample_one(n: u32, index: u32) -> u32 {
     let plane = plane(n);
     if index < 4 {
-        return plane_samples::sample(&plane, 1, index as usize) as u32;
+        return image::samples::sample(&plane, 1, index as usize) as u32;
     }
     65_536
 }
@@ -25,21 +25,21 @@ fn sample_one(n: u32, index: u32) -> u32 {
 fn sample_two(n: u32, index: u32) -> u32 {
     let plane = plane(n);
     if index < 2 {
-        return plane_samples::sample(&plane, 2, index as usize * 2) as u32;
+        return image::samples::sample(&plane, 2, index as usize * 2) as u32;
     }
     65_536
 }
 
 // The answer to a line: a number, or a float's bits. What is no line of the list has one that no line has.
 fn answer(text: &[u8]) -> u32 {
-    let a = cases::eight(text, 2) as u32;
-    let b = cases::eight(text, 11) as u32;
-    let x = cases::float(a);
-    match cases::byte(text, 0) {
+    let a = cases::shared::eight(text, 2) as u32;
+    let b = cases::shared::eight(text, 11) as u32;
+    let x = cases::shared::float(a);
+    match cases::shared::byte(text, 0) {
         b'g' => fround::round_clamped_by_grid(x, b),
         b'w' => fround::round_clamped_by_bits(x, b),
-        b'n' => cases::bits(fround::fmin(x, cases::float(b))),
-        b'x' => cases::bits(fround::fmax(x, cases::float(b))),
+        b'n' => cases::shared::bits(fround::fmin(x, cases::shared::float(b))),
+        b'x' => cases::shared::bits(fround::fmax(x, cases::shared::float(b))),
         b'1' => sample_one(a, b),
         b'2' => sample_two(a, b),
         _ => 4_294_967_294,
@@ -52,6 +52,6 @@ fn main() {
         if io::read_full(STDIN_FILENO, &mut text) < 20 {
             break;
         }
-        cases::write_line(0, answer(&text));
+        cases::shared::write_line(0, answer(&text));
     }
 }

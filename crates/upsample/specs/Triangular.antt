@@ -8,11 +8,11 @@ use lib.ListN.{length}
 use Rattle.laws.specs.declared.Answer.{Answer}
 use Rattle.laws.specs.Lists.{rows}
 use Rattle.laws.specs.Refusals.{Test, first, accepted}
-use Rattle.image.specs.declared.layout.Layout.{Layout}
+use Rattle.image.specs.declared.layouts.layout.Layout.{Layout}
 use Rattle.image.specs.Tests.{layoutTests}
 use Rattle.image.specs.Samples.{Plane, sampleAt}
 use Rattle.image.specs.Picture.{shortPlane}
-use Rattle.triangle.specs.Weights.{even, weighed, oneAxis}
+use Rattle.upsample.specs.Weights.{even, weighed, oneAxis}
 
 -- "Both axes: vertical sums 3·near + far, then the same across with b = 8 and 7 and >> 4"; c i j is column i of row j
 unfoldable pub bothAxes : ℕ → ℕ → (ℕ → ℕ → ℕ) → ℕ → ℕ → ℕ

@@ -4,7 +4,7 @@ use Rattle.guided_rows.proofs.Catching.{HRun, hrun-none, hrun-more, hru
 use Prim.Native.Nat.{_-_}
 use native.Mathlib.Omega.{arith}
 use Rattle.guided_rows.proofs.steps.across_rows.Statement.{statement}
-use Rattle.guided.proofs.Acceptance.{both}
+use Rattle.guided.proofs.calls.Acceptance.{both}
 use Rattle.guided_rows.proofs.steps.across_rows.Tie as tie
 
 abbrev Inv-loop : tie.InvT-loop

@@ -1,4 +1,4 @@
-use Rattle.guided.proofs.Places.{slot-fits}
+use Rattle.guided.proofs.calls.Places.{slot-fits}
 use Rattle.guided.specs.Scratch.{bufferAt, slotAt}
 use Rattle.image.specs.Scratch.{scratchNeed}
 use mathlib.Core.Path.{ap}

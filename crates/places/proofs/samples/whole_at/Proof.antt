@@ -1,4 +1,4 @@
-use Rattle.image.proofs.Planes.{short-holds, sample-inside}
+use Rattle.image.proofs.layouts.Planes.{short-holds, sample-inside}
 use Rattle.image.specs.Samples.{sampleAt}
 use Prim.Native.Nat.{_+_, _*_, _≤_}
 use native.Mathlib.Omega.{arith}

@@ -9,7 +9,7 @@ use Rattle.laws.specs.Refusals.{Test, first, accepted}
 use Rattle.laws.proofs.Refusals.{refused-early, passed-early}
 use Rattle.image.specs.Tests.{layoutTests, Sound}
 use Rattle.image.specs.Samples.{Plane}
-use Rattle.image.proofs.Layouts.{sound-answer, area}
+use Rattle.image.proofs.layouts.Layouts.{sound-answer, area}
 use Rattle.image.specs.Scratch.{scratchNeed}
 use Rattle.planes.specs.Plane.{shortPair, guidedTests}
 use native.Mathlib.Omega.{arith}

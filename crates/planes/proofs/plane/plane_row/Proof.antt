@@ -8,9 +8,9 @@ use lib.Ieee.{Float}
 use borrow.Author.Needs.{needs}
 use Rattle.laws.proofs.Rows.{row-fits}
 use Rattle.image.specs.Picture.{Cb, Picture, pictureOf}
-use Rattle.image.proofs.Layouts.{area}
-use Rattle.rounded_rows.specs.Stores.{storeRun}
-use Rattle.guided.proofs.Places.{front-fits}
+use Rattle.image.proofs.layouts.Layouts.{area}
+use Rattle.linear.specs.Stores.{storeRun}
+use Rattle.guided.proofs.calls.Places.{front-fits}
 use Rattle.planes.specs.Plane.{planesWith}
 use Rattle.guided_rows.proofs.GuidedRows.{length-step}
 use Rattle.planes.proofs.plane.plane_row.Statement.{statement}

@@ -5,7 +5,7 @@ use native.Mathlib.Omega.{arith}
 use Rattle.laws.proofs.Lists.{Rows, rows-none, rows-more, rows-end}
 use Rattle.image.specs.Picture.{Cb, Picture, pictureOf}
 use Rattle.fround.specs.Rounding.{roundClamped}
-use Rattle.guidance.specs.Guided.{guidedSample}
+use Rattle.guided.specs.Guided.{guidedSample}
 use Rattle.planes.specs.Plane.{planesWith, guidedPlane}
 use Rattle.guided_rows.proofs.GuidedRows.{Advanced, advanced-none, advanced-more, advanced-end}
 use Rattle.planes.proofs.PlaneRows.{stored-is}

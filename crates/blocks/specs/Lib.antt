@@ -1,2 +1,0 @@
-pub mod Floating
-pub mod Blocks

@@ -1,0 +1,41 @@
+// What the test programs share, inner to them: numbers read from a line of a list, planes grown from a seed, sums over what a call left, and the line written for it.
+use laws::Answer;
+use libc::STDOUT_FILENO;
+
+mod checksums;
+mod floats;
+mod lines;
+mod planes;
+
+pub use crate::words::byte;
+pub use crate::words::eight;
+pub use crate::words::long;
+pub use crate::words::size;
+pub use crate::words::word;
+pub use checksums::added;
+pub use checksums::sum_bytes;
+pub use checksums::sum_floats;
+pub use checksums::sum_values;
+pub use floats::bits;
+pub use floats::float;
+pub use lines::layout;
+pub use lines::scratch_part;
+pub use planes::grow;
+pub use planes::grown;
+pub use planes::plane;
+
+// Inner: an answer as a line says it: 0, or the refusal's number.
+pub fn number(answer: Answer) -> usize {
+    match answer {
+        Answer::Accepted => 0,
+        Answer::Refused(n) => n as usize,
+    }
+}
+
+// Inner: writes what a call answered and the sum of what it left. rt holds that line to the original's.
+pub fn write_line(answer: usize, sum: u32) {
+    io::print_decimal(STDOUT_FILENO, answer as u64);
+    io::write_all(STDOUT_FILENO, b" ");
+    io::print_hex(STDOUT_FILENO, sum as u64, 8);
+    io::write_all(STDOUT_FILENO, b"\n");
+}

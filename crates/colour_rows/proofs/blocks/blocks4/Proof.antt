@@ -1,0 +1,88 @@
+use borrow.Author.Needs.{needs}
+use Prim.Native.Nat.{_+_, _-_, _*_, _≤_, _<_}
+use native.Mathlib.Omega.{arith}
+use lib.ListN.{length}
+use Rattle.colour_rows.specs.Colours.{rowColour, colourRow}
+use Rattle.kernel_blocks.proofs.stores.Stored.{Stored, stored-none, stored-over, stored-end}
+use Rattle.colour_rows.proofs.blocks.blocks4.Statement.{statement}
+use Rattle.colour_rows.proofs.blocks.blocks4.Tie as tie
+
+abbrev Inv-loop : tie.InvT-loop
+Inv-loop layout kernel plane stride row s out₀ at low done₀ out done = (done ≤ layout .w) × Stored out₀ out at 4 done (rowColour kernel layout (record { bytes = plane; stride = stride }) row s)
+
+abbrev μ-loop : tie.MeasureT-loop
+μ-loop layout kernel plane stride row s out₀ at low done₀ out done = layout .w - done
+
+-- the block starts where pixels are stored already, ends in the row and fits the output
+place : (c : tie.After-least Inv-loop μ-loop) → (let x = c .least .result in let l = c .before .before .before .before in (x ≤ l .loop .done) × (l .loop .done < x + 16) × (x + 16 ≤ l .before .before .before .before .args .layout .w) × (l .before .before .before .before .args .at + x * 4 + 64 ≤ length (l .loop .out)))
+place c =
+    let l = c .before .before .before .before in
+    let w = l .before .before .before .before .pre .1 .0 .wide in
+    let h = l .loop .inv .1 .len in
+    let e = c .least .ensures in
+    (omega arith, omega arith, omega arith, omega arith)
+
+loop-holds : tie.Need-loop-holds Inv-loop μ-loop
+loop-holds c = (omega arith, stored-none _ _ _ _)
+
+sub-least : tie.Need-sub-least Inv-loop μ-loop
+sub-least c = c .before .before .before .before .before .before .before .pre .1 .0 .wide
+
+least-requires : tie.Need-least-requires Inv-loop μ-loop
+least-requires c κs = search needs
+
+block-at-requires : tie.Need-block-at-requires Inv-loop μ-loop
+block-at-requires c κs = let p = c .before .before .before .before .before .before .before .before .pre in (p .0, (p .1 .0, place c .2))
+
+mul-put-words : tie.Need-mul-put-words Inv-loop μ-loop
+mul-put-words c = let h = place (c .before .before) in omega arith
+
+add-put-words : tie.Need-add-put-words Inv-loop μ-loop
+add-put-words c =
+    let l = c .before .before .before .before .before .before in
+    let h = place (c .before .before) in
+    let n = l .loop .inv .1 .len in
+    let g = l .before .before .before .before .good in
+    omega arith
+
+put-words-requires : tie.Need-put-words-requires Inv-loop μ-loop
+put-words-requires c κs = (c .before .before .before .before .before .before .before .before .before .before .pre .1 .2, place (c .before .before) .3)
+
+add-done : tie.Need-add-done Inv-loop μ-loop
+add-done c = let h = place (c .before .before .before .before .before) in omega arith
+
+loop-less : tie.Need-loop-less Inv-loop μ-loop
+loop-less c = let h = place (c .before .before .before .before .before) in omega arith
+
+loop-again : tie.Need-loop-again Inv-loop μ-loop
+loop-again c =
+    let h = place (c .before .before .before .before .before) in
+    let l = c .before .before .before .before .before .before .before .before .before in
+    let p = l .before .before .before .before .pre .1 in
+    (h .2, stored-over (l .loop .inv .1) _ _ 16 _ (c .before .before .put-words .ensures) (h .0) (omega arith) (omega arith) (omega arith) (c .before .before .before .before .block-at .ensures))
+
+same-length : tie.Need-same-length Inv-loop μ-loop
+same-length c = c .before .before .loop .inv .1 .len
+
+returns : tie.Need-returns Inv-loop μ-loop
+unfolding colourRow
+returns c = stored-end (c .before .before .loop .inv .1) _ (omega arith) (omega arith)
+
+pub blocks4-spec : {M : Type 1} → statement M
+blocks4-spec =
+    tie.close
+    (tie.spec
+    Inv-loop
+    μ-loop
+    loop-holds
+    sub-least
+    least-requires
+    block-at-requires
+    mul-put-words
+    add-put-words
+    put-words-requires
+    add-done
+    loop-less
+    loop-again
+    same-length
+    returns)

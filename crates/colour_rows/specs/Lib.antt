@@ -1,0 +1,3 @@
+pub mod Colours
+pub mod Lent
+pub mod Gathered

@@ -1,0 +1,130 @@
+// A row by blocks of sixteen pixels. The last block ends with the row: it overlaps the one before, and stores what that stored again.
+ghost use mathlib.Core.Path.{_≡_};
+ghost use Prim.Native.Nat.{ℕ, _+_, _*_, _≤_, _<_};
+ghost use lib.ListN.{length, getD};
+ghost use Rattle.image.specs.Scratch.{cellAt};
+ghost use Rattle.kernel_blocks.specs.Stores.{blockPixel};
+ghost use Rattle.colour_rows.specs.Colours.{colourBy, rowColour, colourRow};
+ghost use Rattle.colour_rows.specs.Lent.{RowLent, Blocked};
+ghost use Rattle.colour_rows.specs.declared.pixels.YcbcrKernel.the-variants.{Exact, FixedPoint16};
+use crate::pixels::YcbcrKernel;
+use crate::samples::chroma16;
+use crate::samples::luma16;
+use crate::samples::whole16;
+use crate::samples::wide16;
+use image::layouts::Layout;
+use kernel_blocks::stores::Block;
+
+// Sixteen pixels by the exact kernel at maxval 255, chroma from column x on.
+fn exact16(y: [u16; Block::LEN], s: &[f32], w: usize, x: usize) -> [[u8; Block::LEN]; 3]
+    requires { ⌜ (x + 16 ≤ w) × (2 * w ≤ length (now s)) ⌝ }
+    ensures { λ r. ⌜ ((k : ℕ) → k < 16 → blockPixel r k ≡ colourBy Exact 255 (getD y k 0) (cellAt (now (s .entry)) 0 (x + k)) (cellAt (now (s .entry)) w (x + k))) ⌝ }
+{
+    let cb = chroma16(s, 0, x);
+    let cr = chroma16(s, w, x);
+    kernel_blocks::exact::rgb_block(wide16(y), cb, cr)
+}
+
+// The same by the fixed kernel.
+fn fixed16(y: [u16; Block::LEN], s: &[f32], w: usize, x: usize) -> [[u8; Block::LEN]; 3]
+    requires { ⌜ (x + 16 ≤ w) × (2 * w ≤ length (now s)) ⌝ }
+    ensures { λ r. ⌜ ((d k : ℕ) → k < 16 → blockPixel r k ≡ colourBy FixedPoint16 d (getD y k 0) (cellAt (now (s .entry)) 0 (x + k)) (cellAt (now (s .entry)) w (x + k))) ⌝ }
+{
+    let cb = whole16(s, 0, x);
+    let cr = whole16(s, w, x);
+    kernel_blocks::fixed::fixed_block(y, cb, cr)
+}
+
+// The sixteen pixels from column x on.
+fn block_at(
+    layout: Layout,
+    kernel: YcbcrKernel,
+    plane: &[u8],
+    stride: usize,
+    row: usize,
+    s: &[f32],
+    x: usize,
+) -> [[u8; Block::LEN]; 3]
+    requires { ⌜ RowLent layout (record { bytes = now plane; stride = stride }) row (length (now s)) ⌝ }
+    requires { ⌜ Blocked kernel layout × (x + 16 ≤ layout .w) ⌝ }
+    ensures { λ r. ⌜ ((k : ℕ) → k < 16 → blockPixel r k ≡ rowColour kernel layout (record { bytes = now (plane .entry); stride = stride }) row (now (s .entry)) (x + k)) ⌝ }
+{
+    let y = luma16(layout, plane, stride, row, x);
+    match kernel {
+        YcbcrKernel::Exact => exact16(y, s, layout.w, x),
+        YcbcrKernel::FixedPoint16 => fixed16(y, s, layout.w, x),
+    }
+}
+
+// The row with three bytes a pixel. The size is a constant in the loop, so that the stores of a block are plain ones.
+fn blocks3(
+    layout: Layout,
+    kernel: YcbcrKernel,
+    plane: &[u8],
+    stride: usize,
+    row: usize,
+    s: &[f32],
+    out: &mut [u8],
+    at: usize,
+)
+    requires { ⌜ RowLent layout (record { bytes = now plane; stride = stride }) row (length (now s)) ⌝ }
+    requires { ⌜ Blocked kernel layout × (at + layout .w * 3 ≤ length (now out)) ⌝ }
+    ensures { λ _. ⌜ now (out .exit) ≡ colourRow kernel layout (record { bytes = now (plane .entry); stride = stride }) row (now (s .entry)) at 3 (now (out .entry)) ⌝ }
+{
+    let mut done = 0;
+    while done < layout.w {
+        let x = image::layouts::least(done, layout.w - Block::LEN);
+        let rows = block_at(layout, kernel, plane, stride, row, s, x);
+        kernel_blocks::stores::put_block(out, at + x * 3, 3, rows);
+        done = x + Block::LEN;
+    }
+}
+
+// The same with four bytes a pixel, stored as words; `low` has the bits of their colour bytes.
+fn blocks4(
+    layout: Layout,
+    kernel: YcbcrKernel,
+    plane: &[u8],
+    stride: usize,
+    row: usize,
+    s: &[f32],
+    out: &mut [u8],
+    at: usize,
+    low: u32,
+)
+    requires { ⌜ RowLent layout (record { bytes = now plane; stride = stride }) row (length (now s)) ⌝ }
+    requires { ⌜ Blocked kernel layout × (at + layout .w * 4 ≤ length (now out)) × (low ≡ 16777215) ⌝ }
+    ensures { λ _. ⌜ now (out .exit) ≡ colourRow kernel layout (record { bytes = now (plane .entry); stride = stride }) row (now (s .entry)) at 4 (now (out .entry)) ⌝ }
+{
+    let mut done = 0;
+    while done < layout.w {
+        let x = image::layouts::least(done, layout.w - Block::LEN);
+        let rows = block_at(layout, kernel, plane, stride, row, s, x);
+        kernel_blocks::words::put_words(out, at + x * 4, low, rows);
+        done = x + Block::LEN;
+    }
+}
+
+// Inner: the row, the pixel size chosen outside the loop. Four bytes a pixel have 2^24 - 1 as `low`, from the size, since it mustn't be a constant.
+pub fn block_row(
+    layout: Layout,
+    kernel: YcbcrKernel,
+    size: usize,
+    plane: &[u8],
+    stride: usize,
+    row: usize,
+    s: &[f32],
+    out: &mut [u8],
+    at: usize,
+)
+    requires { ⌜ RowLent layout (record { bytes = now plane; stride = stride }) row (length (now s)) ⌝ }
+    requires { ⌜ Blocked kernel layout × (3 ≤ size) × (size ≤ 4) × (at + layout .w * size ≤ length (now out)) ⌝ }
+    ensures { λ _. ⌜ now (out .exit) ≡ colourRow kernel layout (record { bytes = now (plane .entry); stride = stride }) row (now (s .entry)) at size (now (out .entry)) ⌝ }
+{
+    if size == 3 {
+        blocks3(layout, kernel, plane, stride, row, s, out, at);
+        return;
+    }
+    let low = size as u32 * 4_194_304 - 1;
+    blocks4(layout, kernel, plane, stride, row, s, out, at, low);
+}

@@ -1,0 +1,87 @@
+use mathlib.Core.Path.{_≡_, refl, sym, ap, _∙_}
+use Prim.Native.Nat.{ℕ, _-_}
+use native.Mathlib.Omega.{arith}
+use borrow.Author.Tests.{not-true, not-false}
+use borrow.Author.Needs.{needs}
+use Rattle.laws.specs.declared.Answer.the-variants.{Accepted}
+use Rattle.laws.specs.Refusals.{accepted}
+use Rattle.laws.proofs.Refusals.{accepted-is}
+use Rattle.image.specs.Picture.{pictureOf}
+use Rattle.fill.specs.Tests.{FillCall}
+use Rattle.fill.specs.Fill.{fillColour, pixelRows, fillScratch}
+use Rattle.fill.proofs.calls.Acceptance.{ready}
+use Rattle.fill.proofs.calls.fill.Statement.{statement}
+use Rattle.fill.proofs.calls.fill.Tie as tie
+
+-- the call, as the specification has it
+abbrev call : (c : tie.Start) → FillCall
+call c =
+    let a = c .args in
+    record {
+      layout = a .layout;
+      planes = record {
+        y = record { bytes = a .y .now; stride = a .y-stride };
+        cb = record { bytes = a .cb .now; stride = a .cb-stride };
+        cr = record { bytes = a .cr .now; stride = a .cr-stride };
+      };
+      upsampling = a .upsampling;
+      kernel = a .kernel;
+      size = a .size;
+      scratch = a .s .now;
+      out = a .out .now;
+    }
+
+passed : (c : tie.Else1) → c .before .before .fill-answer .result ≡ Accepted
+passed c = accepted-is (c .before .before .fill-answer .result) (not-false (accepted (c .before .before .fill-answer .result)) (sym (c .before .refused .ensures) ∙ c .if1 .left))
+
+fill-answer-requires : tie.Need-fill-answer-requires
+fill-answer-requires c κs = search needs
+
+refused-requires : tie.Need-refused-requires
+refused-requires c κs = search needs
+
+same-length : tie.Need-same-length
+same-length c = search needs
+
+same-length-2 : tie.Need-same-length-2
+same-length-2 c = search needs
+
+returns : tie.Need-returns
+returns c =
+    let e = not-true (accepted (c .before .before .fill-answer .result)) (sym (c .before .refused .ensures) ∙ c .if1 .taken) in
+    record { answers = c .before .before .fill-answer .ensures; gives = rw e refl; scratches = rw e refl }
+
+fill-rows-requires : tie.Need-fill-rows-requires
+fill-rows-requires c κs = (ready (call (c .before .before .before .before .before .before .before .before .before .before .before .before)) (sym (c .before .before .before .before .fill-answer .ensures) ∙ passed (c .before .before)), (omega arith, omega arith))
+
+same-length-3 : tie.Need-same-length-3
+same-length-3 c = search needs
+
+same-length-4 : tie.Need-same-length-4
+same-length-4 c = search needs
+
+returns-2 : tie.Need-returns-2
+returns-2 c =
+    let k = call (c .before .before .before .before .before .before .before .before .before .before .before .before .before .before .before .before .before) in
+    let l = k .layout in
+    let r = c .before .before .before .before .fill-rows .ensures in
+    let e : l .h - 0 ≡ l .h = omega arith in
+    record {
+      answers = sym (passed (c .before .before .before .before .before .before .before)) ∙ c .before .before .before .before .before .before .before .before .before .fill-answer .ensures;
+      gives = r .0 ∙ ap (λ (n : ℕ). pixelRows (l .w) (k .size) (fillColour (k .upsampling) (k .kernel) (pictureOf l (k .planes))) 0 n (k .out)) e;
+      scratches = r .1 ∙ ap (λ (n : ℕ). fillScratch (k .upsampling) l (k .planes) 0 n (k .scratch)) e;
+    }
+
+pub fill-spec : {M : Type 1} → statement M
+fill-spec =
+    tie.close
+    (tie.spec
+    fill-answer-requires
+    refused-requires
+    same-length
+    same-length-2
+    returns
+    fill-rows-requires
+    same-length-3
+    same-length-4
+    returns-2)

@@ -1,0 +1,36 @@
+-- 'fill to RGB (linear or guided)' of document 01: what it is handed, and the reasons for turning the call down. Definitions only.
+use mathlib.Core.Bool.{Bool, true, false}
+use mathlib.Core.List.{List, [], _∷_, _++_}
+use Prim.Native.Nat.{ℕ, _*_}
+use lib.Dec.{ltb}
+use lib.ListN.{length}
+use lib.Ieee.{Float}
+use Rattle.laws.specs.Refusals.{Test}
+use Rattle.image.specs.declared.layouts.layout.Layout.{Layout}
+use Rattle.image.specs.Tests.{outsideOf, layoutTests}
+use Rattle.image.specs.Picture.{Planes, badPlanes}
+use Rattle.image.specs.Scratch.{scratchNeed}
+use Rattle.colour_rows.specs.declared.pixels.YcbcrKernel.{YcbcrKernel}
+use Rattle.colour_rows.specs.declared.pixels.YcbcrKernel.the-variants.{Exact, FixedPoint16}
+use Rattle.fill.specs.declared.answer.ChromaUpsampling.{ChromaUpsampling}
+
+-- what a fill is handed
+pub record FillCall : Type 0 where
+  pub layout : Layout
+  pub planes : Planes
+  pub upsampling : ChromaUpsampling
+  pub kernel : YcbcrKernel
+  pub size : ℕ
+  pub scratch : List Float
+  pub out : List ℕ
+
+abbrev pub isFixed : YcbcrKernel → Bool
+isFixed Exact = false
+isFixed FixedPoint16 = true
+
+-- 2, 3, 4, 5, then 7, 8: "pixel size not 3 or 4", 9 and 10: "output too short"
+unfoldable pub fillTests : FillCall → List Test
+fillTests c =
+    let l = c .layout in
+    layoutTests (isFixed (c .kernel)) l
+    ++ ((badPlanes l (c .planes), 7) ∷ (outsideOf 3 4 (c .size), 8) ∷ (ltb (length (c .scratch)) (scratchNeed l), 9) ∷ (ltb (length (c .out)) (l .w * l .h * c .size), 10) ∷ [])

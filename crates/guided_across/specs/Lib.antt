@@ -1,0 +1,4 @@
+pub mod Parts
+pub mod ByteCells
+pub mod Rows
+pub mod Luma

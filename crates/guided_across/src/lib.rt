@@ -1,0 +1,5 @@
+// guided_across.
+pub mod cells;
+pub mod horizontal;
+pub mod luma;
+pub mod rows;

@@ -1,0 +1,36 @@
+use Rattle.guided_down.proofs.slopes.Statistics.{by-same}
+use Rattle.guided_down.specs.Slopes.{slopeAt}
+use mathlib.Core.Path.{_∙_}
+use borrow.Author.Needs.{needs}
+use Rattle.guided_down.proofs.slopes.slope_at.Statement.{statement}
+use Rattle.guided_down.proofs.slopes.slope_at.Tie as tie
+
+mean-at-requires : tie.Need-mean-at-requires
+mean-at-requires c κs = search needs
+
+mean-at-requires-2 : tie.Need-mean-at-requires-2
+mean-at-requires-2 c κs = search needs
+
+mean-at-requires-3 : tie.Need-mean-at-requires-3
+mean-at-requires-3 c κs = search needs
+
+mean-at-requires-4 : tie.Need-mean-at-requires-4
+mean-at-requires-4 c κs = search needs
+
+slope-by-requires : tie.Need-slope-by-requires
+slope-by-requires c κs = search needs
+
+returns : tie.Need-returns
+unfolding slopeAt
+returns c = c .slope-by .ensures ∙ by-same _ (c .before .before .before .before .mean-at .ensures) (c .before .before .before .mean-at2 .ensures) (c .before .before .mean-at3 .ensures) (c .before .mean-at4 .ensures)
+
+pub slope-at-spec : {M : Type 1} → statement M
+slope-at-spec =
+    tie.close
+    (tie.spec
+    mean-at-requires
+    mean-at-requires-2
+    mean-at-requires-3
+    mean-at-requires-4
+    slope-by-requires
+    returns)

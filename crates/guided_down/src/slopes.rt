@@ -1,0 +1,152 @@
+// The slope of a chroma row's cells, from the sums of the rows round it: in the original's GuidedRows::finish.
+ghost use mathlib.Core.Path.{_≡_};
+ghost use Prim.Native.Nat.{ℕ, _+_, _*_, _≤_, _<_};
+ghost use lib.Ieee.{nan};
+ghost use lib.ListN.{length, getD};
+ghost use Rattle.laws.specs.Lists.{put};
+ghost use Rattle.laws.specs.Floats.{f32, _⊕_, _⊗_, _⊘_};
+ghost use Rattle.guided.specs.Guided.{epsilon};
+ghost use Rattle.guided_down.specs.Slopes.{slopeBy, meanAt, slopeAt, slopeRun, Inside, AllInside, Clear, statsOf, slopeRow};
+ghost use Rattle.places.specs.Lent.{chromaOf};
+ghost use Rattle.image.specs.Tests.{Sound};
+ghost use Rattle.image.specs.Scratch.{scratchNeed};
+use guided::calls::Geometry;
+use image::layouts::Layout;
+use places::Window;
+use places::first_of;
+use places::slot_at;
+use places::window_at;
+
+// The sums that a slope is made of: of luma, its squares, a component, and its products with luma.
+pub struct Stats {
+    pub y: Window,
+    pub yy: Window,
+    pub c: Window,
+    pub yc: Window,
+}
+
+// Inner: what is added to the variance, in the picture's sample range.
+pub fn epsilon_of(layout: Layout) -> f32
+    requires { ⌜ layout .maxval ≤ 65535 ⌝ }
+    ensures { λ r. ⌜ r ≡ epsilon layout ⌝ }
+{
+    let s = layout.maxval as f32 / 255.0;
+    Geometry::EPSILON * s * s
+}
+
+// A ninth of the sum of three.
+fn mean3(a: f32, b: f32, c: f32) -> f32
+    ensures { λ r. ⌜ r ≡ (a ⊕ b ⊕ c) ⊗ (f32 1 ⊘ f32 9) ⌝ }
+{
+    ((a + b) + c) * (1.0 / 9.0)
+}
+
+// The slope by the means of luma, its square, the component and the product.
+fn slope_by(y: f32, yy: f32, c: f32, yc: f32, eps: f32) -> f32
+    ensures { λ r. ⌜ r ≡ slopeBy y yy c yc eps ⌝ }
+{
+    (yc - y * c) / (fround::fmax(yy - y * y, 0.0) + eps)
+}
+
+// The mean over the three by three cells round cell i.
+fn mean_at(s: &[f32], t: Window, i: usize) -> f32
+    requires { ⌜ Inside t (i + 1) (length (now s)) ⌝ }
+    ensures { λ r. ⌜ r ≡ meanAt (now (s .entry)) t i ⌝ }
+{
+    let u = t.up;
+    let m = t.at;
+    let d = t.down;
+    mean3(s[u + i], s[m + i], s[d + i])
+}
+
+// The slope at cell i.
+fn slope_at(s: &[f32], t: Stats, eps: f32, i: usize) -> f32
+    requires { ⌜ AllInside t (i + 1) (length (now s)) ⌝ }
+    ensures { λ r. ⌜ r ≡ slopeAt (now (s .entry)) t eps i ⌝ }
+{
+    let y = mean_at(s, t.y, i);
+    let yy = mean_at(s, t.yy, i);
+    let c = mean_at(s, t.c, i);
+    let yc = mean_at(s, t.yc, i);
+    slope_by(y, yy, c, yc, eps)
+}
+
+// The slopes at n cells, one by one.
+fn slope_run(s: &mut [f32], t: Stats, eps: f32, n: usize, dst: usize)
+    requires { ⌜ AllInside t n (length (now s)) × Clear t dst n × (dst + n ≤ length (now s)) ⌝ }
+    ensures { λ _. ⌜ now (s .exit) ≡ slopeRun t eps dst n (now (s .entry)) ⌝ }
+{
+    let mut i = 0;
+    while i < n {
+        let v = slope_at(s, t, eps, i);
+        s[dst + i] = v;
+        i += 1;
+    }
+}
+
+// The slopes at the eight cells from i on, by value: a block is read before any of it is stored.
+fn slope_eight(s: &[f32], t: Stats, eps: f32, i: usize) -> [f32; 8]
+    requires { ⌜ AllInside t (i + 8) (length (now s)) ⌝ }
+    ensures { λ r. ⌜ ((k : ℕ) → k < 8 → getD r k nan ≡ slopeAt (now (s .entry)) t eps (i + k)) ⌝ }
+{
+    let mut v = [0.0; 8];
+    let mut k = 0;
+    while k < 8 {
+        v[k] = slope_at(s, t, eps, i + k);
+        k += 1;
+    }
+    v
+}
+
+fn store_eight(s: &mut [f32], at: usize, v: [f32; 8])
+    requires { ⌜ at + 8 ≤ length (now s) ⌝ }
+    ensures { λ _. ⌜ now (s .exit) ≡ put (now (s .entry)) at 8 (λ k. getD v k nan) ⌝ }
+{
+    let mut k = 0;
+    while k < 8 {
+        s[at + k] = v[k];
+        k += 1;
+    }
+}
+
+// The slopes at n cells: blocks of eight, the last of which ends with the cells and overlaps the one before; fewer than eight one by one.
+fn slope_cells(s: &mut [f32], t: Stats, eps: f32, n: usize, dst: usize)
+    requires { ⌜ AllInside t n (length (now s)) × Clear t dst n × (dst + n ≤ length (now s)) ⌝ }
+    ensures { λ _. ⌜ now (s .exit) ≡ slopeRun t eps dst n (now (s .entry)) ⌝ }
+{
+    if n < 8 {
+        slope_run(s, t, eps, n, dst);
+        return;
+    }
+    let mut done = 0;
+    while done < n {
+        let i = image::layouts::least(done, n - 8);
+        let v = slope_eight(s, t, eps, i);
+        store_eight(s, dst + i, v);
+        done = i + 8;
+    }
+}
+
+// The sums round chroma row j that a component's slopes are made of.
+fn stats_at(layout: Layout, cr: bool, j: usize) -> Stats
+    requires { ⌜ Sound layout × (j < layout .ch) ⌝ }
+    ensures { λ t. ⌜ t ≡ statsOf layout (chromaOf cr) j ⌝ }
+{
+    let first = first_of(cr);
+    Stats {
+        y: window_at(layout, 1, j),
+        yy: window_at(layout, 2, j),
+        c: window_at(layout, first + 1, j),
+        yc: window_at(layout, first + 2, j),
+    }
+}
+
+// Inner: the slopes of a component's chroma row j, from the sums that scratch holds, to their row buffer.
+pub fn slope_row(layout: Layout, cr: bool, j: usize, s: &mut [f32])
+    requires { ⌜ Sound layout × (j < layout .ch) × (scratchNeed layout ≤ length (now s)) ⌝ }
+    ensures { λ _. ⌜ now (s .exit) ≡ slopeRow layout (chromaOf cr) j (now (s .entry)) ⌝ }
+{
+    let t = stats_at(layout, cr, j);
+    let dst = slot_at(layout, first_of(cr) + 3, j);
+    slope_cells(s, t, epsilon_of(layout), layout.cw, dst);
+}

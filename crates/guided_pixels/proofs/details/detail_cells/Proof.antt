@@ -1,0 +1,72 @@
+use mathlib.Core.Path.{ap, _∙_}
+use Prim.Native.Nat.{ℕ, _+_, _-_, _*_, _≤_}
+use native.Mathlib.Omega.{arith}
+use borrow.Author.Needs.{needs}
+use Rattle.guided_pixels.proofs.details.detail_cells.Statement.{statement}
+use lib.Ieee.{Float}
+use mathlib.Core.List.{List}
+use Rattle.image.specs.Samples.{Plane}
+use Rattle.guided_pixels.proofs.lerps.Phases.{cells-inside, runs-whole}
+use Rattle.guided_pixels.proofs.detail_runs.Details.{detail-runs}
+use Rattle.guided_pixels.specs.Pixels.{detailRun}
+use Rattle.guided_pixels.proofs.details.detail_cells.Tie as tie
+
+-- the cells between the first and the last lie inside the picture
+room : (c : tie.Else1) → c .before .before .before .before .args .layout .rh + (c .before .before .before .before .args .layout .cw - 2) * c .before .before .before .before .args .layout .rh ≤ c .before .before .before .before .args .layout .w
+room c = cells-inside (c .before .before .before .before .args .layout) (c .before .before .before .before .pre .0 .0 .sound) (omega arith)
+
+detail-run-requires : tie.Need-detail-run-requires
+detail-run-requires c κs = ((c .before .before .before .before .before .pre .0 .0, omega arith, omega arith), omega arith)
+
+same-length : tie.Need-same-length
+same-length c = search needs
+
+returns : tie.Need-returns
+returns c = search needs
+
+mul-m : tie.Need-mul-m
+mul-m c = let h = room (c .before) in let o = c .before .before .before .before .before .pre .0 .0 .sound in omega arith
+
+add-m : tie.Need-add-m
+add-m c = let h = room (c .before) in let o = c .before .before .before .before .before .pre .0 .0 .sound in omega arith
+
+detail-run-requires-2 : tie.Need-detail-run-requires-2
+detail-run-requires-2 c κs = let h = room (c .before .before) in ((c .before .before .before .before .before .before .pre .0 .0, omega arith, omega arith), omega arith)
+
+detail-inner-requires : tie.Need-detail-inner-requires
+detail-inner-requires c κs = let h = room (c .before .before .before .before .before .before) in ((c .before .before .before .before .before .before .before .before .before .before .pre .0 .0, omega arith, omega arith, h), omega arith)
+
+sub-detail-run : tie.Need-sub-detail-run
+sub-detail-run c = let h = room (c .before .before .before .before .before .before .before .before .before .before) in omega arith
+
+detail-run-requires-3 : tie.Need-detail-run-requires-3
+detail-run-requires-3 c κs = let h = room (c .before .before .before .before .before .before .before .before .before .before) in ((c .before .before .before .before .before .before .before .before .before .before .before .before .before .before .pre .0 .0, omega arith, omega arith), omega arith)
+
+same-length-2 : tie.Need-same-length-2
+same-length-2 c = search needs
+
+returns-2 : tie.Need-returns-2
+returns-2 c = let a = c .before .before .before .before .before .before .before .before .before .before .before .before .before .before .before .before .before .args in
+    let l = a .layout in
+    let o = c .before .before .before .before .before .before .before .before .before .before .before .before .before .before .before .before .before .pre .0 .0 .sound in
+    let r : ℕ = l .rh in
+    let m : ℕ = (l .cw - 2) * r in
+    let p : Plane = record { bytes = a .plane .now; stride = a .stride } in
+    let run : ℕ → ℕ → List Float → List Float = detailRun l p (a .y) (a .src) (a .dst) in
+    c .before .before .detail-run3 .ensures ∙ ap (run (r + m) (l .w - (r + m))) (c .before .before .before .before .before .before .detail-inner .ensures ∙ ap (run r m) (c .before .before .before .before .before .before .before .before .before .before .detail-run2 .ensures)) ∙ runs-whole (detail-runs l o p (a .y) (a .src) (a .dst) (c .before .before .before .before .before .before .before .before .before .before .before .before .before .before .before .before .before .pre .1 .0)) r m (a .s .now) (room (c .before .before .before .before .before .before .before .before .before .before .before .before .before))
+
+pub detail-cells-spec : {M : Type 1} → statement M
+detail-cells-spec =
+    tie.close
+    (tie.spec
+    detail-run-requires
+    same-length
+    returns
+    mul-m
+    add-m
+    detail-run-requires-2
+    detail-inner-requires
+    sub-detail-run
+    detail-run-requires-3
+    same-length-2
+    returns-2)

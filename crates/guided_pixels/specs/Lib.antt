@@ -1,0 +1,5 @@
+pub mod Columns
+pub mod Across
+pub mod Pixels
+pub mod Row
+pub mod Values

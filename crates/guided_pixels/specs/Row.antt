@@ -1,0 +1,22 @@
+-- The steps of a picture row over lent scratch, as the inner functions' contracts say them. Definitions only.
+use mathlib.Core.List.{List}
+use Prim.Native.Nat.{ℕ, _+_, _/_}
+use lib.Ieee.{Float}
+use Rattle.image.specs.declared.layouts.layout.Layout.{Layout}
+use Rattle.image.specs.Picture.{Chroma, Picture}
+use Rattle.guided.specs.Guided.{Cell}
+use Rattle.guided.specs.Scratch.{numAcross, Slope, numDown, columnOf, lumaColumn, detailRow, componentsOver}
+use Rattle.guided_pixels.specs.Columns.{downColumn}
+use Rattle.guided_pixels.specs.Values.{valueRow}
+
+-- a component's samples and slopes, lerped down for row y
+unfoldable pub downsOf : Layout → Chroma → ℕ → List Float → List Float
+downsOf l k y s = downColumn l (numDown (Slope k)) (columnOf k + 1) y (downColumn l (numAcross (Cell k)) (columnOf k + 0) y s)
+
+-- and its finished row
+unfoldable pub componentRow : Layout → Chroma → ℕ → List Float → List Float
+componentRow l k y s = valueRow l k (y / l .rv) (downsOf l k y s)
+
+-- picture row y of the components ks, from the window that scratch holds
+abbrev pub windowRow : Picture → List Chroma → ℕ → List Float → List Float
+windowRow p ks y s = componentsOver p y ks (detailRow p y (lumaColumn p y s))

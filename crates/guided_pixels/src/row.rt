@@ -1,0 +1,50 @@
+// A picture row from the window: luma's cells and the detail, then each component's rows of cells and its finished row.
+ghost use mathlib.Core.Path.{_≡_};
+ghost use Prim.Native.Nat.{_≤_, _<_};
+ghost use lib.ListN.{length};
+ghost use Rattle.image.specs.Tests.{Sound};
+ghost use Rattle.image.specs.Samples.{Plane};
+ghost use Rattle.image.specs.Picture.{Planes, pictureOf};
+ghost use Rattle.image.specs.Scratch.{scratchNeed};
+ghost use Rattle.guided_across.specs.Luma.{Cells};
+ghost use Rattle.places.specs.Lent.{chromaOf, components};
+ghost use Rattle.guided_pixels.specs.Row.{downsOf, componentRow, windowRow};
+use crate::details::detail_row;
+use crate::lerps::down_column;
+use crate::value_runs::column_of;
+use crate::values::value_row;
+use image::layouts::Layout;
+
+// A component's samples and slopes, lerped down for row y.
+fn downs(layout: Layout, cr: bool, y: usize, s: &mut [f32])
+    requires { ⌜ Sound layout × (y < layout .h) × (scratchNeed layout ≤ length (now s)) ⌝ }
+    ensures { λ _. ⌜ now (s .exit) ≡ downsOf layout (chromaOf cr) y (now (s .entry)) ⌝ }
+{
+    let n = places::first_of(cr);
+    let m = column_of(cr);
+    down_column(layout, n, m, y, s);
+    down_column(layout, n + 3, m + 1, y, s);
+}
+
+// A component's rows of cells of row y, and its finished row.
+fn component(layout: Layout, cr: bool, y: usize, s: &mut [f32])
+    requires { ⌜ Sound layout × (y < layout .h) × (scratchNeed layout ≤ length (now s)) ⌝ }
+    ensures { λ _. ⌜ now (s .exit) ≡ componentRow layout (chromaOf cr) y (now (s .entry)) ⌝ }
+{
+    downs(layout, cr, y, s);
+    value_row(layout, cr, y / layout.rv, s);
+}
+
+// Inner: row `row` of Cb, and where `both` holds of Cr, from the window that scratch holds: no chroma plane is looked at.
+pub fn guided_row(layout: Layout, y: &[u8], y_stride: usize, both: bool, row: usize, s: &mut [f32])
+    requires { ⌜ Cells layout (record { bytes = now y; stride = «y_stride» }) × (row < layout .h) × (scratchNeed layout ≤ length (now s)) ⌝ }
+    ensures { λ _. ⌜ ((cb cr : Plane) → now (s .exit) ≡ windowRow (pictureOf layout (record { y = record { bytes = now (y .entry); stride = «y_stride» }; cb = cb; cr = cr })) (components both) row (now (s .entry))) ⌝ }
+{
+    down_column(layout, 0, 0, row, s);
+    detail_row(layout, y, y_stride, row, s);
+    component(layout, false, row, s);
+    if !both {
+        return;
+    }
+    component(layout, true, row, s);
+}

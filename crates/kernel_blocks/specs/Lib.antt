@@ -1,0 +1,4 @@
+pub mod Stores
+pub mod Floating
+pub mod Blocks
+pub mod Words

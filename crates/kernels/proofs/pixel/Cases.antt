@@ -1,0 +1,54 @@
+-- Worked cases of the kernels, computed from the definitions.
+use mathlib.Core.Path.{_≡_, refl}
+use Prim.Native.Nat.{_*_}
+use lib.IntN.{pos, negsuc}
+use Rattle.laws.specs.Differences.{floorDiv, limit, within}
+use Rattle.laws.specs.Refusals.{first}
+use Rattle.kernels.specs.declared.pixel.Pixel.the-variants.{Rgb, Refused}
+use Rattle.kernels.specs.T871.{rnd}
+use Rattle.kernels.specs.Kernels.{centred, redOffset, greenOffset, blueOffset, exact255, offCentre, exactAt, fixedRed, fixedGreenCb, fixedGreenCr, fixedBlue, fixed255}
+use Rattle.kernels.specs.Pixels.{exactColour, exactTests, fixedTests, exactPixel, fixedPixel}
+
+-- -n is `negsuc (n - 1)`
+pub record Cases : Type 0 where
+  -- the starred cases of document 01
+  pub exact-bright : exactPixel 255 230 (3 * 256) (128 * 256) ≡ Rgb 230 255 9
+  pub fixed-bright : fixedPixel 230 3 128 ≡ Rgb 230 255 8
+  pub exact-dark : exactPixel 255 10 (253 * 256) (128 * 256) ≡ Rgb 10 0 232
+  pub exact-4095 : exactPixel 4095 2048 (2048 * 256) (2048 * 256) ≡ Rgb 128 128 128
+  -- chroma above 65,536 256ths: the offset is limited
+  pub limited : exactPixel 255 0 32768 65545 ≡ Rgb 179 0 0
+  -- halves go up: "The blue offset at cb = 32,000 is +222 and at -32,000 it is -221."
+  pub blue-up : blueOffset (pos 32000) ≡ pos 222
+  pub blue-down : blueOffset (negsuc 31999) ≡ negsuc 220
+  -- green's halves at whole samples
+  pub green-down : greenOffset (centred (78 * 256)) (centred (178 * 256)) ≡ negsuc 17
+  pub green-up : greenOffset (centred (178 * 256)) (centred (78 * 256)) ≡ pos 19
+  -- the limits of refusal 13
+  pub luma-most : exactPixel 255 65535 32768 32768 ≡ Rgb 255 255 255
+  pub luma-over : exactPixel 255 65536 32768 32768 ≡ Refused 13
+  pub chroma-over : exactPixel 255 0 16776961 32768 ≡ Refused 13
+  pub maxval-none : exactPixel 0 0 0 0 ≡ Refused 13
+  pub maxval-over : exactPixel 65536 0 0 0 ≡ Refused 13
+  pub fixed-over : fixedPixel 0 0 65536 ≡ Refused 13
+
+pub cases : Cases
+unfolding floorDiv limit within first rnd centred redOffset greenOffset blueOffset exact255 offCentre exactAt fixedRed fixedGreenCb fixedGreenCr fixedBlue fixed255 exactColour exactTests fixedTests exactPixel fixedPixel
+cases =
+    record {
+      exact-bright = refl;
+      fixed-bright = refl;
+      exact-dark = refl;
+      exact-4095 = refl;
+      limited = refl;
+      blue-up = refl;
+      blue-down = refl;
+      green-down = refl;
+      green-up = refl;
+      luma-most = refl;
+      luma-over = refl;
+      chroma-over = refl;
+      maxval-none = refl;
+      maxval-over = refl;
+      fixed-over = refl;
+    }

@@ -1,0 +1,51 @@
+// The colour of one pixel: the single-pixel calls of the original's src/convert.rs.
+ghost use mathlib.Core.Path.{_≡_};
+ghost use mathlib.Core.List.{[], _∷_};
+ghost use Rattle.kernels.specs.Pixels.{exactPixel, fixedPixel, exactTests, fixedTests};
+use crate::exact::ycbcr_frac_to_rgb8_8bit;
+use crate::exact::ycbcr_frac_to_rgb8_at;
+use crate::fixed::ycbcr_to_rgb8_fixed;
+pub use crate::pixel::Pixel;
+use image::layouts::either;
+use image::layouts::outside;
+
+// Refusal 13's test for the exact kernel.
+fn bad_exact(y: u32, cb256: u32, cr256: u32, maxval: u32) -> bool
+    ensures { λ r. ⌜ exactTests maxval y cb256 cr256 ≡ (r, 13) ∷ [] ⌝ }
+{
+    let others = either(16_776_960 < cr256, outside(1, 65_535, maxval as usize));
+    either(65_535 < y, either(16_776_960 < cb256, others))
+}
+
+// Refusal 13's test for the fixed kernel.
+fn bad_fixed(y: u32, cb: u32, cr: u32) -> bool
+    ensures { λ r. ⌜ fixedTests y cb cr ≡ (r, 13) ∷ [] ⌝ }
+{
+    either(65_535 < y, either(65_535 < cb, 65_535 < cr))
+}
+
+// The exact kernel: chroma in 256ths, samples in 0..=maxval. Refusal 13.
+pub fn ycbcr_frac_to_rgb8(y: u32, cb256: u32, cr256: u32, maxval: u32) -> Pixel
+    ensures { λ p. ⌜ p ≡ exactPixel maxval y cb256 cr256 ⌝ }
+{
+    if bad_exact(y, cb256, cr256, maxval) {
+        return Pixel::Refused(13);
+    }
+    if maxval == 255 {
+        let p = ycbcr_frac_to_rgb8_8bit(y, cb256, cr256);
+        return Pixel::Rgb(p.r, p.g, p.b);
+    }
+    let p = ycbcr_frac_to_rgb8_at(y, cb256, cr256, maxval);
+    Pixel::Rgb(p.r, p.g, p.b)
+}
+
+// The fixed kernel, for maxval 255: whole chroma. Refusal 13.
+pub fn ycbcr_to_rgb8_fixed16(y: u32, cb: u32, cr: u32) -> Pixel
+    ensures { λ p. ⌜ p ≡ fixedPixel y cb cr ⌝ }
+{
+    if bad_fixed(y, cb, cr) {
+        return Pixel::Refused(13);
+    }
+    let p = ycbcr_to_rgb8_fixed(y, cb, cr);
+    Pixel::Rgb(p.r, p.g, p.b)
+}

@@ -1,0 +1,5 @@
+pub mod Rows
+pub mod Stores
+pub mod Down
+pub mod Linear
+pub mod Bound

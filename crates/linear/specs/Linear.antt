@@ -1,0 +1,70 @@
+-- 'Linear' of document 01: "lerp down by the tap, then across", whole planes of it, and the reasons for turning the call down. Definitions only.
+use mathlib.Core.Path.{_≡_}
+use mathlib.Core.Bool.{Bool, false, cond}
+use mathlib.Core.List.{List, [], _∷_, _++_}
+use Prim.Native.Nat.{ℕ, zero, suc, _+_, _*_, _≤_}
+use lib.Dec.{ltb}
+use lib.ListN.{length}
+use lib.Ieee.{Float}
+use Rattle.laws.specs.Floats.{f32}
+use Rattle.laws.specs.Lists.{put, rows}
+use Rattle.laws.specs.Refusals.{Test, first, accepted}
+use Rattle.laws.specs.declared.Answer.{Answer}
+use Rattle.image.specs.declared.layouts.layout.Layout.{Layout}
+use Rattle.image.specs.Tests.{layoutTests, Sound}
+use Rattle.image.specs.Samples.{Plane, sampleAt}
+use Rattle.image.specs.Picture.{shortPlane}
+use Rattle.image.specs.Scratch.{scratchNeed}
+use Rattle.fround.specs.Rounding.{roundClamped}
+use Rattle.taps.specs.declared.taps.Tap.{Tap}
+use Rattle.taps.specs.Taps.{lerpOf, tapOf}
+use Rattle.linear.specs.Rows.{acrossBy}
+
+-- the cells of a column lerped down by a tap
+abbrev pub downBy : Tap → (ℕ → ℕ → ℕ) → ℕ → Float
+downBy t c i = lerpOf (f32 (c i (t .i0))) (f32 (c i (t .i1))) (t .f)
+
+-- row y down, at cell i
+unfoldable pub linearDown : Layout → (ℕ → ℕ → ℕ) → ℕ → ℕ → Float
+linearDown l c y i = downBy (tapOf (l .rv) (l .ch) y) c i
+
+-- row y, column x of the cells c, where c i j is column i of row j
+unfoldable pub linearSample : Layout → (ℕ → ℕ → ℕ) → ℕ → ℕ → Float
+linearSample l c y x = acrossBy (tapOf (l .rh) (l .cw) x) (linearDown l c y)
+
+-- "refusals 2, 3, 4, 5, 7, 9, 10"; `space` and `room` are how many values scratch and output hold
+unfoldable pub linearTests : Layout → Plane → ℕ → ℕ → List Test
+linearTests l p space room = layoutTests false l ++ ((shortPlane l (l .cw) (l .ch) p, 7) ∷ (ltb space (scratchNeed l), 9) ∷ (ltb room (l .w * l .h), 10) ∷ [])
+
+-- the output afterwards: w·h values row by row, "rounded and limited to 0..maxval"; the rest is as it was
+unfoldable pub linearPlane : Layout → Plane → List ℕ → List ℕ
+linearPlane l p out = rows out (l .w) (l .h) (λ y x. roundClamped (l .maxval) (linearSample l (sampleAt (l .«sample_bytes») p) y x))
+
+-- what an accepted call knows of the layout, the plane and the scratch
+pub record Ready (l : Layout) (p : Plane) (space : ℕ) : Type 0 where
+  pub sound : Sound l
+  pub plane : shortPlane l (l .cw) (l .ch) p ≡ false
+  pub scratch : scratchNeed l ≤ space
+
+-- ---- what the papers leave free: what scratch holds after an accepted call
+
+-- where the cells of a row that were lerped down lie: behind two finished rows of w values
+abbrev pub columnAt : Layout → ℕ
+columnAt l = 2 * l .w
+
+-- scratch after row y: the cells lerped down at columnAt, and from them the finished row at `at`
+unfoldable pub linearRow : Layout → Plane → ℕ → ℕ → List Float → List Float
+linearRow l p at y s =
+    put (put s (columnAt l) (l .cw) (linearDown l (sampleAt (l .«sample_bytes») p) y))
+    at (l .w) (linearSample l (sampleAt (l .«sample_bytes») p) y)
+
+-- scratch after the first n rows of a plane, each at 0
+unfoldable pub linearScratch : Layout → Plane → ℕ → List Float → List Float
+linearScratch l p zero s = s
+linearScratch l p (suc n) s = linearRow l p 0 n (linearScratch l p n s)
+
+-- what `linear_plane` promises: of its answer, and of scratch and output after it
+pub record LinearGiven (l : Layout) (p : Plane) (scratch : List Float) (out : List ℕ) (answer : Answer) (scratch' : List Float) (out' : List ℕ) : Type 0 where
+  pub answers : answer ≡ first (linearTests l p (length scratch) (length out))
+  pub leaves : out' ≡ cond (accepted answer) (linearPlane l p out) out
+  pub scratches : scratch' ≡ cond (accepted answer) (linearScratch l p (l .h) scratch) scratch

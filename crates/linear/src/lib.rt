@@ -1,0 +1,5 @@
+// linear.
+pub mod across;
+pub mod down;
+pub mod plane;
+pub mod rounded;

@@ -1,0 +1,40 @@
+-- The bytes of a header, of which ascii says what is whitespace and what a digit, and the number that digits are. Definitions only.
+-- Past the end of a list `getD` gives 0, which is neither whitespace nor a digit.
+use mathlib.Core.Bool.{Bool, cond}
+use mathlib.Core.List.{List, [], _∷_}
+use Prim.Native.Nat.{ℕ, suc, _+_, _-_, _*_}
+use lib.ListN.{getD, take, drop}
+use Rattle.netpbm.specs.Ascii.{isBlank, isDigit}
+
+-- how many entries at the front of a list pass a test
+unfoldable pub leading : (ℕ → Bool) → List ℕ → ℕ
+leading p [] = 0
+leading p (b ∷ bs) = cond (p b) (suc (leading p bs)) 0
+
+-- the number n with the digits behind it; decimalOf 0 (49 ∷ 50 ∷ 56 ∷ []) is 128
+unfoldable pub decimalOf : ℕ → List ℕ → ℕ
+decimalOf n [] = n
+decimalOf n (d ∷ ds) = decimalOf (n * 10 + (d - 48)) ds
+
+-- ---- at a place of the input
+
+unfoldable pub hasBlank : List ℕ → ℕ → Bool
+hasBlank s at = isBlank (getD s at 0)
+
+unfoldable pub hasDigit : List ℕ → ℕ → Bool
+hasDigit s at = isDigit (getD s at 0)
+
+-- how many digits stand there
+unfoldable pub digitsAt : List ℕ → ℕ → ℕ
+digitsAt s at = leading isDigit (drop at s)
+
+-- where the whitespace ends, and where the digits end
+unfoldable pub pastBlanks : List ℕ → ℕ → ℕ
+pastBlanks s at = at + leading isBlank (drop at s)
+
+unfoldable pub pastDigits : List ℕ → ℕ → ℕ
+pastDigits s at = at + digitsAt s at
+
+-- the number that the digits are, however many
+unfoldable pub numberAt : List ℕ → ℕ → ℕ
+numberAt s at = decimalOf 0 (take (digitsAt s at) (drop at s))

@@ -1,0 +1,47 @@
+-- What the inner functions hold: the definitions of Bytes and Images with numbers past 65,536 held as 65,536. Definitions only.
+use mathlib.Core.Path.{_≡_}
+use mathlib.Core.Bool.{Bool, true, false}
+use mathlib.Core.List.{List}
+use Prim.Native.Nat.{ℕ, _+_, _*_, min}
+use Rattle.laws.specs.Refusals.{first, accepted}
+use Rattle.netpbm.specs.declared.pgm.scan.Number.{Number}
+use Rattle.netpbm.specs.declared.pgm.images.Field.{Field}
+use Rattle.netpbm.specs.declared.pgm.images.Image.{Image}
+use Rattle.netpbm.specs.Bytes.{pastDigits, numberAt}
+use Rattle.netpbm.specs.Images.{hasNumber, fieldOf, fieldEnd, widthOf, widthEnd, heightOf, heightEnd, rowsAt, imageTests}
+
+-- a number as it is held
+abbrev pub held : ℕ → ℕ
+held n = min n 65536
+
+-- the number whose digits stand at `at`
+unfoldable pub numberHeld : List ℕ → ℕ → Number
+numberHeld s at = record { value = held (numberAt s at); end = pastDigits s at }
+
+-- the number behind the whitespace at `at`
+unfoldable pub fieldHeld : List ℕ → ℕ → Field
+fieldHeld s at = record { good = hasNumber s at; value = held (fieldOf s at); end = fieldEnd s at }
+
+-- the three numbers of the header of the image at `at`
+pub record HeaderHeld (s : List ℕ) (at : ℕ) (width height maxval : Field) : Type 0 where
+  pub width-is : width ≡ fieldHeld s (at + 2)
+  pub height-is : height ≡ fieldHeld s (widthEnd s at)
+  pub maxval-is : maxval ≡ fieldHeld s (heightEnd s at)
+
+-- the image whose magic stands at `at`
+unfoldable pub imageHeld : List ℕ → ℕ → Image
+imageHeld s at = record {
+  answer = first (imageTests s at);
+  w = held (widthOf s at);
+  h = held (heightOf s at);
+  rows = rowsAt s at;
+  end = rowsAt s at + held (widthOf s at) * held (heightOf s at);
+}
+
+abbrev pub pickImage : Bool → Image → Image → Image
+pickImage true a b = a
+pickImage false a b = b
+
+-- the image behind another: where that one was turned down, that one again
+unfoldable pub imageBehind : List ℕ → Image → Image
+imageBehind s b = pickImage (accepted (b .answer)) (imageHeld s (b .end)) b

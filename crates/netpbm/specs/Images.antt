@@ -1,0 +1,64 @@
+-- One image of the input, whose magic stands at `at`: "each with the two bytes P5, whitespace, decimal width, height and maxval, one whitespace byte, then rows". Definitions only.
+use mathlib.Core.Bool.{Bool, _&&_, not}
+use mathlib.Core.List.{List, [], _∷_}
+use Prim.Native.Nat.{ℕ, _+_, _-_, _*_}
+use lib.Dec.{ltb, eqb}
+use lib.ListN.{length, getD}
+use Rattle.laws.specs.Refusals.{Test}
+use Rattle.netpbm.specs.Bytes.{hasBlank, hasDigit, pastBlanks, pastDigits, numberAt}
+
+-- "the two bytes P5"
+unfoldable pub hasMagic : List ℕ → ℕ → Bool
+hasMagic s at = eqb (getD s at 0) 80 && eqb (getD s (at + 1) 0) 53
+
+-- ---- a number of the header: "whitespace", "one or more", then digits, one or more
+
+unfoldable pub hasNumber : List ℕ → ℕ → Bool
+hasNumber s at = hasBlank s at && hasDigit s (pastBlanks s at)
+
+unfoldable pub fieldOf : List ℕ → ℕ → ℕ
+fieldOf s at = numberAt s (pastBlanks s at)
+
+unfoldable pub fieldEnd : List ℕ → ℕ → ℕ
+fieldEnd s at = pastDigits s (pastBlanks s at)
+
+-- ---- the header's three numbers, and where each ends
+
+unfoldable pub widthOf : List ℕ → ℕ → ℕ
+widthOf s at = fieldOf s (at + 2)
+
+unfoldable pub widthEnd : List ℕ → ℕ → ℕ
+widthEnd s at = fieldEnd s (at + 2)
+
+unfoldable pub heightOf : List ℕ → ℕ → ℕ
+heightOf s at = fieldOf s (widthEnd s at)
+
+unfoldable pub heightEnd : List ℕ → ℕ → ℕ
+heightEnd s at = fieldEnd s (widthEnd s at)
+
+unfoldable pub maxvalOf : List ℕ → ℕ → ℕ
+maxvalOf s at = fieldOf s (heightEnd s at)
+
+unfoldable pub maxvalEnd : List ℕ → ℕ → ℕ
+maxvalEnd s at = fieldEnd s (heightEnd s at)
+
+-- "one whitespace byte, then rows": where the first row byte stands
+unfoldable pub rowsAt : List ℕ → ℕ → ℕ
+rowsAt s at = maxvalEnd s at + 1
+
+-- and where the last row has ended: the next image's magic stands there
+unfoldable pub imageEnd : List ℕ → ℕ → ℕ
+imageEnd s at = rowsAt s at + widthOf s at * heightOf s at
+
+-- what can be wrong with the image, in the order in which it is met: 14, "header not as above", and 15, "program's size limits passed, or rows missing"; "a width past 128 as its digits end"
+unfoldable pub imageTests : List ℕ → ℕ → List Test
+imageTests s at =
+    (not (hasMagic s at), 14)
+    ∷ (not (hasNumber s (at + 2)), 14)
+    ∷ (ltb 128 (widthOf s at), 15)
+    ∷ (not (hasNumber s (widthEnd s at)), 14)
+    ∷ (not (hasNumber s (heightEnd s at)), 14)
+    ∷ (not (eqb (maxvalOf s at) 255), 14)
+    ∷ (not (hasBlank s (maxvalEnd s at)), 14)
+    ∷ (ltb (length s - rowsAt s at) (widthOf s at * heightOf s at), 15)
+    ∷ []

@@ -1,0 +1,156 @@
+use mathlib.Core.Path.{_≡_, refl, sym, ap, _∙_}
+use mathlib.Core.Bool.{true}
+use Prim.Native.Nat.{_*_, _≤_}
+use native.Mathlib.Omega.{arith}
+use lib.ListN.{length}
+use borrow.Author.Tests.{not-true, not-false}
+use borrow.Author.Needs.{needs}
+use Rattle.laws.specs.Refusals.{accepted}
+use Rattle.laws.proofs.Refusals.{accepted-failed, accepted-is}
+use Rattle.image.specs.declared.layouts.layout.Layout.{Layout}
+use Rattle.image.specs.Picture.{badPlanes}
+use Rattle.image.proofs.layouts.Layouts.{neither}
+use Rattle.guided.specs.Scratch.{finishedAt}
+use Rattle.guided.specs.Calls.{RowCall, layoutOf, rowTests, rowScratch, rowOut}
+use Rattle.guided.proofs.calls.Places.{front-fits}
+use Rattle.guided.proofs.calls.FinishedRows.{length-row}
+use Rattle.guided.proofs.calls.Acceptance.{fine, RowHanded, row-handed}
+use Rattle.places.specs.Lent.{Lent}
+use Rattle.reader.proofs.rows.row.Statement.{statement}
+use Rattle.reader.proofs.rows.row.Tie as tie
+
+-- the call, as the specification has it
+abbrev call : (c : tie.After-row-answer) → RowCall
+call c =
+    let a = c .before .before .before .before .before .before .before .before .before .before .args in
+    record {
+      y = a .row;
+      planes = record {
+        y = record { bytes = a .y .now; stride = a .y-stride };
+        cb = record { bytes = a .cb .now; stride = a .cb-stride };
+        cr = record { bytes = a .cr .now; stride = a .cr-stride };
+      };
+      reader = a .reader;
+      scratch = a .s .now;
+      outCb = a .out-cb .now;
+      outCr = a .out-cr .now;
+    }
+
+-- an accepted call, and what it was handed
+passed : (c : tie.Else1) → accepted (c .before .before .row-answer .result) ≡ true
+passed c = not-false (accepted (c .before .before .row-answer .result)) (sym (c .before .refused .ensures) ∙ c .if1 .left)
+
+handed : (c : tie.Else1) → RowHanded (call (c .before .before))
+handed c =
+    let k = call (c .before .before) in
+    row-handed k (accepted-failed (rowTests k) (sym (c .before .before .row-answer .ensures) ∙ accepted-is _ (passed c)))
+
+lent : (c : tie.Else1) → (let k = call (c .before .before) in Lent (layoutOf (k .reader)) (k .planes) true)
+unfolding badPlanes
+lent c =
+    let h = handed c in
+    let n = neither _ _ (h .planes) in
+    let m = neither _ _ (n .1) in
+    record { sound = fine _ (h .state) .sound; luma = n .0; cb = m .0; cr = λ _. m .1 }
+
+-- scratch after the steps is as long as it was, and holds both finished rows
+abbrev calm : (c : tie.After-row-steps) → tie.Else1
+calm c = c .before .before .before
+
+made : (c : tie.After-row-steps) → c .row-steps .last .1 .1 .1 .1 .1 .1 .1 .1 .1 .1 .1 .0 ≡ rowScratch (call (calm c .before .before))
+unfolding rowScratch
+made c = rw (sym (c .before .before .layout-of .ensures)) (c .row-steps .ensures)
+
+made-room : (c : tie.After-row-steps) → 3 * layoutOf (call (calm c .before .before) .reader) .w ≤ length (c .row-steps .last .1 .1 .1 .1 .1 .1 .1 .1 .1 .1 .1 .0)
+unfolding rowScratch
+made-room c =
+    let k = call (calm c .before .before) in
+    let h = handed (calm c) in
+    let f = front-fits (layoutOf (k .reader)) in
+    let e = ap length (made c) ∙ length-row _ _ _ _ _ _ _ in
+    omega (arith, h .room)
+
+row-answer-requires : tie.Need-row-answer-requires
+row-answer-requires c κs = search needs
+
+refused-requires : tie.Need-refused-requires
+refused-requires c κs = search needs
+
+same-length : tie.Need-same-length
+same-length c = search needs
+
+same-length-2 : tie.Need-same-length-2
+same-length-2 c = search needs
+
+same-length-3 : tie.Need-same-length-3
+same-length-3 c = search needs
+
+returns : tie.Need-returns
+returns c =
+    let f = not-true (accepted (c .before .before .row-answer .result)) (sym (c .before .refused .ensures) ∙ c .if1 .taken) in
+    record { answers = c .before .before .row-answer .ensures; leaves = rw f refl; scratches = rw f refl; cbs = rw f refl; crs = rw f refl }
+
+layout-of-requires : tie.Need-layout-of-requires
+layout-of-requires c κs = search needs
+
+row-steps-requires : tie.Need-row-steps-requires
+row-steps-requires c κs =
+    let h = handed (c .before .before) in
+    rw (c .before .layout-of .ensures) (lent (c .before .before), (h .inside, h .room))
+
+copy-rows-requires : tie.Need-copy-rows-requires
+copy-rows-requires c κs =
+    let r = c .before .before .before .before .before in
+    let h = handed (calm r) in
+    let e = ap (λ (l : Layout). l .w) (r .before .before .layout-of .ensures) in
+    let m = made-room r in
+    (omega arith, omega arith, omega arith)
+
+rowed-state-requires : tie.Need-rowed-state-requires
+unfolding layoutOf
+rowed-state-requires c κs =
+    let h = handed (calm (c .before .before .before .before .before .before .before .before .before .before)) in
+    (fine _ (h .state) .sound, h .inside)
+
+same-length-4 : tie.Need-same-length-4
+same-length-4 c = search needs
+
+same-length-5 : tie.Need-same-length-5
+same-length-5 c = search needs
+
+same-length-6 : tie.Need-same-length-6
+same-length-6 c = search needs
+
+returns-2 : tie.Need-returns-2
+unfolding rowOut finishedAt layoutOf
+returns-2 c =
+    let d = c .before .before .before .before .before in
+    let r = d .before .before .before .before .before .before in
+    let e = ap (λ (l : Layout). l .w) (r .before .before .layout-of .ensures) in
+    let a = passed (calm r) in
+    record {
+      answers = calm r .before .before .row-answer .ensures;
+      leaves = rw a (c .rowed-state .ensures);
+      scratches = rw a (made r);
+      cbs = rw a (d .copy-rows .ensures .0 ∙ rw (e, made r) refl);
+      crs = rw a (d .copy-rows .ensures .1 ∙ rw (e, made r) refl);
+    }
+
+pub row-spec : {M : Type 1} → statement M
+row-spec =
+    tie.close
+    (tie.spec
+    row-answer-requires
+    refused-requires
+    same-length
+    same-length-2
+    same-length-3
+    returns
+    layout-of-requires
+    row-steps-requires
+    copy-rows-requires
+    rowed-state-requires
+    same-length-4
+    same-length-5
+    same-length-6
+    returns-2)

@@ -1,0 +1,49 @@
+// Seek: a reader moved to any row.
+ghost use mathlib.Core.Path.{_≡_};
+ghost use Prim.Native.Nat.{_<_};
+ghost use Rattle.image.specs.Tests.{Sound};
+ghost use Rattle.guided.specs.Calls.{layoutOf, sought, SeekGiven};
+use guided::calls::Reader;
+use guided::calls::Reply;
+use laws::Answer;
+
+// The state that seek leaves.
+fn sought_state(reader: Reader, y: usize) -> Reader
+    requires { ⌜ Sound (layoutOf reader) ⌝ }
+    requires { ⌜ y < reader .geometry .h ⌝ }
+    ensures { λ r. ⌜ r ≡ sought reader y ⌝ }
+{
+    let c = reader_state::states::fresh_counters(reader_state::states::layout_of(reader), y);
+    let geometry = reader.geometry;
+    Reader {
+        geometry,
+        sample_bytes: reader.sample_bytes,
+        maxval: reader.maxval,
+        place: y,
+        h_next: c.h_next,
+        f_next: c.f_next,
+    }
+}
+
+// Moves a reader to any row, back as well. Refusals 1 and 11.
+pub fn seek(reader: Reader, y: usize) -> Reply
+    ensures { λ r. ⌜ SeekGiven (record { y = y; reader = reader }) r ⌝ }
+{
+    if reader_state::states::bad_state(reader) {
+        return Reply {
+            answer: Answer::Refused(1),
+            reader,
+        };
+    }
+    let g = reader.geometry;
+    if g.h <= y {
+        return Reply {
+            answer: Answer::Refused(11),
+            reader,
+        };
+    }
+    Reply {
+        answer: Answer::Accepted,
+        reader: sought_state(reader, y),
+    }
+}

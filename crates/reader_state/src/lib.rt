@@ -1,0 +1,3 @@
+// reader_state.
+pub mod phases;
+pub mod states;

@@ -1,2 +1,0 @@
-pub mod Linear
-pub mod Bound

@@ -1,0 +1,34 @@
+-- What the inner functions write of a row. Definitions only.
+use mathlib.Core.Bool.{cond}
+use mathlib.Core.List.{List}
+use Prim.Native.Nat.{ℕ, _+_, _*_, _/_, _≤_, _<_}
+use Rattle.image.specs.Samples.{sampleOf}
+use Rattle.upsample.specs.Weights.{even, weighed, far}
+
+-- the cells of the row that begins at byte `row`
+abbrev pub cells : ℕ → List ℕ → ℕ → ℕ → ℕ
+cells bytes plane row i = sampleOf bytes plane (row + i * bytes)
+
+-- the vertical sums of two rows
+abbrev pub sums : ℕ → List ℕ → ℕ → ℕ → ℕ → ℕ
+sums bytes plane near far i = 3 * cells bytes plane near i + cells bytes plane far i
+
+-- a row at ratio (1, 2)
+unfoldable pub downRow : ℕ → List ℕ → ℕ → ℕ → ℕ → ℕ → ℕ
+downRow bytes plane near far bias x = (sums bytes plane near far x + bias) / 4
+
+-- a row at ratio (2, 2), from n vertical sums c
+unfoldable pub bothRow : ℕ → (ℕ → ℕ) → ℕ → ℕ
+bothRow n c x = (weighed n c x + cond (even x) 8 7) / 16
+
+-- a row of n samples of one or two bytes, from byte `row` of a plane of len bytes
+pub record RowInside (bytes n row len : ℕ) : Type 0 where
+  pub one : 1 ≤ bytes
+  pub two : bytes ≤ 2
+  pub ends : row + n * bytes ≤ len
+
+-- w outputs of cw cells, two of each but for the last, which may have one
+pub record Doubled (cw w : ℕ) : Type 0 where
+  pub wide : 2 < cw
+  pub least : 2 * cw ≤ w + 1
+  pub most : w ≤ 2 * cw

@@ -1,0 +1,61 @@
+// Triangular chroma upsampling of a whole plane: the original's src/jpeg/upsample.rs.
+mod answer;
+
+ghost use mathlib.Core.Path.{_≡_};
+ghost use Prim.Native.Nat.{_*_, _<_};
+ghost use lib.ListN.{length};
+ghost use Rattle.laws.specs.declared.Answer.the-variants.{Accepted};
+ghost use Rattle.laws.specs.Lists.{put};
+ghost use Rattle.laws.specs.Refusals.{first};
+ghost use Rattle.image.specs.Samples.{Plane, sampleAt};
+ghost use Rattle.upsample.specs.Triangular.{TriangularGiven, triangularTests, triangularPlane, triangularSample};
+use image::layouts::Layout;
+use laws::Answer;
+
+// Row y of an accepted call.
+fn triangular_row(layout: Layout, plane: &[u8], stride: usize, y: usize, out: &mut [u16])
+    requires { ⌜ first (triangularTests layout (record { bytes = now plane; stride = stride }) (length (now out))) ≡ Accepted ⌝ }
+    requires { ⌜ y < layout .h ⌝ }
+    ensures { λ _. ⌜ now (out .exit) ≡ put (now (out .entry)) (y * layout .w) (layout .w) (triangularSample layout (sampleAt (layout .«sample_bytes») (record { bytes = now (plane .entry); stride = stride })) y) ⌝ }
+{
+    let bytes = layout.sample_bytes;
+    let cw = layout.cw;
+    let w = layout.w;
+    let at = y * w;
+    if layout.rv == 1 {
+        crate::across::across_row(plane, bytes, y * stride, cw, w, out, at);
+        return;
+    }
+    let near = y / 2 * stride;
+    let far = crate::weights::far(y, layout.ch) * stride;
+    if layout.rh == 1 {
+        let bias = crate::weights::one_axis_bias(y);
+        crate::down::down_row(plane, bytes, near, far, bias, w, out, at);
+        return;
+    }
+    crate::down::both_row(plane, bytes, near, far, cw, w, out, at);
+}
+
+// All rows of an accepted call.
+fn triangular(layout: Layout, plane: &[u8], stride: usize, out: &mut [u16])
+    requires { ⌜ first (triangularTests layout (record { bytes = now plane; stride = stride }) (length (now out))) ≡ Accepted ⌝ }
+    ensures { λ _. ⌜ now (out .exit) ≡ triangularPlane layout (record { bytes = now (plane .entry); stride = stride }) (now (out .entry)) ⌝ }
+{
+    let mut y = 0;
+    while y < layout.h {
+        triangular_row(layout, plane, stride, y, out);
+        y += 1;
+    }
+}
+
+// One whole chroma plane, triangular: w by h values into out. Refusals 2, 3, 4, 5, 6, 7 and 10.
+pub fn triangular_plane(layout: Layout, plane: &[u8], stride: usize, out: &mut [u16]) -> Answer
+    ensures { λ r. ⌜ TriangularGiven layout (record { bytes = now (plane .entry); stride = stride }) (now (out .entry)) r (now (out .exit)) ⌝ }
+{
+    let answer = answer::triangular_answer(layout, plane, stride, out.len());
+    if image::layouts::refused(answer) {
+        return answer;
+    }
+    triangular(layout, plane, stride, out);
+    answer
+}
