@@ -1,11 +1,11 @@
 -- What the functions of a row rely on. Definitions only.
 use mathlib.Core.Path.{_≡_}
 use Prim.Native.Nat.{ℕ, _*_, _≤_}
-use Rattle.image.specs.declared.layouts.layout.Layout.{Layout}
+use Rattle.image.specs.declared.layout.Layout.{Layout}
 use Rattle.image.specs.Samples.{Plane}
 use Rattle.colour_rows.specs.Gathered.{LumaRow}
-use Rattle.colour_rows.specs.declared.pixels.YcbcrKernel.{YcbcrKernel}
-use Rattle.colour_rows.specs.declared.pixels.YcbcrKernel.the-variants.{Exact}
+use Rattle.colour_rows.specs.declared.kernel.YcbcrKernel.{YcbcrKernel}
+use Rattle.colour_rows.specs.declared.kernel.YcbcrKernel.the-variants.{Exact}
 
 -- a row of luma, and scratch, `space` values long, that holds the two finished rows of chroma
 pub record RowLent (l : Layout) (p : Plane) (row space : ℕ) : Type 0 where

@@ -6,14 +6,14 @@ ghost use Rattle.image.specs.Scratch.{cellAt};
 ghost use Rattle.kernel_blocks.specs.Stores.{blockPixel};
 ghost use Rattle.colour_rows.specs.Colours.{colourBy, rowColour, colourRow};
 ghost use Rattle.colour_rows.specs.Lent.{RowLent, Blocked};
-ghost use Rattle.colour_rows.specs.declared.pixels.YcbcrKernel.the-variants.{Exact, FixedPoint16};
-use crate::pixels::YcbcrKernel;
+ghost use Rattle.colour_rows.specs.declared.kernel.YcbcrKernel.the-variants.{Exact, FixedPoint16};
+use crate::kernel::YcbcrKernel;
 use crate::samples::chroma16;
 use crate::samples::luma16;
 use crate::samples::whole16;
 use crate::samples::wide16;
-use image::layouts::Layout;
-use kernel_blocks::stores::Block;
+use image::Layout;
+use kernel_blocks::Block;
 
 // Sixteen pixels by the exact kernel at maxval 255, chroma from column x on.
 fn exact16(y: [u16; Block::LEN], s: &[f32], w: usize, x: usize) -> [[u8; Block::LEN]; 3]
@@ -22,7 +22,7 @@ fn exact16(y: [u16; Block::LEN], s: &[f32], w: usize, x: usize) -> [[u8; Block::
 {
     let cb = chroma16(s, 0, x);
     let cr = chroma16(s, w, x);
-    kernel_blocks::exact::rgb_block(wide16(y), cb, cr)
+    kernel_blocks::rgb_block(wide16(y), cb, cr)
 }
 
 // The same by the fixed kernel.
@@ -32,7 +32,7 @@ fn fixed16(y: [u16; Block::LEN], s: &[f32], w: usize, x: usize) -> [[u8; Block::
 {
     let cb = whole16(s, 0, x);
     let cr = whole16(s, w, x);
-    kernel_blocks::fixed::fixed_block(y, cb, cr)
+    kernel_blocks::fixed_block(y, cb, cr)
 }
 
 // The sixteen pixels from column x on.
@@ -73,9 +73,9 @@ fn blocks3(
 {
     let mut done = 0;
     while done < layout.w {
-        let x = image::layouts::least(done, layout.w - Block::LEN);
+        let x = image::least(done, layout.w - Block::LEN);
         let rows = block_at(layout, kernel, plane, stride, row, s, x);
-        kernel_blocks::stores::put_block(out, at + x * 3, 3, rows);
+        kernel_blocks::put_block(out, at + x * 3, 3, rows);
         done = x + Block::LEN;
     }
 }
@@ -98,9 +98,9 @@ fn blocks4(
 {
     let mut done = 0;
     while done < layout.w {
-        let x = image::layouts::least(done, layout.w - Block::LEN);
+        let x = image::least(done, layout.w - Block::LEN);
         let rows = block_at(layout, kernel, plane, stride, row, s, x);
-        kernel_blocks::words::put_words(out, at + x * 4, low, rows);
+        kernel_blocks::put_words(out, at + x * 4, low, rows);
         done = x + Block::LEN;
     }
 }

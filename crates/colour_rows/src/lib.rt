@@ -1,5 +1,9 @@
 // colour_rows.
-pub mod blocks;
-pub mod pixels;
-pub mod rows;
-pub mod samples;
+mod blocks;
+mod kernel;
+mod pixels;
+mod rows;
+mod samples;
+
+pub use kernel::YcbcrKernel;
+pub use rows::colour_row;

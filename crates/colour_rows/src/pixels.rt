@@ -1,10 +1,90 @@
-// The colour that fill gives a pixel, and a row of it pixel by pixel.
-mod pixels;
+// A row pixel by pixel, by the plain forms: what has no block, and rows narrower than one.
+ghost use mathlib.Core.Path.{_≡_};
+ghost use mathlib.Core.Logic.{_≢_};
+ghost use Prim.Native.Nat.{ℕ, _+_, _*_, _≤_};
+ghost use lib.ListN.{length};
+ghost use Rattle.laws.specs.Floats.{f32, _⊗_};
+ghost use Rattle.fround.specs.Rounding.{Rounded};
+ghost use Rattle.kernels.specs.Forms.{colourOf};
+ghost use Rattle.colour_rows.specs.Colours.{colourBy, colourRow};
+ghost use Rattle.colour_rows.specs.Lent.{RowLent};
+ghost use Rattle.colour_rows.specs.declared.kernel.YcbcrKernel.the-variants.{Exact, FixedPoint16};
+use crate::kernel::YcbcrKernel;
+use crate::samples::chroma_at;
+use crate::samples::luma_at;
+use crate::samples::whole_at;
+use image::Layout;
+use kernels::Rgb;
 
-pub use pixels::plain_row;
+// A pixel by the exact kernel at maxval 255.
+fn exact_pixel(y: u32, cb: f32, cr: f32) -> Rgb
+    requires { ⌜ y ≤ 65535 ⌝ }
+    ensures { λ p. ⌜ colourOf p ≡ colourBy Exact 255 y cb cr ⌝ }
+{
+    kernels::ycbcr_frac_to_rgb8_8bit(y, chroma_at(cb), chroma_at(cr))
+}
 
-// Which of document 01's kernels makes the colour.
-pub enum YcbcrKernel {
-    Exact,
-    FixedPoint16,
+// Chroma in 256ths, past the grid's limit.
+fn scaled_chroma(v: f32) -> u32
+    ensures { λ r. ⌜ Rounded 16776960 (v ⊗ f32 256) r ⌝ }
+{
+    fround::round_clamped_by_bits(v * 256.0, 16_776_960)
+}
+
+// A pixel by the exact kernel at another maxval.
+fn scaled_pixel(y: u32, cb: f32, cr: f32, maxval: u32) -> Rgb
+    requires { ⌜ (y ≤ 65535) × (1 ≤ maxval) × (maxval ≤ 65535) × (maxval ≢ 255) ⌝ }
+    ensures { λ p. ⌜ colourOf p ≡ colourBy Exact maxval y cb cr ⌝ }
+{
+    kernels::ycbcr_frac_to_rgb8_at(y, scaled_chroma(cb), scaled_chroma(cr), maxval)
+}
+
+// A pixel by the fixed kernel: chroma goes to whole numbers first.
+fn fixed_pixel(y: u32, cb: f32, cr: f32) -> Rgb
+    requires { ⌜ y ≤ 65535 ⌝ }
+    ensures { λ p. ⌜ ((d : ℕ) → colourOf p ≡ colourBy FixedPoint16 d y cb cr) ⌝ }
+{
+    kernels::ycbcr_to_rgb8_fixed(y, whole_at(cb) as u32, whole_at(cr) as u32)
+}
+
+// A pixel by either kernel.
+fn plain_pixel(kernel: YcbcrKernel, y: u32, cb: f32, cr: f32, maxval: u32) -> Rgb
+    requires { ⌜ (y ≤ 65535) × (1 ≤ maxval) × (maxval ≤ 65535) ⌝ }
+    ensures { λ p. ⌜ colourOf p ≡ colourBy kernel maxval y cb cr ⌝ }
+{
+    match kernel {
+        YcbcrKernel::Exact => {
+            if maxval == 255 {
+                return exact_pixel(y, cb, cr);
+            }
+            scaled_pixel(y, cb, cr, maxval)
+        }
+        YcbcrKernel::FixedPoint16 => fixed_pixel(y, cb, cr),
+    }
+}
+
+// Inner: a row pixel by pixel.
+pub fn plain_row(
+    layout: Layout,
+    kernel: YcbcrKernel,
+    size: usize,
+    plane: &[u8],
+    stride: usize,
+    row: usize,
+    s: &[f32],
+    out: &mut [u8],
+    at: usize,
+)
+    requires { ⌜ RowLent layout (record { bytes = now plane; stride = stride }) row (length (now s)) ⌝ }
+    requires { ⌜ (3 ≤ size) × (at + layout .w * size ≤ length (now out)) ⌝ }
+    ensures { λ _. ⌜ now (out .exit) ≡ colourRow kernel layout (record { bytes = now (plane .entry); stride = stride }) row (now (s .entry)) at size (now (out .entry)) ⌝ }
+{
+    let w = layout.w;
+    let mut x = 0;
+    while x < w {
+        let y = luma_at(layout, plane, stride, row, x);
+        let p = plain_pixel(kernel, y, s[x], s[w + x], layout.maxval);
+        kernel_blocks::put_pixel(out, at + x * size, p.r, p.g, p.b);
+        x += 1;
+    }
 }

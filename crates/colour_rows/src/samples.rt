@@ -1,10 +1,118 @@
-// The samples of a row that colour is made from: luma from its plane, chroma from scratch, rounded.
-mod gather;
+// The samples of a row: luma from its plane, chroma from scratch, rounded; one by one and by sixteens.
+ghost use mathlib.Core.Path.{_≡_};
+ghost use Prim.Native.Nat.{ℕ, _+_, _*_, _≤_, _<_};
+ghost use lib.ListN.{length, getD};
+ghost use lib.Ieee.{nan};
+ghost use Rattle.laws.specs.Floats.{f32, _⊗_};
+ghost use Rattle.image.specs.Samples.{sampleOf, sampleAt};
+ghost use Rattle.fround.specs.Rounding.{roundClamped, Rounded};
+ghost use Rattle.image.specs.Scratch.{cellAt};
+ghost use Rattle.kernel_blocks.specs.Floating.{Centred};
+ghost use Rattle.colour_rows.specs.Gathered.{LumaRow, Sixteen};
+use image::Layout;
+use kernel_blocks::Block;
 
-pub use gather::chroma_at;
-pub use gather::chroma16;
-pub use gather::luma_at;
-pub use gather::luma16;
-pub use gather::whole_at;
-pub use gather::whole16;
-pub use gather::wide16;
+fn wide(x: u16) -> u32
+    ensures { λ r. ⌜ (r ≡ x) × (r ≤ 65535) ⌝ }
+{
+    x as u32
+}
+
+// Inner: luma of column x of a row.
+pub fn luma_at(layout: Layout, plane: &[u8], stride: usize, row: usize, x: usize) -> u32
+    requires { ⌜ LumaRow layout (record { bytes = now plane; stride = stride }) row × (x < layout .w) ⌝ }
+    ensures { λ r. ⌜ (r ≡ sampleAt (layout .«sample_bytes») (record { bytes = now (plane .entry); stride = stride }) x row) × (r ≤ 65535) ⌝ }
+{
+    let bytes = layout.sample_bytes;
+    wide(image::sample(plane, bytes, row * stride + x * bytes))
+}
+
+// Inner: chroma in 256ths, as maxval 255 has it.
+pub fn chroma_at(v: f32) -> u32
+    ensures { λ r. ⌜ Rounded 65536 (v ⊗ f32 256) r ⌝ }
+{
+    fround::round_clamped_by_grid(v * 256.0, 65_536)
+}
+
+// Inner: whole chroma, as the fixed kernel has it.
+pub fn whole_at(v: f32) -> u8
+    ensures { λ r. ⌜ r ≡ roundClamped 255 v ⌝ }
+{
+    fround::round_clamped_by_grid(v, 255) as u8
+}
+
+// The sixteen one-byte samples from `at` on. The size is a constant in the loop, so that they compile to loads of many.
+fn bytes16(plane: &[u8], at: usize) -> [u16; Block::LEN]
+    requires { ⌜ at + 16 ≤ length (now plane) ⌝ }
+    ensures { λ r. ⌜ Sixteen r (λ k. sampleOf 1 (now (plane .entry)) (at + k)) ⌝ }
+{
+    let mut v = [0u16; Block::LEN];
+    for k in 0..Block::LEN {
+        v[k] = image::sample(plane, 1, at + k);
+    }
+    v
+}
+
+// The same of two bytes each.
+fn pairs16(plane: &[u8], at: usize) -> [u16; Block::LEN]
+    requires { ⌜ at + 32 ≤ length (now plane) ⌝ }
+    ensures { λ r. ⌜ Sixteen r (λ k. sampleOf 2 (now (plane .entry)) (at + k * 2)) ⌝ }
+{
+    let mut v = [0u16; Block::LEN];
+    for k in 0..Block::LEN {
+        v[k] = image::sample(plane, 2, at + k * 2);
+    }
+    v
+}
+
+// Inner: luma of the sixteen columns from x on.
+pub fn luma16(
+    layout: Layout,
+    plane: &[u8],
+    stride: usize,
+    row: usize,
+    x: usize,
+) -> [u16; Block::LEN]
+    requires { ⌜ LumaRow layout (record { bytes = now plane; stride = stride }) row × (x + 16 ≤ layout .w) ⌝ }
+    ensures { λ r. ⌜ Sixteen r (λ k. sampleAt (layout .«sample_bytes») (record { bytes = now (plane .entry); stride = stride }) (x + k) row) ⌝ }
+{
+    if layout.sample_bytes == 1 {
+        return bytes16(plane, row * stride + x);
+    }
+    pairs16(plane, row * stride + x * 2)
+}
+
+// Inner: luma as numbers of 32 bits.
+pub fn wide16(y: [u16; Block::LEN]) -> [u32; Block::LEN]
+    ensures { λ r. ⌜ ((k : ℕ) → k < 16 → (getD r k 0 ≡ getD y k 0) × (getD r k 0 ≤ 65535)) ⌝ }
+{
+    let mut v = [0u32; Block::LEN];
+    for k in 0..Block::LEN {
+        v[k] = wide(y[k]);
+    }
+    v
+}
+
+// Inner: chroma of the sixteen columns from x on, of the finished row at src, in 256ths less its centre.
+pub fn chroma16(s: &[f32], src: usize, x: usize) -> [f32; Block::LEN]
+    requires { ⌜ src + (x + 16) ≤ length (now s) ⌝ }
+    ensures { λ r. ⌜ ((k : ℕ) → k < 16 → Centred (getD r k nan) (roundClamped 65536 (cellAt (now (s .entry)) src (x + k) ⊗ f32 256))) ⌝ }
+{
+    let mut v = [0.0f32; Block::LEN];
+    for k in 0..Block::LEN {
+        v[k] = fround::centred_256ths(s[src + (x + k)]);
+    }
+    v
+}
+
+// Inner: chroma of those columns as whole numbers.
+pub fn whole16(s: &[f32], src: usize, x: usize) -> [u8; Block::LEN]
+    requires { ⌜ src + (x + 16) ≤ length (now s) ⌝ }
+    ensures { λ r. ⌜ Sixteen r (λ k. roundClamped 255 (cellAt (now (s .entry)) src (x + k))) ⌝ }
+{
+    let mut v = [0u8; Block::LEN];
+    for k in 0..Block::LEN {
+        v[k] = whole_at(s[src + (x + k)]);
+    }
+    v
+}

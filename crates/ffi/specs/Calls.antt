@@ -7,21 +7,21 @@ use lib.Dec.{eqb, ltb}
 use Rattle.laws.specs.declared.Answer.{Answer}
 use Rattle.image.specs.Samples.{Plane}
 use Rattle.image.specs.Picture.{Planes}
-use Rattle.guided.specs.declared.calls.state.Reply.{Reply}
+use Rattle.guided.specs.declared.state.Reply.{Reply}
 use Rattle.kernels.specs.declared.pixel.Pixel.{Pixel}
 use Rattle.kernels.specs.declared.pixel.Pixel.the-variants as P
-use Rattle.colour_rows.specs.declared.pixels.YcbcrKernel.{YcbcrKernel}
-use Rattle.colour_rows.specs.declared.pixels.YcbcrKernel.the-variants.{Exact, FixedPoint16}
+use Rattle.colour_rows.specs.declared.kernel.YcbcrKernel.{YcbcrKernel}
+use Rattle.colour_rows.specs.declared.kernel.YcbcrKernel.the-variants.{Exact, FixedPoint16}
 use Rattle.fill.specs.declared.answer.ChromaUpsampling.{ChromaUpsampling}
 use Rattle.fill.specs.declared.answer.ChromaUpsampling.the-variants.{Linear, LumaGuided}
 use Rattle.picture.specs.declared.Outcome.{Outcome}
 use Rattle.picture.specs.declared.Outcome.the-variants.{Written, Refused}
-use Rattle.ffi.specs.declared.forms.forms.ChromaStrides.{ChromaStrides}
-use Rattle.ffi.specs.declared.forms.forms.ChromaReader.{ChromaReader}
-use Rattle.ffi.specs.declared.forms.forms.ChromaReply.{ChromaReply}
-use Rattle.ffi.specs.declared.forms.forms.ChromaPixel.{ChromaPixel}
-use Rattle.ffi.specs.declared.forms.forms.ChromaWritten.{ChromaWritten}
-use Rattle.ffi.specs.Forms.{numberOf, strangePhases}
+use Rattle.ffi.specs.declared.types.ChromaStrides.{ChromaStrides}
+use Rattle.ffi.specs.declared.types.ChromaReader.{ChromaReader}
+use Rattle.ffi.specs.declared.types.ChromaReply.{ChromaReply}
+use Rattle.ffi.specs.declared.types.ChromaPixel.{ChromaPixel}
+use Rattle.ffi.specs.declared.types.ChromaWritten.{ChromaWritten}
+use Rattle.ffi.specs.Types.{numberOf, strangePhases}
 use Rattle.ffi.specs.Replies.{replyTo}
 
 -- ---- numbers for answers

@@ -1,10 +1,10 @@
 -- What C gets of a reader's reply. Definitions only.
 use mathlib.Core.Bool.{cond}
 use Rattle.laws.specs.Refusals.{accepted}
-use Rattle.guided.specs.declared.calls.state.Reply.{Reply}
-use Rattle.ffi.specs.declared.forms.forms.ChromaReader.{ChromaReader}
-use Rattle.ffi.specs.declared.forms.forms.ChromaReply.{ChromaReply}
-use Rattle.ffi.specs.Forms.{numberOf, chromaReader}
+use Rattle.guided.specs.declared.state.Reply.{Reply}
+use Rattle.ffi.specs.declared.types.ChromaReader.{ChromaReader}
+use Rattle.ffi.specs.declared.types.ChromaReply.{ChromaReply}
+use Rattle.ffi.specs.Types.{numberOf, chromaReader}
 
 -- a reply in C's form: the number of its answer, and its state; a refused call hands back what it was handed
 unfoldable pub replyTo : ChromaReader → Reply → ChromaReply

@@ -1,4 +1,26 @@
-// ffi.
-pub mod calls;
-pub mod forms;
-pub mod replies;
+// The calls for C and Rust (include/chroma.h): each translates what it is handed, makes the Rattle call and translates what that gives. None has a `requires`: what stands for nothing is answered.
+mod filling;
+mod pictures;
+mod pixels;
+mod planes;
+mod reading;
+mod replies;
+mod types;
+
+pub use filling::chroma_fill;
+pub use pictures::chroma_picture;
+pub use pixels::chroma_exact_pixel;
+pub use pixels::chroma_fixed_pixel;
+pub use planes::chroma_guided_plane;
+pub use planes::chroma_linear_plane;
+pub use planes::chroma_triangular_plane;
+pub use reading::chroma_open;
+pub use reading::chroma_row;
+pub use reading::chroma_seek;
+pub use types::ChromaLayout;
+pub use types::ChromaPhase;
+pub use types::ChromaPixel;
+pub use types::ChromaReader;
+pub use types::ChromaReply;
+pub use types::ChromaStrides;
+pub use types::ChromaWritten;

@@ -6,14 +6,14 @@ use Prim.Native.Nat.{ℕ, zero, suc, _+_, _*_}
 use lib.Ieee.{Float}
 use Rattle.laws.specs.Refusals.{first, accepted}
 use Rattle.laws.specs.declared.Answer.{Answer}
-use Rattle.image.specs.declared.layouts.layout.Layout.{Layout}
+use Rattle.image.specs.declared.layout.Layout.{Layout}
 use Rattle.image.specs.Picture.{Chroma, Cb, Cr, Picture, Planes, pictureOf}
 use Rattle.linear.specs.Linear.{linearSample, linearRow}
 use Rattle.guided.specs.Guided.{guidedSample}
-use Rattle.guided_rows.specs.Rows.{guidedRows}
+use Rattle.guided_rows.specs.CatchingUp.{guidedRows}
 use Rattle.kernels.specs.Kernels.{Colour}
 use Rattle.kernel_blocks.specs.Stores.{pixels}
-use Rattle.colour_rows.specs.declared.pixels.YcbcrKernel.{YcbcrKernel}
+use Rattle.colour_rows.specs.declared.kernel.YcbcrKernel.{YcbcrKernel}
 use Rattle.colour_rows.specs.Colours.{colourBy}
 use Rattle.fill.specs.Tests.{FillCall, fillTests}
 use Rattle.fill.specs.declared.answer.ChromaUpsampling.{ChromaUpsampling}

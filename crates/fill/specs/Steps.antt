@@ -3,11 +3,11 @@ use mathlib.Core.Bool.{true}
 use mathlib.Core.List.{List, [], _∷_}
 use Prim.Native.Nat.{ℕ, _+_, _*_, _≤_}
 use lib.Ieee.{Float}
-use Rattle.image.specs.declared.layouts.layout.Layout.{Layout}
+use Rattle.image.specs.declared.layout.Layout.{Layout}
 use Rattle.image.specs.Picture.{Cb, Cr, Planes, pictureOf}
 use Rattle.image.specs.Scratch.{scratchNeed}
-use Rattle.places.specs.Lent.{Lent}
-use Rattle.guided_rows.specs.Rows.{guidedStep}
+use Rattle.guided_window.specs.Lent.{Lent}
+use Rattle.guided_rows.specs.CatchingUp.{guidedStep}
 use Rattle.fill.specs.declared.answer.ChromaUpsampling.{ChromaUpsampling}
 use Rattle.fill.specs.declared.answer.ChromaUpsampling.the-variants.{Linear, LumaGuided}
 use Rattle.fill.specs.Fill.{linearPair}

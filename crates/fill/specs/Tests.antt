@@ -6,12 +6,12 @@ use lib.Dec.{ltb}
 use lib.ListN.{length}
 use lib.Ieee.{Float}
 use Rattle.laws.specs.Refusals.{Test}
-use Rattle.image.specs.declared.layouts.layout.Layout.{Layout}
+use Rattle.image.specs.declared.layout.Layout.{Layout}
 use Rattle.image.specs.Tests.{outsideOf, layoutTests}
 use Rattle.image.specs.Picture.{Planes, badPlanes}
 use Rattle.image.specs.Scratch.{scratchNeed}
-use Rattle.colour_rows.specs.declared.pixels.YcbcrKernel.{YcbcrKernel}
-use Rattle.colour_rows.specs.declared.pixels.YcbcrKernel.the-variants.{Exact, FixedPoint16}
+use Rattle.colour_rows.specs.declared.kernel.YcbcrKernel.{YcbcrKernel}
+use Rattle.colour_rows.specs.declared.kernel.YcbcrKernel.the-variants.{Exact, FixedPoint16}
 use Rattle.fill.specs.declared.answer.ChromaUpsampling.{ChromaUpsampling}
 
 -- what a fill is handed

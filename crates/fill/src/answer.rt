@@ -2,8 +2,8 @@
 ghost use mathlib.Core.Path.{_≡_};
 ghost use Rattle.laws.specs.Refusals.{first};
 ghost use Rattle.fill.specs.Tests.{isFixed, fillTests};
-use colour_rows::pixels::YcbcrKernel;
-use image::layouts::Layout;
+use colour_rows::YcbcrKernel;
+use image::Layout;
 use laws::Answer;
 
 // How chroma is reconstructed.
@@ -39,16 +39,16 @@ pub fn fill_answer(
     ensures { λ r. ⌜ r ≡ first (fillTests (record { layout = layout; planes = record { y = record { bytes = now (y .entry); stride = «y_stride» }; cb = record { bytes = now (cb .entry); stride = «cb_stride» }; cr = record { bytes = now (cr .entry); stride = «cr_stride» } }; upsampling = upsampling; kernel = kernel; size = size; scratch = now (s .entry); out = now (out .entry) })) ⌝ }
 {
     let early = layout.answer(is_fixed(kernel));
-    if image::layouts::refused(early) {
+    if image::refused(early) {
         return early;
     }
-    if image::lent::bad_planes(layout, y, y_stride, cb, cb_stride, cr, cr_stride) {
+    if image::bad_planes(layout, y, y_stride, cb, cb_stride, cr, cr_stride) {
         return Answer::Refused(7);
     }
-    if image::layouts::outside(3, 4, size) {
+    if image::outside(3, 4, size) {
         return Answer::Refused(8);
     }
-    if s.len() < image::lent::scratch_need(layout) {
+    if s.len() < image::scratch_need(layout) {
         return Answer::Refused(9);
     }
     if out.len() < layout.w * layout.h * size {

@@ -1,3 +1,7 @@
 // fill.
-pub mod answer;
-pub mod calls;
+mod answer;
+mod calls;
+mod rows;
+
+pub use answer::ChromaUpsampling;
+pub use calls::fill;

@@ -10,17 +10,17 @@ use Rattle.laws.specs.declared.Answer.{Answer}
 use Rattle.laws.specs.Floats.{f32}
 use Rattle.laws.specs.Lists.{put}
 use Rattle.laws.specs.Refusals.{Test, first, accepted}
-use Rattle.image.specs.declared.layouts.layout.Layout.{Layout}
+use Rattle.image.specs.declared.layout.Layout.{Layout}
 use Rattle.image.specs.Tests.{layoutTests}
 use Rattle.image.specs.Samples.{Plane}
 use Rattle.image.specs.Picture.{Chroma, Cb, Cr, Picture, Planes, chromaPlane, pictureOf, badPlanes}
 use Rattle.fround.specs.Rounding.{sameFloat}
-use Rattle.taps.specs.declared.taps.Phase.{Phase}
+use Rattle.taps.specs.declared.positions.Phase.{Phase}
 use Rattle.taps.specs.Taps.{tapOf, phaseOf, pickPhase}
 use Rattle.image.specs.Scratch.{scratchNeed, cellAt}
-use Rattle.guided.specs.declared.calls.geometry.Geometry.{Geometry}
-use Rattle.guided.specs.declared.calls.state.Reader.{Reader}
-use Rattle.guided.specs.declared.calls.state.Reply.{Reply}
+use Rattle.guided.specs.declared.geometry.Geometry.{Geometry}
+use Rattle.guided.specs.declared.state.Reader.{Reader}
+use Rattle.guided.specs.declared.state.Reply.{Reply}
 use Rattle.guided.specs.Scratch.{rowSteps, finishedAt}
 
 -- ---- states

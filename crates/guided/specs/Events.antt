@@ -8,11 +8,11 @@ use lib.ListN.{take, getD}
 use lib.Ieee.{Float, le, isNan}
 use Rattle.laws.specs.Floats.{f32}
 use Rattle.laws.specs.Refusals.{accepted}
-use Rattle.image.specs.declared.layouts.layout.Layout.{Layout}
+use Rattle.image.specs.declared.layout.Layout.{Layout}
 use Rattle.image.specs.Samples.{sampleAt}
 use Rattle.image.specs.Picture.{Chroma, Cb, Cr, Picture, Planes, chromaPlane, pictureOf}
-use Rattle.guided.specs.declared.calls.state.Reader.{Reader}
-use Rattle.guided.specs.declared.calls.state.Reply.{Reply}
+use Rattle.guided.specs.declared.state.Reader.{Reader}
+use Rattle.guided.specs.declared.state.Reply.{Reply}
 use Rattle.guided.specs.Guided.{guidedRow}
 use Rattle.guided.specs.Calls.{OpenCall, SeekCall, RowCall, OpenGiven, SeekGiven, RowGiven}
 

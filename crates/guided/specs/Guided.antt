@@ -5,11 +5,11 @@ use Prim.Native.Nat.{ℕ, zero, suc, _+_, _-_, _*_, _/_, _%_, min}
 use lib.Ieee.{Float}
 use Rattle.laws.specs.Floats.{f32, _⊕_, _⊖_, _⊗_, _⊘_}
 use Rattle.laws.specs.Lists.{table}
-use Rattle.image.specs.declared.layouts.layout.Layout.{Layout}
+use Rattle.image.specs.declared.layout.Layout.{Layout}
 use Rattle.image.specs.Picture.{Chroma, Picture}
 use Rattle.fround.specs.Rounding.{fmin, fmax}
-use Rattle.taps.specs.declared.taps.Tap.{Tap}
-use Rattle.taps.specs.declared.taps.Phase.{Phase}
+use Rattle.taps.specs.declared.positions.Tap.{Tap}
+use Rattle.taps.specs.declared.positions.Phase.{Phase}
 use Rattle.taps.specs.Taps.{lerpOf, tapOf, phaseOf}
 
 -- f 0 + .. + f (n - 1)

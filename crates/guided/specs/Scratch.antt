@@ -7,7 +7,7 @@ use lib.ListN.{getD}
 use lib.Ieee.{Float, nan}
 use Rattle.laws.specs.Floats.{f32}
 use Rattle.laws.specs.Lists.{put}
-use Rattle.image.specs.declared.layouts.layout.Layout.{Layout}
+use Rattle.image.specs.declared.layout.Layout.{Layout}
 use Rattle.image.specs.Picture.{Chroma, Cb, Cr, Picture}
 use Rattle.fround.specs.Rounding.{fmin, fmax}
 use Rattle.image.specs.Scratch.{cellAt}

@@ -1,3 +1,7 @@
 // guided.
-pub mod calls;
-pub mod definition;
+mod geometry;
+mod state;
+
+pub use geometry::Geometry;
+pub use state::Reader;
+pub use state::Reply;

@@ -1,4 +1,4 @@
 pub mod Parts
 pub mod ByteCells
-pub mod Rows
+pub mod Sums
 pub mod Luma

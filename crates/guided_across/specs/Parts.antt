@@ -5,12 +5,12 @@ use Prim.Native.Nat.{ℕ, _+_, _≤_}
 use lib.Ieee.{Float}
 use Rattle.laws.specs.Floats.{f32, _⊕_, _⊗_}
 use Rattle.laws.specs.Lists.{put}
-use Rattle.image.specs.declared.layouts.layout.Layout.{Layout}
+use Rattle.image.specs.declared.layout.Layout.{Layout}
 use Rattle.image.specs.Picture.{Chroma}
 use Rattle.image.specs.Scratch.{scratchNeed, cellAt}
 use Rattle.guided.specs.Guided.{three, lumaOf}
 use Rattle.guided.specs.Scratch.{slotAt, firstOf}
-use Rattle.guided_across.specs.declared.horizontal.across.Slots.{Slots}
+use Rattle.guided_across.specs.declared.across.Slots.{Slots}
 
 -- what `slots_at` promises: the buffers n, n + 1 and n + 2 of chroma row j, apart and within scratch
 pub record SlotsGiven (l : Layout) (n j : ℕ) (t : Slots) : Type 0 where

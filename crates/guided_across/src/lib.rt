@@ -1,5 +1,7 @@
 // guided_across.
-pub mod cells;
-pub mod horizontal;
-pub mod luma;
-pub mod rows;
+mod across;
+mod byte_cells;
+mod luma;
+mod sums;
+
+pub use across::horizontal;

@@ -1,4 +1,127 @@
-// Cell luma: the mean of the luma of a chroma cell's pixels.
-mod cells;
+// The luma of a chroma row's cells: the mean of each cell's pixels inside the picture.
+ghost use mathlib.Core.Path.{_≡_};
+ghost use Prim.Native.Nat.{_+_, _*_, _≤_, _<_};
+ghost use lib.ListN.{length};
+ghost use Rattle.image.specs.Samples.{sampleAt};
+ghost use Rattle.guided.specs.Guided.{lumaOf};
+ghost use Rattle.guided_across.specs.Luma.{Cells, rowSum, cellSum, lumaRun, lumaRow};
+use crate::byte_cells::cell_run;
+use crate::byte_cells::mean_of;
+use image::Layout;
+use lanes::Lanes;
 
-pub use cells::luma_row;
+// The sum of the n samples of row y from column x on.
+fn row_sum(layout: Layout, plane: &[u8], stride: usize, x: usize, y: usize, n: usize) -> u32
+    requires { ⌜ Cells layout (record { bytes = now plane; stride = stride }) ⌝ }
+    requires { ⌜ (x + n ≤ layout .w) × (y < layout .h) × (n ≤ 4) ⌝ }
+    ensures { λ r. ⌜ (r ≡ rowSum layout (record { bytes = now (plane .entry); stride = stride }) x y n) × (r ≤ 65535 * n) ⌝ }
+{
+    let bytes = layout.sample_bytes;
+    let mut t: u32 = 0;
+    let mut i = 0;
+    while i < n {
+        t += image::sample(plane, bytes, y * stride + (x + i) * bytes) as u32;
+        i += 1;
+    }
+    t
+}
+
+// The sum of m such rows, from row y on.
+fn cell_sum(
+    layout: Layout,
+    plane: &[u8],
+    stride: usize,
+    x: usize,
+    y: usize,
+    n: usize,
+    m: usize,
+) -> u32
+    requires { ⌜ Cells layout (record { bytes = now plane; stride = stride }) ⌝ }
+    requires { ⌜ (x + n ≤ layout .w) × (y + m ≤ layout .h) × (n ≤ 4) × (m ≤ 4) ⌝ }
+    ensures { λ r. ⌜ (r ≡ cellSum layout (record { bytes = now (plane .entry); stride = stride }) x y n m) × (r ≤ 262140 * m) ⌝ }
+{
+    let mut t: u32 = 0;
+    let mut i = 0;
+    while i < m {
+        t += row_sum(layout, plane, stride, x, y + i, n);
+        i += 1;
+    }
+    t
+}
+
+// The luma of cell i of chroma row j, by the pixels that it has inside the picture.
+fn cell_luma(layout: Layout, plane: &[u8], stride: usize, j: usize, i: usize) -> f32
+    requires { ⌜ Cells layout (record { bytes = now plane; stride = stride }) ⌝ }
+    requires { ⌜ (j < layout .ch) × (i < layout .cw) ⌝ }
+    ensures { λ r. ⌜ r ≡ lumaOf layout (sampleAt (layout .«sample_bytes») (record { bytes = now (plane .entry); stride = stride })) j i ⌝ }
+{
+    let rh = layout.rh;
+    let rv = layout.rv;
+    let x = i * rh;
+    let y = j * rv;
+    let nx = image::least(rh, layout.w - x);
+    let ny = image::least(rv, layout.h - y);
+    mean_of(cell_sum(layout, plane, stride, x, y, nx, ny), nx * ny)
+}
+
+// The luma of n cells of chroma row j, from cell `from` on.
+fn luma_cells(
+    layout: Layout,
+    plane: &[u8],
+    stride: usize,
+    j: usize,
+    s: &mut [f32],
+    dst: usize,
+    from: usize,
+    n: usize,
+)
+    requires { ⌜ Cells layout (record { bytes = now plane; stride = stride }) ⌝ }
+    requires { ⌜ (j < layout .ch) × (from + n ≤ layout .cw) × (dst + from + n ≤ length (now s)) ⌝ }
+    ensures { λ _. ⌜ now (s .exit) ≡ lumaRun layout (record { bytes = now (plane .entry); stride = stride }) j dst from n (now (s .entry)) ⌝ }
+{
+    let mut i = 0;
+    while i < n {
+        s[dst + from + i] = cell_luma(layout, plane, stride, j, from + i);
+        i += 1;
+    }
+}
+
+// The cells at the row's beginning that are made by blocks, and how many: at ratio 2 across and of one byte, where there are sixteen of them.
+fn luma_head(
+    layout: Layout,
+    plane: &[u8],
+    stride: usize,
+    j: usize,
+    s: &mut [f32],
+    dst: usize,
+) -> usize
+    requires { ⌜ Cells layout (record { bytes = now plane; stride = stride }) ⌝ }
+    requires { ⌜ (j < layout .ch) × (dst + layout .cw ≤ length (now s)) ⌝ }
+    ensures { λ r. ⌜ (r ≤ layout .cw) × (now (s .exit) ≡ lumaRun layout (record { bytes = now (plane .entry); stride = stride }) j dst 0 r (now (s .entry))) ⌝ }
+{
+    let rv = layout.rv;
+    let y = j * rv;
+    if layout.rh != 2 {
+        return 0;
+    }
+    if layout.sample_bytes != 1 {
+        return 0;
+    }
+    let n = layout.w / 2;
+    if n < Lanes::PIXELS {
+        return 0;
+    }
+    let m = image::least(rv, layout.h - y);
+    cell_run(plane, y * stride, stride, m, n, s, dst);
+    n
+}
+
+// Inner: the luma of the cells of chroma row j, to s from dst on.
+pub fn luma_row(layout: Layout, plane: &[u8], stride: usize, j: usize, s: &mut [f32], dst: usize)
+    requires { ⌜ Cells layout (record { bytes = now plane; stride = stride }) ⌝ }
+    requires { ⌜ (j < layout .ch) × (dst + layout .cw ≤ length (now s)) ⌝ }
+    ensures { λ _. ⌜ now (s .exit) ≡ lumaRow layout (record { bytes = now (plane .entry); stride = stride }) j dst (now (s .entry)) ⌝ }
+{
+    let n = luma_head(layout, plane, stride, j, s, dst);
+    luma_cells(layout, plane, stride, j, s, dst, n, layout.cw - n);
+}

@@ -3,7 +3,7 @@ use mathlib.Core.Bool.{true, false}
 use mathlib.Core.List.{List}
 use Prim.Native.Nat.{ℕ}
 use lib.Ieee.{Float}
-use Rattle.image.specs.declared.layouts.layout.Layout.{Layout}
+use Rattle.image.specs.declared.layout.Layout.{Layout}
 use Rattle.image.specs.Samples.{Plane}
 use Rattle.image.specs.Picture.{Chroma}
 use Rattle.guided.specs.Scratch.{slotAt, Least, Greatest, numDown}

@@ -7,12 +7,12 @@ use Rattle.laws.specs.Floats.{f32, _⊕_, _⊖_, _⊗_, _⊘_}
 use Rattle.laws.specs.Lists.{put}
 use Rattle.fround.specs.Rounding.{fmax}
 use Rattle.image.specs.Scratch.{cellAt}
-use Rattle.image.specs.declared.layouts.layout.Layout.{Layout}
+use Rattle.image.specs.declared.layout.Layout.{Layout}
 use Rattle.image.specs.Picture.{Chroma}
 use Rattle.guided.specs.Guided.{LumaSum, SquareSum, CellSum, ProductSum, slopeOf}
 use Rattle.guided.specs.Scratch.{slotAt, Slope, numAcross, numDown, readAcross}
-use Rattle.places.specs.Buffers.{windowOf}
-use Rattle.places.specs.declared.places.Window.{Window}
+use Rattle.guided_window.specs.Buffers.{windowOf}
+use Rattle.guided_window.specs.declared.buffers.Window.{Window}
 use Rattle.guided_down.specs.declared.slopes.Stats.{Stats}
 
 -- "D = max(mean yy − my·my, 0) + eps. Slope a = (mean yc − my·mc)/D.", by the means

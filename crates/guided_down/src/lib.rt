@@ -1,5 +1,7 @@
 // guided_down.
-pub mod extremes;
-pub mod finish;
-pub mod nines;
-pub mod slopes;
+mod extremes;
+mod finishing;
+mod nines;
+mod slopes;
+
+pub use finishing::finish;

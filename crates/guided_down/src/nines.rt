@@ -106,7 +106,7 @@ pub fn byte_run(
     }
     let mut done = 0;
     while done < n {
-        let i = image::layouts::least(done, n - Cells::BLOCK);
+        let i = image::least(done, n - Cells::BLOCK);
         let block = byte_block(plane, greatest, u + i, m + i, d + i);
         put_floats(s, dst + i, block);
         done = i + Cells::BLOCK;
@@ -128,9 +128,9 @@ fn word_three(plane: &[u8], greatest: bool, at: usize) -> u16
     requires { ⌜ at + 6 ≤ length (now plane) ⌝ }
     ensures { λ r. ⌜ r ≡ threeFrom greatest 2 (now (plane .entry)) at ⌝ }
 {
-    let a = image::samples::sample(plane, 2, at);
-    let b = image::samples::sample(plane, 2, at + 2);
-    let c = image::samples::sample(plane, 2, at + 4);
+    let a = image::sample(plane, 2, at);
+    let b = image::sample(plane, 2, at + 2);
+    let c = image::sample(plane, 2, at + 4);
     pick_word(greatest, pick_word(greatest, a, b), c)
 }
 

@@ -7,15 +7,15 @@ ghost use Rattle.laws.specs.Lists.{put};
 ghost use Rattle.laws.specs.Floats.{f32, _⊕_, _⊗_, _⊘_};
 ghost use Rattle.guided.specs.Guided.{epsilon};
 ghost use Rattle.guided_down.specs.Slopes.{slopeBy, meanAt, slopeAt, slopeRun, Inside, AllInside, Clear, statsOf, slopeRow};
-ghost use Rattle.places.specs.Lent.{chromaOf};
+ghost use Rattle.guided_window.specs.Lent.{chromaOf};
 ghost use Rattle.image.specs.Tests.{Sound};
 ghost use Rattle.image.specs.Scratch.{scratchNeed};
-use guided::calls::Geometry;
-use image::layouts::Layout;
-use places::Window;
-use places::first_of;
-use places::slot_at;
-use places::window_at;
+use guided::Geometry;
+use guided_window::Window;
+use guided_window::first_of;
+use guided_window::slot_at;
+use guided_window::window_at;
+use image::Layout;
 
 // The sums that a slope is made of: of luma, its squares, a component, and its products with luma.
 pub struct Stats {
@@ -120,7 +120,7 @@ fn slope_cells(s: &mut [f32], t: Stats, eps: f32, n: usize, dst: usize)
     }
     let mut done = 0;
     while done < n {
-        let i = image::layouts::least(done, n - 8);
+        let i = image::least(done, n - 8);
         let v = slope_eight(s, t, eps, i);
         store_eight(s, dst + i, v);
         done = i + 8;

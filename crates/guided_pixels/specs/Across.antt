@@ -2,9 +2,9 @@
 use mathlib.Core.Bool.{cond}
 use Prim.Native.Nat.{ℕ, _+_, _-_, min}
 use lib.Ieee.{Float}
-use Rattle.taps.specs.declared.taps.Phase.{Phase}
+use Rattle.taps.specs.declared.positions.Phase.{Phase}
 use Rattle.taps.specs.Taps.{lerpOf, fractionOf}
-use Rattle.guided_pixels.specs.declared.lerps.pairs.Pair.{Pair}
+use Rattle.guided_pixels.specs.declared.pairs.Pair.{Pair}
 
 -- cell i of the n cells g, lerped across by a phase
 unfoldable pub phased : (ℕ → Float) → ℕ → Phase → ℕ → Float

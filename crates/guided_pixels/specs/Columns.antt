@@ -4,7 +4,7 @@ use mathlib.Core.List.{List}
 use Prim.Native.Nat.{ℕ, _+_, _≤_}
 use lib.Ieee.{Float}
 use Rattle.laws.specs.Lists.{put}
-use Rattle.image.specs.declared.layouts.layout.Layout.{Layout}
+use Rattle.image.specs.declared.layout.Layout.{Layout}
 use Rattle.taps.specs.Taps.{lerpOf}
 use Rattle.image.specs.Scratch.{scratchNeed, cellAt}
 use Rattle.guided.specs.Guided.{downTo}

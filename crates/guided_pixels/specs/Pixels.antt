@@ -4,12 +4,12 @@ use Prim.Native.Nat.{ℕ, _+_, _*_}
 use lib.Ieee.{Float}
 use Rattle.laws.specs.Floats.{f32}
 use Rattle.laws.specs.Lists.{put}
-use Rattle.image.specs.declared.layouts.layout.Layout.{Layout}
+use Rattle.image.specs.declared.layout.Layout.{Layout}
 use Rattle.image.specs.Samples.{Plane, sampleAt}
 use Rattle.image.specs.Scratch.{cellAt}
 use Rattle.guided.specs.Guided.{detailOf}
 use Rattle.guided.specs.Scratch.{detailAt, columnAt}
-use Rattle.guided_pixels.specs.declared.lerps.pairs.Pair.{Pair}
+use Rattle.guided_pixels.specs.declared.pairs.Pair.{Pair}
 
 -- the detail of column x of row y by the cells at src
 abbrev pub detailIn : Layout → Plane → ℕ → List Float → ℕ → ℕ → Float

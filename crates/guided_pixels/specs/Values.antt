@@ -3,13 +3,13 @@ use mathlib.Core.List.{List}
 use Prim.Native.Nat.{ℕ, _+_, _*_, _≤_}
 use lib.Ieee.{Float}
 use Rattle.laws.specs.Lists.{put}
-use Rattle.image.specs.declared.layouts.layout.Layout.{Layout}
+use Rattle.image.specs.declared.layout.Layout.{Layout}
 use Rattle.image.specs.Picture.{Chroma}
 use Rattle.image.specs.Scratch.{cellAt}
 use Rattle.guided.specs.Guided.{valueOf}
 use Rattle.guided.specs.Scratch.{detailAt, finishedAt, slotAt, Least, Greatest, numDown, columnAt, columnOf}
-use Rattle.guided_pixels.specs.declared.lerps.pairs.Pair.{Pair}
-use Rattle.guided_pixels.specs.declared.value_runs.bands.Bands.{Bands}
+use Rattle.guided_pixels.specs.declared.pairs.Pair.{Pair}
+use Rattle.guided_pixels.specs.declared.bands.Bands.{Bands}
 
 -- a component's two rows of cells, and its extremes of chroma row j
 unfoldable pub bandsOf : Layout → Chroma → ℕ → Bands

@@ -6,12 +6,12 @@ ghost use Rattle.image.specs.Scratch.{scratchNeed};
 ghost use Rattle.guided.specs.Calls.{phasesOf};
 ghost use Rattle.guided_across.specs.Luma.{Cells};
 ghost use Rattle.guided_pixels.specs.Pixels.{detailRun, detailLine};
+use crate::columns::column_at;
 use crate::detail_runs::detail_run;
-use crate::detail_runs::detail_twos;
-use crate::lerps::cell_at;
-use crate::lerps::column_at;
-use image::layouts::Layout;
-use places::sample_at;
+use crate::detail_twos::detail_twos;
+use crate::pairs::cell_at;
+use guided_window::sample_at;
+use image::Layout;
 use taps::Phase;
 
 // The detail of the pixels of cell i: no edge is met.
@@ -58,7 +58,7 @@ fn detail_each(
     requires { ⌜ (dst + layout .w ≤ src) × (src + layout .cw ≤ length (now s)) ⌝ }
     ensures { λ _. ⌜ now (s .exit) ≡ detailRun layout (record { bytes = now (plane .entry); stride = stride }) y src dst (layout .rh) (n * layout .rh) (now (s .entry)) ⌝ }
 {
-    let phases = reader_state::phases::phases_of(layout.rh);
+    let phases = reader_state::phases_of(layout.rh);
     let mut i = 0;
     while i < n {
         detail_cell(layout, plane, stride, y, phases, s, src, dst, i + 1);

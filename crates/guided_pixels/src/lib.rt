@@ -1,7 +1,13 @@
 // guided_pixels.
-pub mod detail_runs;
-pub mod details;
-pub mod lerps;
-pub mod row;
-pub mod value_runs;
-pub mod values;
+mod bands;
+mod columns;
+mod detail_runs;
+mod detail_twos;
+mod details;
+mod pairs;
+mod row;
+mod value_runs;
+mod value_twos;
+mod values;
+
+pub use row::guided_row;

@@ -7,20 +7,20 @@ ghost use Rattle.image.specs.Samples.{Plane};
 ghost use Rattle.image.specs.Picture.{Planes, pictureOf};
 ghost use Rattle.image.specs.Scratch.{scratchNeed};
 ghost use Rattle.guided_across.specs.Luma.{Cells};
-ghost use Rattle.places.specs.Lent.{chromaOf, components};
+ghost use Rattle.guided_window.specs.Lent.{chromaOf, components};
 ghost use Rattle.guided_pixels.specs.Row.{downsOf, componentRow, windowRow};
+use crate::bands::column_of;
+use crate::columns::down_column;
 use crate::details::detail_row;
-use crate::lerps::down_column;
-use crate::value_runs::column_of;
 use crate::values::value_row;
-use image::layouts::Layout;
+use image::Layout;
 
 // A component's samples and slopes, lerped down for row y.
 fn downs(layout: Layout, cr: bool, y: usize, s: &mut [f32])
     requires { ⌜ Sound layout × (y < layout .h) × (scratchNeed layout ≤ length (now s)) ⌝ }
     ensures { λ _. ⌜ now (s .exit) ≡ downsOf layout (chromaOf cr) y (now (s .entry)) ⌝ }
 {
-    let n = places::first_of(cr);
+    let n = guided_window::first_of(cr);
     let m = column_of(cr);
     down_column(layout, n, m, y, s);
     down_column(layout, n + 3, m + 1, y, s);

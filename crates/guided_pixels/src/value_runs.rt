@@ -1,10 +1,38 @@
-// A component's values in runs of pixels one by one, and where the rows that they are made of lie in scratch.
-mod bands;
-mod runs;
+// A component's values in pixels one by one, each by its own tap.
+ghost use mathlib.Core.Path.{_≡_};
+ghost use Prim.Native.Nat.{_+_, _*_, _≤_, _<_};
+ghost use lib.ListN.{length};
+ghost use Rattle.image.specs.Tests.{Sound};
+ghost use Rattle.guided_pixels.specs.Values.{BandsInside, valueAt, valueRun};
+use crate::bands::Bands;
+use crate::bands::limited;
+use crate::pairs::across_pixel;
+use image::Layout;
 
-pub use bands::Bands;
-pub use bands::bands_of;
-pub use bands::column_of;
-pub use bands::finished_at;
-pub use bands::limited;
-pub use runs::value_run;
+// A component's value in column x: its cells and slopes lerped across, the detail between them, raised to the least and lowered to the greatest of its cell.
+fn value_at(layout: Layout, s: &[f32], t: Bands, x: usize) -> f32
+    requires { ⌜ Sound layout × (x < layout .w) × BandsInside t (3 * layout .w) (layout .cw) (length (now s)) ⌝ }
+    ensures { λ r. ⌜ r ≡ valueAt layout (now (s .entry)) t x ⌝ }
+{
+    let c = across_pixel(layout, s, t.cells, x);
+    let a = across_pixel(layout, s, t.slopes, x);
+    let i = x / layout.rh;
+    let lo = t.least;
+    let hi = t.greatest;
+    let d = s[2 * layout.w + x];
+    limited(c + a * d, s[lo + i], s[hi + i])
+}
+
+// Inner: a component's values in n columns, from column `from` on.
+pub fn value_run(layout: Layout, s: &mut [f32], t: Bands, dst: usize, from: usize, n: usize)
+    requires { ⌜ Sound layout × BandsInside t (3 * layout .w) (layout .cw) (length (now s)) ⌝ }
+    requires { ⌜ (from + n ≤ layout .w) × (dst ≤ layout .w) ⌝ }
+    ensures { λ _. ⌜ now (s .exit) ≡ valueRun layout t dst from n (now (s .entry)) ⌝ }
+{
+    let mut i = 0;
+    while i < n {
+        let v = value_at(layout, s, t, from + i);
+        s[dst + from + i] = v;
+        i += 1;
+    }
+}

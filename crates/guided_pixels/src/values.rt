@@ -1,5 +1,129 @@
-// A component's values in the pixels of a picture row.
-mod pixels;
-mod twos;
+// A component's values in the pixels of a picture row, from its rows of cells and the detail.
+ghost use mathlib.Core.Path.{_≡_};
+ghost use Prim.Native.Nat.{_+_, _*_, _≤_, _<_};
+ghost use lib.ListN.{length};
+ghost use Rattle.image.specs.Tests.{Sound};
+ghost use Rattle.image.specs.Scratch.{scratchNeed};
+ghost use Rattle.guided.specs.Calls.{phasesOf};
+ghost use Rattle.guided_window.specs.Lent.{chromaOf};
+ghost use Rattle.guided_pixels.specs.Values.{BandsInside, valueAt, valueRun, valueRow};
+use crate::bands::Bands;
+use crate::bands::bands_of;
+use crate::bands::finished_at;
+use crate::bands::limited;
+use crate::pairs::cell_at;
+use crate::value_runs::value_run;
+use crate::value_twos::value_twos;
+use image::Layout;
+use taps::Phase;
 
-pub use pixels::value_row;
+// A component's values in the pixels of cell i: no edge is met.
+fn value_cell(layout: Layout, phases: [Phase; 4], s: &mut [f32], t: Bands, dst: usize, i: usize)
+    requires { ⌜ Sound layout × BandsInside t (3 * layout .w) (layout .cw) (length (now s)) ⌝ }
+    requires { ⌜ (phases ≡ phasesOf (layout .rh)) × (0 < i) × (i + 1 < layout .cw) × (i * layout .rh + layout .rh ≤ layout .w) × (dst ≤ layout .w) ⌝ }
+    ensures { λ _. ⌜ now (s .exit) ≡ valueRun layout t dst (i * layout .rh) (layout .rh) (now (s .entry)) ⌝ }
+{
+    let c = cell_at(layout, s, t.cells, phases, i);
+    let a = cell_at(layout, s, t.slopes, phases, i);
+    let lo = t.least;
+    let hi = t.greatest;
+    let least = s[lo + i];
+    let greatest = s[hi + i];
+    let at = 2 * layout.w;
+    let rh = layout.rh;
+    let x = i * rh;
+    let mut k = 0;
+    while k < rh {
+        s[dst + x + k] = limited(c[k] + a[k] * s[at + (x + k)], least, greatest);
+        k += 1;
+    }
+}
+
+// Of n cells, from cell 1 on.
+fn value_each(layout: Layout, s: &mut [f32], t: Bands, dst: usize, n: usize)
+    requires { ⌜ Sound layout × BandsInside t (3 * layout .w) (layout .cw) (length (now s)) ⌝ }
+    requires { ⌜ (n + 2 ≤ layout .cw) × (layout .rh + n * layout .rh ≤ layout .w) × (dst ≤ layout .w) ⌝ }
+    ensures { λ _. ⌜ now (s .exit) ≡ valueRun layout t dst (layout .rh) (n * layout .rh) (now (s .entry)) ⌝ }
+{
+    let phases = reader_state::phases_of(layout.rh);
+    let mut i = 0;
+    while i < n {
+        value_cell(layout, phases, s, t, dst, i + 1);
+        i += 1;
+    }
+}
+
+// A component's value in column x at ratio 1, where each cell is a pixel: no edge is met.
+fn value_one(layout: Layout, s: &[f32], t: Bands, x: usize) -> f32
+    requires { ⌜ (layout .rh ≡ 1) × (x + 1 < layout .cw) × (x < layout .w) ⌝ }
+    requires { ⌜ BandsInside t (3 * layout .w) (layout .cw) (length (now s)) ⌝ }
+    ensures { λ r. ⌜ r ≡ valueAt layout (now (s .entry)) t x ⌝ }
+{
+    let cells = t.cells;
+    let slopes = t.slopes;
+    let lo = t.least;
+    let hi = t.greatest;
+    let c = taps::lerp(s[cells + x], s[cells + (x + 1)], 0.0);
+    let a = taps::lerp(s[slopes + x], s[slopes + (x + 1)], 0.0);
+    limited(c + a * s[2 * layout.w + x], s[lo + x], s[hi + x])
+}
+
+// Of n cells, from cell 1 on, at ratio 1.
+fn value_ones(layout: Layout, s: &mut [f32], t: Bands, dst: usize, n: usize)
+    requires { ⌜ Sound layout × BandsInside t (3 * layout .w) (layout .cw) (length (now s)) ⌝ }
+    requires { ⌜ (layout .rh ≡ 1) × (n + 2 ≤ layout .cw) × (1 + n ≤ layout .w) × (dst ≤ layout .w) ⌝ }
+    ensures { λ _. ⌜ now (s .exit) ≡ valueRun layout t dst 1 n (now (s .entry)) ⌝ }
+{
+    let mut i = 0;
+    while i < n {
+        let v = value_one(layout, s, t, 1 + i);
+        s[dst + 1 + i] = v;
+        i += 1;
+    }
+}
+
+// Of n cells, from cell 1 on: a loop for each ratio.
+fn value_inner(layout: Layout, s: &mut [f32], t: Bands, dst: usize, n: usize)
+    requires { ⌜ Sound layout × BandsInside t (3 * layout .w) (layout .cw) (length (now s)) ⌝ }
+    requires { ⌜ (n + 2 ≤ layout .cw) × (layout .rh + n * layout .rh ≤ layout .w) × (dst ≤ layout .w) ⌝ }
+    ensures { λ _. ⌜ now (s .exit) ≡ valueRun layout t dst (layout .rh) (n * layout .rh) (now (s .entry)) ⌝ }
+{
+    if layout.rh == 1 {
+        value_ones(layout, s, t, dst, n);
+        return;
+    }
+    if layout.rh == 2 {
+        value_twos(layout, s, t, dst, n);
+        return;
+    }
+    value_each(layout, s, t, dst, n);
+}
+
+// Of all cells: the first, the inner ones, and the last with its pixels inside the picture.
+fn value_cells(layout: Layout, s: &mut [f32], t: Bands, dst: usize)
+    requires { ⌜ Sound layout × BandsInside t (3 * layout .w) (layout .cw) (length (now s)) ⌝ }
+    requires { ⌜ dst ≤ layout .w ⌝ }
+    ensures { λ _. ⌜ now (s .exit) ≡ valueRun layout t dst 0 (layout .w) (now (s .entry)) ⌝ }
+{
+    let w = layout.w;
+    let rh = layout.rh;
+    if layout.cw < 2 {
+        value_run(layout, s, t, dst, 0, w);
+        return;
+    }
+    let n = layout.cw - 2;
+    let m = rh + n * rh;
+    value_run(layout, s, t, dst, 0, rh);
+    value_inner(layout, s, t, dst, n);
+    value_run(layout, s, t, dst, m, w - m);
+}
+
+// Inner: a component's finished row, from its rows of cells, its extremes of chroma row j, and the detail.
+pub fn value_row(layout: Layout, cr: bool, j: usize, s: &mut [f32])
+    requires { ⌜ Sound layout × (scratchNeed layout ≤ length (now s)) ⌝ }
+    ensures { λ _. ⌜ now (s .exit) ≡ valueRow layout (chromaOf cr) j (now (s .entry)) ⌝ }
+{
+    let t = bands_of(layout, cr, j);
+    let dst = finished_at(layout, cr);
+    value_cells(layout, s, t, dst);
+}

@@ -6,7 +6,7 @@ use native.Mathlib.Omega.{arith}
 use lib.ListN.{length}
 use lib.Ieee.{Float}
 use Rattle.image.specs.Picture.{Chroma, Picture}
-use Rattle.guided.proofs.calls.Window.{length-hsteps, length-fsteps}
+use Rattle.guided.proofs.Window.{length-hsteps, length-fsteps}
 use Rattle.guided.specs.Scratch.{horizontal, finish, hsteps, hAt, fsteps}
 
 -- a loop from `from` to `to` that is at j: how far it came, and that it stays within its end

@@ -13,11 +13,11 @@ use Rattle.image.specs.Scratch.{scratchNeed, cellAt}
 use Rattle.guided.specs.Guided.{guidedSample}
 use Rattle.guided.specs.Scratch.{finishedAt}
 use Rattle.guided.specs.Calls.{topOf, freshH, freshF, doneH, doneF}
-use Rattle.guided.proofs.calls.Held.{Has}
-use Rattle.guided.proofs.calls.Window.{Win, win-fresh}
-use Rattle.guided.proofs.calls.FinishedRows.{length-row, row-window, row-finished}
-use Rattle.guided_rows.specs.Rows.{beforeH, beforeF, guidedStep, guidedRows}
-use Rattle.guided.proofs.calls.Runs.{after}
+use Rattle.guided.proofs.Held.{Has}
+use Rattle.guided.proofs.Window.{Win, win-fresh}
+use Rattle.guided.proofs.FinishedRows.{length-row, row-window, row-finished}
+use Rattle.guided_rows.specs.CatchingUp.{beforeH, beforeF, guidedStep, guidedRows}
+use Rattle.guided.proofs.Runs.{after}
 
 -- a row keeps scratch's length
 pub length-step : (p : Picture) (ks : List Chroma) (a n : ℕ) (xs : List Float) → length (guidedStep p ks a n xs) ≡ length xs

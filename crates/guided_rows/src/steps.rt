@@ -7,12 +7,12 @@ ghost use Rattle.image.specs.Picture.{pictureOf};
 ghost use Rattle.image.specs.Scratch.{scratchNeed};
 ghost use Rattle.guided.specs.Calls.{doneF};
 ghost use Rattle.guided.specs.Scratch.{hsteps, fsteps, rowSteps};
-ghost use Rattle.places.specs.Lent.{Lent, components};
-ghost use Rattle.guided_rows.specs.Rows.{beforeH, beforeF, guidedStep};
-use guided_down::finish::finish;
-use guided_pixels::row::guided_row;
-use image::layouts::Layout;
-use reader_state::states::Counters;
+ghost use Rattle.guided_window.specs.Lent.{Lent, components};
+ghost use Rattle.guided_rows.specs.CatchingUp.{beforeH, beforeF, guidedStep};
+use guided_down::finish;
+use guided_pixels::guided_row;
+use image::Layout;
+use reader_state::Counters;
 
 // The chroma rows from, .. to - 1 across.
 fn across_rows(
@@ -34,7 +34,7 @@ fn across_rows(
 {
     let mut j = from;
     while j < to {
-        guided_across::horizontal::horizontal(
+        guided_across::horizontal(
             layout,
             y,
             y_stride,
@@ -79,7 +79,7 @@ pub fn catch_up(
     let mut h_next = h;
     let mut j = f;
     while j < to {
-        let end = image::layouts::least(j + 2, ch);
+        let end = image::least(j + 2, ch);
         across_rows(
             layout,
             y,
@@ -118,7 +118,7 @@ pub fn row_steps(
     requires { ⌜ (row < layout .h) × (scratchNeed layout ≤ length (now s)) ⌝ }
     ensures { λ _. ⌜ now (s .exit) ≡ rowSteps (pictureOf layout (record { y = record { bytes = now (y .entry); stride = «y_stride» }; cb = record { bytes = now (cb .entry); stride = «cb_stride» }; cr = record { bytes = now (cr .entry); stride = «cr_stride» } })) (components both) h f (doneF layout row - f) row (now (s .entry)) ⌝ }
 {
-    let done = reader_state::states::done_counters(layout, row);
+    let done = reader_state::done_counters(layout, row);
     catch_up(
         layout,
         y,
@@ -143,9 +143,9 @@ fn counters_before(layout: Layout, first: usize, n: usize) -> Counters
     ensures { λ c. ⌜ (c .«h_next» ≡ beforeH layout first n) × (c .«f_next» ≡ beforeF layout first n) ⌝ }
 {
     if n == 0 {
-        return reader_state::states::fresh_counters(layout, first);
+        return reader_state::fresh_counters(layout, first);
     }
-    reader_state::states::done_counters(layout, first + (n - 1))
+    reader_state::done_counters(layout, first + (n - 1))
 }
 
 // Inner: row first + n of a run of rows that begins at first, over the scratch that the rows before it left. Cb's row alone, or both.

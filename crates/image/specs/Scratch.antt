@@ -3,7 +3,7 @@ use mathlib.Core.List.{List}
 use Prim.Native.Nat.{ℕ, _+_, _*_}
 use lib.Ieee.{Float, nan}
 use lib.ListN.{getD}
-use Rattle.image.specs.declared.layouts.layout.Layout.{Layout}
+use Rattle.image.specs.declared.layout.Layout.{Layout}
 
 -- "Scratch is lent f32, 64·cw + 8·w values, for open, row, fill and the linear and guided planes alike."
 unfoldable pub scratchNeed : Layout → ℕ

@@ -3,7 +3,7 @@ ghost use mathlib.Core.Path.{_≡_};
 ghost use Rattle.image.specs.Tests.{Sound};
 ghost use Rattle.image.specs.Picture.{badPlanes};
 ghost use Rattle.image.specs.Scratch.{scratchNeed};
-use crate::layouts::Layout;
+use crate::layout::Layout;
 
 // Inner: how many values of scratch every call over a picture asks for.
 pub fn scratch_need(layout: Layout) -> usize
@@ -29,5 +29,5 @@ pub fn bad_planes(
     let bad_y = crate::samples::bad_plane(size, layout.w, layout.h, y_stride, y.len());
     let bad_cb = crate::samples::bad_plane(size, layout.cw, layout.ch, cb_stride, cb.len());
     let bad_cr = crate::samples::bad_plane(size, layout.cw, layout.ch, cr_stride, cr.len());
-    crate::layouts::either(bad_y, crate::layouts::either(bad_cb, bad_cr))
+    crate::layout::either(bad_y, crate::layout::either(bad_cb, bad_cr))
 }

@@ -1,8 +1,101 @@
-// The exact kernel at maxval 255 for sixteen pixels at a time.
-mod block;
-mod fast;
-mod limits;
+// Sixteen pixels of the exact kernel at maxval 255, a colour row at a time.
+ghost use mathlib.Core.Path.{_≡_};
+ghost use Prim.Native.Nat.{ℕ, _<_, _≤_};
+ghost use lib.IntN.{pos};
+ghost use lib.ListN.{getD};
+ghost use lib.Ieee.{nan};
+ghost use Rattle.kernels.specs.Forms.{plusChroma};
+ghost use Rattle.kernel_blocks.specs.Floating.{Centred, Chroma, Tint, Tinted, Lowered, Luma, Sure};
+ghost use Rattle.kernel_blocks.specs.Blocks.{BlockOf, InLimits, Pixels, Greens};
+use crate::chroma_offsets::Grid;
+use crate::chroma_offsets::chroma_offset;
+use crate::chroma_offsets::green_by;
+use crate::chroma_offsets::green_doubt;
+use crate::limits::limit_sum;
+use crate::stores::Block;
 
-pub use block::rgb_block;
-pub use fast::chroma_offset;
-pub use fast::green_offset;
+// What red and blue multiply chroma by, and what sends halves up: 3/1024 for blue. Red has none, and -0 changes nothing.
+struct Tints;
+
+impl Tints {
+    const RED: f32 = 1.402;
+
+    const BLUE: f32 = 1.772;
+
+    const NO_TIE: f32 = -0.0;
+
+    const BLUE_TIE: f32 = 0.002_929_687_5;
+}
+
+// Luma below the grid's bits.
+fn lower(y: u32) -> i32
+    requires { ⌜ y ≤ 65535 ⌝ }
+    ensures { λ r. ⌜ Lowered r y ⌝ }
+{
+    y as i32 - Grid::BITS as i32
+}
+
+// Sixteen of them, for the three rows.
+fn lowered(y: [u32; Block::LEN]) -> [i32; Block::LEN]
+    requires { ⌜ ((k : ℕ) → k < 16 → getD y k 0 ≤ 65535) ⌝ }
+    ensures { λ r. ⌜ ((k : ℕ) → k < 16 → Lowered (getD r k (pos 0)) (getD y k 0)) ⌝ }
+{
+    let mut row = [0i32; Block::LEN];
+    for i in 0..Block::LEN {
+        row[i] = lower(y[i]);
+    }
+    row
+}
+
+// The red or the blue row.
+fn chroma_row(k: f32, tie: f32, y: [i32; Block::LEN], x: [f32; Block::LEN]) -> [u8; Block::LEN]
+    requires { ⌜ Tinted k tie × ((i : ℕ) → i < 16 → Luma (getD y i (pos 0)) × Chroma (getD x i nan)) ⌝ }
+    ensures { λ r. ⌜ ((i : ℕ) → i < 16 → (m l c : ℕ) → Tint k tie m → Lowered (getD y i (pos 0)) l → Centred (getD x i nan) c → getD r i 0 ≡ plusChroma m l c) ⌝ }
+{
+    let mut row = [0u8; Block::LEN];
+    for i in 0..Block::LEN {
+        row[i] = limit_sum(y[i], chroma_offset(k, tie, x[i]));
+    }
+    row
+}
+
+// 0 where green is sure at every pixel.
+fn doubt(cb: [f32; Block::LEN], cr: [f32; Block::LEN]) -> u32
+    requires { ⌜ ((i : ℕ) → i < 16 → Chroma (getD cb i nan) × Chroma (getD cr i nan)) ⌝ }
+    ensures { λ r. ⌜ (r ≡ 0 → (i : ℕ) → i < 16 → Sure (getD cb i nan) (getD cr i nan)) ⌝ }
+{
+    let mut d = 0u32;
+    for i in 0..Block::LEN {
+        d = d | green_doubt(cb[i], cr[i]);
+    }
+    d
+}
+
+// The green row.
+fn green_row(y: [i32; Block::LEN], cb: [f32; Block::LEN], cr: [f32; Block::LEN]) -> [u8; Block::LEN]
+    requires { ⌜ Pixels y cb cr ⌝ }
+    ensures { λ r. ⌜ Greens r y cb cr ⌝ }
+{
+    let d = doubt(cb, cr);
+    let mut row = [0u8; Block::LEN];
+    for i in 0..Block::LEN {
+        row[i] = limit_sum(y[i], green_by(cb[i], cr[i], d));
+    }
+    row
+}
+
+// Inner: the red, the green and the blue row of sixteen pixels; chroma in 256ths, less its centre.
+pub fn rgb_block(
+    y: [u32; Block::LEN],
+    cb: [f32; Block::LEN],
+    cr: [f32; Block::LEN],
+) -> [[u8; Block::LEN]; 3]
+    requires { ⌜ InLimits y cb cr ⌝ }
+    ensures { λ r. ⌜ BlockOf r y cb cr ⌝ }
+{
+    let low = lowered(y);
+    let red = chroma_row(Tints::RED, Tints::NO_TIE, low, cr);
+    let green = green_row(low, cb, cr);
+    let blue = chroma_row(Tints::BLUE, Tints::BLUE_TIE, low, cb);
+    [red, green, blue]
+}

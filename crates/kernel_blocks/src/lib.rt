@@ -1,5 +1,14 @@
 // kernel_blocks.
-pub mod exact;
-pub mod fixed;
-pub mod stores;
-pub mod words;
+mod chroma_offsets;
+mod exact;
+mod fixed;
+mod limits;
+mod stores;
+mod words;
+
+pub use exact::rgb_block;
+pub use fixed::fixed_block;
+pub use stores::Block;
+pub use stores::put_block;
+pub use stores::put_pixel;
+pub use words::put_words;

@@ -5,9 +5,9 @@ ghost use Rattle.kernels.specs.Pixels.{exactPixel, fixedPixel, exactTest
 use crate::exact::ycbcr_frac_to_rgb8_8bit;
 use crate::exact::ycbcr_frac_to_rgb8_at;
 use crate::fixed::ycbcr_to_rgb8_fixed;
-pub use crate::pixel::Pixel;
-use image::layouts::either;
-use image::layouts::outside;
+use crate::pixel::Pixel;
+use image::either;
+use image::outside;
 
 // Refusal 13's test for the exact kernel.
 fn bad_exact(y: u32, cb256: u32, cr256: u32, maxval: u32) -> bool

@@ -3,11 +3,11 @@ ghost use mathlib.Core.Path.{_≡_};
 ghost use Prim.Native.Nat.{_+_, _*_, _/_, _≤_, min};
 ghost use Rattle.kernels.specs.Kernels.{exact255, exactAt};
 ghost use Rattle.kernels.specs.Forms.{colourOf, Suits, plusChroma, chromaAt};
-use crate::pixel::Bias;
-use crate::pixel::Rgb;
-use crate::pixel::limit_quot;
-use crate::pixel::limit8;
-use crate::pixel::raised;
+use crate::bytes::Rgb;
+use crate::bytes::limit_quot;
+use crate::bytes::limit8;
+use crate::offsets::Bias;
+use crate::offsets::raised;
 
 // What red and blue multiply chroma by, in thousandths.
 struct Multiplier;

@@ -3,9 +3,9 @@ ghost use mathlib.Core.Path.{_≡_};
 ghost use Prim.Native.Nat.{_+_, _*_, _<_, _≤_};
 ghost use Rattle.kernels.specs.Kernels.{fixed255};
 ghost use Rattle.kernels.specs.Forms.{colourOf, plusFixed};
-use crate::pixel::Bias;
-use crate::pixel::Rgb;
-use crate::pixel::limit8;
+use crate::bytes::Rgb;
+use crate::bytes::limit8;
+use crate::offsets::Bias;
 
 // What chroma is multiplied by, in 65,536ths.
 struct Fixed;

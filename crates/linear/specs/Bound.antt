@@ -4,7 +4,7 @@ use Prim.Native.Nat.{ℕ, _+_, _-_, _*_, _≤_, _<_}
 use lib.Dec.{T}
 use lib.Ieee.{Float, le}
 use Rattle.laws.specs.Floats.{f32, Near}
-use Rattle.image.specs.declared.layouts.layout.Layout.{Layout}
+use Rattle.image.specs.declared.layout.Layout.{Layout}
 use Rattle.taps.specs.Taps.{Spot, spotOf}
 use Rattle.linear.specs.Linear.{linearSample}
 

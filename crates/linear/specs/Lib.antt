@@ -1,4 +1,4 @@
-pub mod Rows
+pub mod AcrossRows
 pub mod Stores
 pub mod Down
 pub mod Linear

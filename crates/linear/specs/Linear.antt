@@ -10,15 +10,15 @@ use Rattle.laws.specs.Floats.{f32}
 use Rattle.laws.specs.Lists.{put, rows}
 use Rattle.laws.specs.Refusals.{Test, first, accepted}
 use Rattle.laws.specs.declared.Answer.{Answer}
-use Rattle.image.specs.declared.layouts.layout.Layout.{Layout}
+use Rattle.image.specs.declared.layout.Layout.{Layout}
 use Rattle.image.specs.Tests.{layoutTests, Sound}
 use Rattle.image.specs.Samples.{Plane, sampleAt}
 use Rattle.image.specs.Picture.{shortPlane}
 use Rattle.image.specs.Scratch.{scratchNeed}
 use Rattle.fround.specs.Rounding.{roundClamped}
-use Rattle.taps.specs.declared.taps.Tap.{Tap}
+use Rattle.taps.specs.declared.positions.Tap.{Tap}
 use Rattle.taps.specs.Taps.{lerpOf, tapOf}
-use Rattle.linear.specs.Rows.{acrossBy}
+use Rattle.linear.specs.AcrossRows.{acrossBy}
 
 -- the cells of a column lerped down by a tap
 abbrev pub downBy : Tap → (ℕ → ℕ → ℕ) → ℕ → Float

@@ -23,8 +23,8 @@ pub fn down_row(
 {
     let mut i = 0;
     while i < n {
-        let near = image::samples::sample(plane, sample_bytes, a + i * sample_bytes);
-        let far = image::samples::sample(plane, sample_bytes, b + i * sample_bytes);
+        let near = image::sample(plane, sample_bytes, a + i * sample_bytes);
+        let far = image::sample(plane, sample_bytes, b + i * sample_bytes);
         s[dst + i] = lerp(near as f32, far as f32, f);
         i += 1;
     }

@@ -1,6 +1,95 @@
-// Linear reconstruction: rows of it, and whole planes. From the original's src/jpeg/resample.rs.
-mod linear;
+// Linear reconstruction: rows of scratch, and the public call for a whole chroma plane.
+ghost use mathlib.Core.Path.{_≡_};
+ghost use Prim.Native.Nat.{_+_, _*_, _≤_, _<_};
+ghost use lib.ListN.{length};
+ghost use Rattle.laws.specs.Refusals.{first};
+ghost use Rattle.image.specs.Samples.{Plane};
+ghost use Rattle.linear.specs.Linear.{linearTests, linearRow, linearPlane, linearScratch, LinearGiven, Ready};
+use crate::across::across_row;
+use crate::down::down_row;
+use crate::rounded::store_row;
+use image::Layout;
+use laws::Answer;
+use taps::tap_at;
 
-pub use linear::linear_answer;
-pub use linear::linear_plane;
-pub use linear::linear_row;
+// Inner: row y of a chroma plane, to scratch from dst on: the cells down into the column buffer behind the two finished rows, then across.
+pub fn linear_row(layout: Layout, plane: &[u8], stride: usize, y: usize, s: &mut [f32], dst: usize)
+    requires { ⌜ Ready layout (record { bytes = now plane; stride = stride }) (length (now s)) ⌝ }
+    requires { ⌜ (y < layout .h) × (dst ≤ layout .w) ⌝ }
+    ensures { λ _. ⌜ now (s .exit) ≡ linearRow layout (record { bytes = now (plane .entry); stride = stride }) dst y (now (s .entry)) ⌝ }
+{
+    let t = tap_at(layout.rv, layout.ch, y);
+    let a = t.i0 * stride;
+    let b = t.i1 * stride;
+    let column = 2 * layout.w;
+    down_row(plane, layout.sample_bytes, a, b, t.f, layout.cw, s, column);
+    across_row(s, column, layout.cw, layout.rh, dst, layout.w);
+}
+
+// Inner: the lowest refusal of `linear_plane` that applies; `space` and `room` are the lengths of scratch and output. It writes nothing.
+pub fn linear_answer(
+    layout: Layout,
+    plane: &[u8],
+    stride: usize,
+    space: usize,
+    room: usize,
+) -> Answer
+    ensures { λ r. ⌜ r ≡ first (linearTests layout (record { bytes = now (plane .entry); stride = stride }) space room) ⌝ }
+{
+    let early = layout.answer(false);
+    if image::refused(early) {
+        return early;
+    }
+    if image::bad_plane(
+        layout.sample_bytes,
+        layout.cw,
+        layout.ch,
+        stride,
+        plane.len(),
+    ) {
+        return Answer::Refused(7);
+    }
+    if space < image::scratch_need(layout) {
+        return Answer::Refused(9);
+    }
+    if room < layout.w * layout.h {
+        return Answer::Refused(10);
+    }
+    Answer::Accepted
+}
+
+// Every row of the plane: lerped into scratch at 0, then rounded into out.
+fn linear_rows(layout: Layout, plane: &[u8], stride: usize, s: &mut [f32], out: &mut [u16])
+    requires { ⌜ Ready layout (record { bytes = now plane; stride = stride }) (length (now s)) ⌝ }
+    requires { ⌜ layout .w * layout .h ≤ length (now out) ⌝ }
+    ensures { λ _. ⌜ now (out .exit) ≡ linearPlane layout (record { bytes = now (plane .entry); stride = stride }) (now (out .entry)) ⌝ }
+    ensures { λ _. ⌜ now (s .exit) ≡ linearScratch layout (record { bytes = now (plane .entry); stride = stride }) (layout .h) (now (s .entry)) ⌝ }
+{
+    let w = layout.w;
+    let h = layout.h;
+    let mut y = 0;
+    while y < h {
+        linear_row(layout, plane, stride, y, s, 0);
+        store_row(s, 0, w, layout.maxval, out, y * w);
+        y += 1;
+    }
+}
+
+// One whole chroma plane, linear: w by h values, rounded and limited to 0..=maxval, into out. Refusals 2, 3, 4, 5, 7, 9 and 10.
+// Scratch afterwards is `linearScratch` of specs/Linear.
+pub fn linear_plane(
+    layout: Layout,
+    plane: &[u8],
+    stride: usize,
+    s: &mut [f32],
+    out: &mut [u16],
+) -> Answer
+    ensures { λ r. ⌜ LinearGiven layout (record { bytes = now (plane .entry); stride = stride }) (now (s .entry)) (now (out .entry)) r (now (s .exit)) (now (out .exit)) ⌝ }
+{
+    let answer = linear_answer(layout, plane, stride, s.len(), out.len());
+    if image::refused(answer) {
+        return answer;
+    }
+    linear_rows(layout, plane, stride, s, out);
+    Answer::Accepted
+}

@@ -4,9 +4,9 @@ use mathlib.Core.List.{[], _∷_}
 use Rattle.laws.specs.declared.Answer.{Answer}
 use Rattle.laws.specs.declared.Answer.the-variants.{Accepted, Refused}
 use Rattle.laws.specs.Refusals.{first}
-use Rattle.image.specs.declared.layouts.layout.Layout.{Layout}
+use Rattle.image.specs.declared.layout.Layout.{Layout}
 use Rattle.image.specs.Tests.{badSize}
-use Rattle.netpbm.specs.declared.pgm.images.Image.{Image}
+use Rattle.netpbm.specs.declared.pgm.Image.{Image}
 use Rattle.netpbm.specs.Reading.{ratioFor, noRatio}
 
 -- the layout of three images

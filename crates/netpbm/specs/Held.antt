@@ -4,9 +4,9 @@ use mathlib.Core.Bool.{Bool, true, false}
 use mathlib.Core.List.{List}
 use Prim.Native.Nat.{ℕ, _+_, _*_, min}
 use Rattle.laws.specs.Refusals.{first, accepted}
-use Rattle.netpbm.specs.declared.pgm.scan.Number.{Number}
-use Rattle.netpbm.specs.declared.pgm.images.Field.{Field}
-use Rattle.netpbm.specs.declared.pgm.images.Image.{Image}
+use Rattle.netpbm.specs.declared.scan.Number.{Number}
+use Rattle.netpbm.specs.declared.pgm.Field.{Field}
+use Rattle.netpbm.specs.declared.pgm.Image.{Image}
 use Rattle.netpbm.specs.Bytes.{pastDigits, numberAt}
 use Rattle.netpbm.specs.Images.{hasNumber, fieldOf, fieldEnd, widthOf, widthEnd, heightOf, heightEnd, rowsAt, imageTests}
 

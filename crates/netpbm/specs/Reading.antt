@@ -7,10 +7,10 @@ use lib.ListN.{length}
 use Rattle.laws.specs.declared.Answer.{Answer}
 use Rattle.laws.specs.declared.Answer.the-variants.{Accepted, Refused as Turned}
 use Rattle.laws.specs.Refusals.{Test, first}
-use Rattle.image.specs.declared.layouts.layout.Layout.{Layout}
+use Rattle.image.specs.declared.layout.Layout.{Layout}
 use Rattle.image.specs.Tests.{divCeil, badSize}
-use Rattle.netpbm.specs.declared.images.reading.Reading.{Reading}
-use Rattle.netpbm.specs.declared.images.reading.Reading.the-variants.{Read, Refused}
+use Rattle.netpbm.specs.declared.reading.Reading.{Reading}
+use Rattle.netpbm.specs.declared.reading.Reading.the-variants.{Read, Refused}
 use Rattle.netpbm.specs.Images.{widthOf, heightOf, rowsAt, imageEnd, imageTests}
 
 -- where the three images stand: the first at 0, each other one where the one before has ended

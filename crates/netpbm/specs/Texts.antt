@@ -2,7 +2,7 @@
 use mathlib.Core.List.{List, [], _∷_, _++_}
 use Prim.Native.Nat.{ℕ, _+_, _-_}
 use lib.ListN.{length, set, replicate}
-use Rattle.netpbm.specs.declared.lines.lines.Line.{Line}
+use Rattle.netpbm.specs.declared.lines.Line.{Line}
 
 -- the line that holds a text of 16 bytes at most
 unfoldable pub lineOf : List ℕ → Line

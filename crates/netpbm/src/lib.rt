@@ -1,5 +1,13 @@
 // netpbm.
-pub mod ascii;
-pub mod images;
-pub mod lines;
-pub mod pgm;
+mod ascii;
+mod lines;
+mod pgm;
+mod reading;
+mod scan;
+mod sizes;
+
+pub use lines::Line;
+pub use lines::ppm_header;
+pub use lines::refusal_line;
+pub use reading::Reading;
+pub use reading::read;

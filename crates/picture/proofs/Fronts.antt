@@ -7,16 +7,16 @@ use lib.ListN.{length, getD, take, drop, length-append, length-drop, List·getD-
 use lib.Seq.{ext-getD, getD-drop}
 use Rattle.laws.specs.Lists.{put, table}
 use Rattle.laws.proofs.Lists.{length-put, put-after, take-put, length-table, table-at}
-use Rattle.image.specs.declared.layouts.layout.Layout.{Layout}
+use Rattle.image.specs.declared.layout.Layout.{Layout}
 use Rattle.image.specs.Picture.{Picture, pictureOf}
-use Rattle.colour_rows.specs.declared.pixels.YcbcrKernel.the-variants.{Exact}
+use Rattle.colour_rows.specs.declared.kernel.YcbcrKernel.the-variants.{Exact}
 use Rattle.fill.specs.declared.answer.ChromaUpsampling.the-variants.{LumaGuided}
 use Rattle.fill.specs.Fill.{fillColour, pixelRows}
-use Rattle.netpbm.specs.declared.lines.lines.Line.{Line}
+use Rattle.netpbm.specs.declared.lines.Line.{Line}
 use Rattle.netpbm.specs.Texts.{lineOf}
 use Rattle.netpbm.specs.Lines.{ppmHeader}
 use Rattle.netpbm.specs.Reading.{layoutOf}
-use Rattle.netpbm.proofs.lines.Digits.{three-most, four-most}
+use Rattle.netpbm.proofs.Digits.{three-most, four-most}
 use Rattle.picture.specs.Picture.{ppmLength, inputPicture, ppmOver}
 use Rattle.picture.proofs.Readings.{to-end}
 

@@ -13,19 +13,19 @@ use Rattle.laws.specs.declared.Answer.{Answer}
 use Rattle.laws.specs.declared.Answer.the-variants.{Accepted, Refused as Turned}
 use Rattle.laws.specs.Refusals.{first, accepted}
 use Rattle.laws.proofs.Refusals.{accepted-failed, failed-accepted, passed-early, refused-early, refused-here, passed-over}
-use Rattle.image.specs.declared.layouts.layout.Layout.{Layout}
+use Rattle.image.specs.declared.layout.Layout.{Layout}
 use Rattle.image.specs.Picture.{Planes, shortPlane, badPlanes, Picture, pictureOf}
 use Rattle.image.specs.Tests.{badPlane, layoutTests, Sound}
-use Rattle.image.proofs.layouts.Layouts.{sound}
+use Rattle.image.proofs.Layouts.{sound}
 use Rattle.image.specs.Scratch.{scratchNeed}
-use Rattle.colour_rows.specs.declared.pixels.YcbcrKernel.the-variants.{Exact}
+use Rattle.colour_rows.specs.declared.kernel.YcbcrKernel.the-variants.{Exact}
 use Rattle.fill.specs.declared.answer.ChromaUpsampling.the-variants.{LumaGuided}
 use Rattle.fill.specs.Tests.{fillTests}
 use Rattle.fill.specs.Fill.{FillGiven, fillColour, fillScratch, pixelRows}
-use Rattle.netpbm.specs.declared.images.reading.Reading.the-variants.{Read, Refused}
+use Rattle.netpbm.specs.declared.reading.Reading.the-variants.{Read, Refused}
 use Rattle.netpbm.specs.Images.{rowsAt}
 use Rattle.netpbm.specs.Reading.{cbAt, crAt, layoutOf, readingTests, pickReading, readingOf}
-use Rattle.netpbm.proofs.images.Acceptance.{Taken, taken}
+use Rattle.netpbm.proofs.Acceptance.{Taken, taken}
 use Rattle.picture.specs.declared.Outcome.the-variants.{Written, Refused as Down}
 use Rattle.picture.specs.Picture.{planesOf, ppmLength, pictureTests, pickOutcome, inputPicture}
 

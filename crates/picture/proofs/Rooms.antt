@@ -12,12 +12,12 @@ use Rattle.laws.specs.declared.Answer.the-variants.{Accepted, Refused as Turned
 use Rattle.laws.specs.Refusals.{first, accepted}
 use Rattle.laws.proofs.Refusals.{accepted-failed, failed-accepted, failed-both, passed-early, refused-early}
 use Rattle.image.specs.Scratch.{scratchNeed}
-use Rattle.netpbm.specs.declared.lines.lines.Line.{Line}
+use Rattle.netpbm.specs.declared.lines.Line.{Line}
 use Rattle.netpbm.specs.Texts.{lineOf}
 use Rattle.netpbm.specs.Images.{rowsAt}
 use Rattle.netpbm.specs.Lines.{refusalLine}
 use Rattle.netpbm.specs.Reading.{cbAt, crAt, layoutOf, readingTests, readingOf}
-use Rattle.netpbm.proofs.images.Acceptance.{Taken, taken}
+use Rattle.netpbm.proofs.Acceptance.{Taken, taken}
 use Rattle.picture.specs.declared.Outcome.the-variants.{Written}
 use Rattle.picture.specs.Picture.{ppmLength, pictureTests, pickOutcome, PictureGiven}
 use Rattle.picture.proofs.Fronts.{header-most}

@@ -5,11 +5,11 @@ ghost use Rattle.picture.specs.Picture.{PictureGiven};
 
 mod ppm;
 
-use image::layouts::Layout;
-use netpbm::images::Reading;
-pub use netpbm::lines::Line;
-pub use netpbm::lines::refusal_line;
-use ppm::put_ppm;
+use crate::ppm::put_ppm;
+use image::Layout;
+pub use netpbm::Line;
+use netpbm::Reading;
+pub use netpbm::refusal_line;
 
 // How many bytes were written to the front of out, or the number of the reason why none was.
 pub enum Outcome {
@@ -30,10 +30,10 @@ fn written(
     requires { ⌜ readingOf (now input) ≡ Reading.Read layout y cb cr ⌝ }
     ensures { λ r. ⌜ PictureGiven (now (input .entry)) (now (s .entry)) (now (out .entry)) r (now (s .exit)) (now (out .exit)) ⌝ }
 {
-    if s.len() < image::lent::scratch_need(layout) {
+    if s.len() < image::scratch_need(layout) {
         return Outcome::Refused(9);
     }
-    let header = netpbm::lines::ppm_header(layout.w, layout.h);
+    let header = netpbm::ppm_header(layout.w, layout.h);
     let len = header.len + layout.w * layout.h * 3;
     if out.len() < len {
         return Outcome::Refused(10);
@@ -47,7 +47,7 @@ fn written(
 pub fn picture(input: &[u8], s: &mut [f32], out: &mut [u8]) -> Outcome
     ensures { λ r. ⌜ PictureGiven (now (input .entry)) (now (s .entry)) (now (out .entry)) r (now (s .exit)) (now (out .exit)) ⌝ }
 {
-    match netpbm::images::read(input) {
+    match netpbm::read(input) {
         Reading::Refused(n) => Outcome::Refused(n),
         Reading::Read(layout, y, cb, cr) => written(input, layout, y, cb, cr, s, out),
     }

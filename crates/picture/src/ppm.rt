@@ -9,11 +9,11 @@ ghost use Rattle.netpbm.specs.Reading.{readingOf};
 ghost use Rattle.netpbm.specs.Lines.{ppmHeader};
 ghost use Rattle.netpbm.specs.Texts.{lineOf};
 ghost use Rattle.picture.specs.Picture.{planesOf, inputPicture, ppmLength, ppmOver};
-use colour_rows::pixels::YcbcrKernel;
-use fill::calls::ChromaUpsampling;
-use image::layouts::Layout;
-use netpbm::images::Reading;
-use netpbm::lines::Line;
+use colour_rows::YcbcrKernel;
+use fill::ChromaUpsampling;
+use image::Layout;
+use netpbm::Line;
+use netpbm::Reading;
 
 // The bytes of a line, to the front of out.
 fn put_line(line: Line, out: &mut [u8])
@@ -41,7 +41,7 @@ fn put_pixels(
     ensures { λ _. ⌜ now (out .exit) ≡ pixelRows (layout .w) 3 (fillColour ChromaUpsampling.LumaGuided YcbcrKernel.Exact (inputPicture (now (input .entry)))) 0 (layout .h) (now (out .entry)) ⌝ }
     ensures { λ _. ⌜ now (s .exit) ≡ fillScratch ChromaUpsampling.LumaGuided layout (planesOf (now (input .entry))) 0 (layout .h) (now (s .entry)) ⌝ }
 {
-    fill::calls::fill(
+    fill::fill(
         layout,
         &input[y..],
         layout.w,

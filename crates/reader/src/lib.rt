@@ -1,6 +1,10 @@
 // reader.
-pub mod copies;
-pub mod opening;
-pub mod parts;
-pub mod rows;
-pub mod seeking;
+mod checks;
+mod copies;
+mod opening;
+mod rows;
+mod seeking;
+
+pub use opening::open;
+pub use rows::row;
+pub use seeking::seek;

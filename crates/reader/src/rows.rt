@@ -1,10 +1,10 @@
 // Row: the reader of guided rows, the original's GuidedRows as calls over lent planes and scratch.
 ghost use Rattle.guided.specs.Calls.{RowGiven};
+use crate::checks::row_answer;
+use crate::checks::rowed_state;
 use crate::copies::copy_rows;
-use crate::parts::row_answer;
-use crate::parts::rowed_state;
-use guided::calls::Reader;
-use guided::calls::Reply;
+use guided::Reader;
+use guided::Reply;
 use guided_rows::row_steps;
 
 // Row `row` of Cb and of Cr to the front of the outputs: the guided rows of the picture that was opened, whatever was read before.
@@ -37,10 +37,10 @@ pub fn row(
         out_cb,
         out_cr,
     );
-    if image::layouts::refused(answer) {
+    if image::refused(answer) {
         return Reply { answer, reader };
     }
-    let layout = reader_state::states::layout_of(reader);
+    let layout = reader_state::layout_of(reader);
     row_steps(
         layout,
         y,

@@ -3,8 +3,8 @@ ghost use mathlib.Core.Path.{_≡_};
 ghost use Prim.Native.Nat.{_<_};
 ghost use Rattle.image.specs.Tests.{Sound};
 ghost use Rattle.guided.specs.Calls.{layoutOf, sought, SeekGiven};
-use guided::calls::Reader;
-use guided::calls::Reply;
+use guided::Reader;
+use guided::Reply;
 use laws::Answer;
 
 // The state that seek leaves.
@@ -13,7 +13,7 @@ fn sought_state(reader: Reader, y: usize) -> Reader
     requires { ⌜ y < reader .geometry .h ⌝ }
     ensures { λ r. ⌜ r ≡ sought reader y ⌝ }
 {
-    let c = reader_state::states::fresh_counters(reader_state::states::layout_of(reader), y);
+    let c = reader_state::fresh_counters(reader_state::layout_of(reader), y);
     let geometry = reader.geometry;
     Reader {
         geometry,
@@ -29,7 +29,7 @@ fn sought_state(reader: Reader, y: usize) -> Reader
 pub fn seek(reader: Reader, y: usize) -> Reply
     ensures { λ r. ⌜ SeekGiven (record { y = y; reader = reader }) r ⌝ }
 {
-    if reader_state::states::bad_state(reader) {
+    if reader_state::bad_state(reader) {
         return Reply {
             answer: Answer::Refused(1),
             reader,

@@ -1,3 +1,11 @@
 // reader_state.
-pub mod phases;
-pub mod states;
+mod phases;
+mod state;
+
+pub use phases::geometry_of;
+pub use phases::phases_of;
+pub use state::Counters;
+pub use state::bad_state;
+pub use state::done_counters;
+pub use state::fresh_counters;
+pub use state::layout_of;

@@ -5,8 +5,8 @@ use Prim.Native.Nat.{ℕ, _+_, _-_, _*_, _/_, _%_, _<_}
 use lib.Dec.{ltb, leb, eqb}
 use lib.Ieee.{Float, binary32, add, sub, mul, div}
 use Rattle.laws.specs.Floats.{f32}
-use Rattle.taps.specs.declared.taps.Tap.{Tap}
-use Rattle.taps.specs.declared.taps.Phase.{Phase}
+use Rattle.taps.specs.declared.positions.Tap.{Tap}
+use Rattle.taps.specs.declared.positions.Phase.{Phase}
 
 -- "lerp(a,b,f) = a + f·(b−a), three roundings"
 abbrev pub lerpOf : Float → Float → Float → Float

@@ -1,9 +1,9 @@
 // Where an output lies between cells: taps, phases, and the lerp between two cells.
-mod taps;
+mod positions;
 
-pub use taps::Phase;
-pub use taps::Tap;
-pub use taps::fraction;
-pub use taps::lerp;
-pub use taps::phase_of;
-pub use taps::tap_at;
+pub use positions::Phase;
+pub use positions::Tap;
+pub use positions::fraction;
+pub use positions::lerp;
+pub use positions::phase_of;
+pub use positions::tap_at;

@@ -1,3 +1,3 @@
 pub mod Weights
-pub mod Rows
+pub mod Pairs
 pub mod Triangular

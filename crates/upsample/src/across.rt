@@ -4,9 +4,9 @@ ghost use Prim.Native.Nat.{_+_, _-_, _*_, _/_, _≤_, _<_};
 ghost use lib.ListN.{length, set};
 ghost use Rattle.laws.specs.Lists.{put};
 ghost use Rattle.upsample.specs.Weights.{oneAxis};
-ghost use Rattle.upsample.specs.Rows.{RowInside, Doubled, cells};
+ghost use Rattle.upsample.specs.Pairs.{RowInside, Doubled, cells};
+use crate::axes::one_axis;
 use crate::weights::cell;
-use crate::weights::one_axis;
 
 // The two outputs of a cell.
 fn put_pair(out: &mut [u16], at: usize, before: u32, near: u32, after: u32)

@@ -1,6 +1,10 @@
 // upsample.
-pub mod across;
-pub mod axes;
-pub mod down;
-pub mod plane;
-pub mod weights;
+mod across;
+mod answer;
+mod axes;
+mod both;
+mod down;
+mod plane;
+mod weights;
+
+pub use plane::triangular_plane;

@@ -1,5 +1,4 @@
 // Triangular chroma upsampling of a whole plane: the original's src/jpeg/upsample.rs.
-mod answer;
 
 ghost use mathlib.Core.Path.{_≡_};
 ghost use Prim.Native.Nat.{_*_, _<_};
@@ -9,7 +8,7 @@ ghost use Rattle.laws.specs.Lists.{put};
 ghost use Rattle.laws.specs.Refusals.{first};
 ghost use Rattle.image.specs.Samples.{Plane, sampleAt};
 ghost use Rattle.upsample.specs.Triangular.{TriangularGiven, triangularTests, triangularPlane, triangularSample};
-use image::layouts::Layout;
+use image::Layout;
 use laws::Answer;
 
 // Row y of an accepted call.
@@ -33,7 +32,7 @@ fn triangular_row(layout: Layout, plane: &[u8], stride: usize, y: usize, out: &m
         crate::down::down_row(plane, bytes, near, far, bias, w, out, at);
         return;
     }
-    crate::down::both_row(plane, bytes, near, far, cw, w, out, at);
+    crate::both::both_row(plane, bytes, near, far, cw, w, out, at);
 }
 
 // All rows of an accepted call.
@@ -52,8 +51,8 @@ fn triangular(layout: Layout, plane: &[u8], stride: usize, out: &mut [u16])
 pub fn triangular_plane(layout: Layout, plane: &[u8], stride: usize, out: &mut [u16]) -> Answer
     ensures { λ r. ⌜ TriangularGiven layout (record { bytes = now (plane .entry); stride = stride }) (now (out .entry)) r (now (out .exit)) ⌝ }
 {
-    let answer = answer::triangular_answer(layout, plane, stride, out.len());
-    if image::layouts::refused(answer) {
+    let answer = crate::answer::triangular_answer(layout, plane, stride, out.len());
+    if image::refused(answer) {
         return answer;
     }
     triangular(layout, plane, stride, out);

@@ -1,11 +1,11 @@
 use mathlib.Core.Path.{refl, sym, _∙_, ap}
 use native.Mathlib.Omega.{arith}
 use borrow.Author.Needs.{needs}
-use Rattle.image.specs.declared.layouts.layout.Layout.{Layout}
+use Rattle.image.specs.declared.layout.Layout.{Layout}
 use Rattle.fill.specs.declared.answer.ChromaUpsampling.the-variants.{LumaGuided}
 use Rattle.fill.specs.Fill.{fillScratch}
 use Rattle.netpbm.specs.Lines.{ppmHeader}
-use Rattle.netpbm.proofs.images.Acceptance.{taken}
+use Rattle.netpbm.proofs.Acceptance.{taken}
 use Rattle.picture.specs.declared.Outcome.the-variants.{Written}
 use Rattle.picture.specs.Picture.{planesOf}
 use Rattle.picture.proofs.Fronts.{header-most, line-length, ppm-length}

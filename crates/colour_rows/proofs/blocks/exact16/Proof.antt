@@ -1,7 +1,7 @@
 use mathlib.Core.Path.{refl, _∙_}
 use borrow.Author.Needs.{needs}
-use Rattle.kernel_blocks.proofs.exact.Blocks.{block-pixel}
-use Rattle.colour_rows.proofs.pixels.Colouring.{exact-by}
+use Rattle.kernel_blocks.proofs.Blocks.{block-pixel}
+use Rattle.colour_rows.proofs.Colouring.{exact-by}
 use Rattle.colour_rows.proofs.blocks.exact16.Statement.{statement}
 use Rattle.colour_rows.proofs.blocks.exact16.Tie as tie
 

@@ -1,6 +1,6 @@
 use mathlib.Core.Path.{_∙_}
 use borrow.Author.Needs.{needs}
-use Rattle.colour_rows.proofs.pixels.Colouring.{fixed-by}
+use Rattle.colour_rows.proofs.Colouring.{fixed-by}
 use Rattle.colour_rows.proofs.blocks.fixed16.Statement.{statement}
 use Rattle.colour_rows.proofs.blocks.fixed16.Tie as tie
 

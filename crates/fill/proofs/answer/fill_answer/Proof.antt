@@ -12,10 +12,10 @@ use Rattle.laws.specs.Refusals.{first, accepted}
 use Rattle.laws.proofs.Refusals.{refused-early, passed-early}
 use Rattle.image.specs.Tests.{outsideOf, layoutTests, Sound}
 use Rattle.image.specs.Picture.{badPlanes}
-use Rattle.image.proofs.layouts.Layouts.{sound-answer, area}
+use Rattle.image.proofs.Layouts.{sound-answer, area}
 use Rattle.image.specs.Scratch.{scratchNeed}
 use Rattle.fill.specs.Tests.{FillCall, isFixed, fillTests}
-use Rattle.fill.proofs.answer.Later.{sized, laterTests}
+use Rattle.fill.proofs.Later.{sized, laterTests}
 use Rattle.fill.proofs.answer.fill_answer.Statement.{statement}
 use Rattle.fill.proofs.answer.fill_answer.Tie as tie
 

@@ -9,7 +9,7 @@ use Rattle.laws.proofs.Refusals.{accepted-is}
 use Rattle.image.specs.Picture.{pictureOf}
 use Rattle.fill.specs.Tests.{FillCall}
 use Rattle.fill.specs.Fill.{fillColour, pixelRows, fillScratch}
-use Rattle.fill.proofs.calls.Acceptance.{ready}
+use Rattle.fill.proofs.Acceptance.{ready}
 use Rattle.fill.proofs.calls.fill.Statement.{statement}
 use Rattle.fill.proofs.calls.fill.Tie as tie
 

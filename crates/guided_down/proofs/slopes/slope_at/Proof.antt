@@ -1,4 +1,4 @@
-use Rattle.guided_down.proofs.slopes.Statistics.{by-same}
+use Rattle.guided_down.proofs.Statistics.{by-same}
 use Rattle.guided_down.specs.Slopes.{slopeAt}
 use mathlib.Core.Path.{_∙_}
 use borrow.Author.Needs.{needs}

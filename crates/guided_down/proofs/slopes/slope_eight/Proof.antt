@@ -1,4 +1,4 @@
-use Rattle.guided_down.proofs.slopes.Statistics.{all-less}
+use Rattle.guided_down.proofs.Statistics.{all-less}
 use lib.Ieee.{nan}
 use Rattle.laws.proofs.Lists.{Run, run-none, front-more, front-at}
 use Rattle.guided_down.specs.Slopes.{slopeAt}

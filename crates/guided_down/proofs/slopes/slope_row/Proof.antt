@@ -1,5 +1,5 @@
-use Rattle.guided_down.proofs.slopes.Statistics.{row-ready, row-slopes}
-use Rattle.places.specs.Lent.{chromaOf}
+use Rattle.guided_down.proofs.Statistics.{row-ready, row-slopes}
+use Rattle.guided_window.specs.Lent.{chromaOf}
 use mathlib.Core.Path.{_∙_}
 use native.Mathlib.Omega.{arith}
 use borrow.Author.Needs.{needs}

@@ -1,5 +1,5 @@
-use Rattle.guided_down.proofs.slopes.Statistics.{stats-are}
-use Rattle.places.specs.Lent.{chromaOf}
+use Rattle.guided_down.proofs.Statistics.{stats-are}
+use Rattle.guided_window.specs.Lent.{chromaOf}
 use borrow.Author.Needs.{needs}
 use Rattle.guided_down.proofs.slopes.stats_at.Statement.{statement}
 use Rattle.guided_down.proofs.slopes.stats_at.Tie as tie

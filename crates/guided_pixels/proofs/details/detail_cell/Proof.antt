@@ -5,7 +5,7 @@ use Rattle.laws.proofs.Lists.{Run, run-end, run-none, run-more}
 use Rattle.guided_pixels.specs.Pixels.{detailIn, detailRun}
 use borrow.Author.Needs.{needs}
 use Rattle.image.specs.Scratch.{cellAt}
-use Rattle.guided_pixels.proofs.detail_runs.Details.{detail-is}
+use Rattle.guided_pixels.proofs.DetailRows.{detail-is}
 use mathlib.Core.Path.{refl}
 use Rattle.guided_pixels.proofs.details.detail_cell.Tie as tie
 

@@ -6,8 +6,8 @@ use Rattle.guided_pixels.proofs.details.detail_cells.Statement.{stateme
 use lib.Ieee.{Float}
 use mathlib.Core.List.{List}
 use Rattle.image.specs.Samples.{Plane}
-use Rattle.guided_pixels.proofs.lerps.Phases.{cells-inside, runs-whole}
-use Rattle.guided_pixels.proofs.detail_runs.Details.{detail-runs}
+use Rattle.guided_pixels.proofs.Phases.{cells-inside, runs-whole}
+use Rattle.guided_pixels.proofs.DetailRows.{detail-runs}
 use Rattle.guided_pixels.specs.Pixels.{detailRun}
 use Rattle.guided_pixels.proofs.details.detail_cells.Tie as tie
 

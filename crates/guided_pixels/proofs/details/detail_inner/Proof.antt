@@ -4,7 +4,7 @@ use native.Mathlib.Omega.{arith}
 use borrow.Author.Needs.{needs}
 use Rattle.guided_pixels.proofs.details.detail_inner.Statement.{statement}
 use Rattle.guided_pixels.specs.Pixels.{detailRun}
-use Rattle.guided_pixels.proofs.lerps.Phases.{ratio-inside, ratio-run}
+use Rattle.guided_pixels.proofs.Phases.{ratio-inside, ratio-run}
 use Rattle.guided_pixels.proofs.details.detail_inner.Tie as tie
 
 detail-ones-requires : tie.Need-detail-ones-requires

@@ -5,11 +5,11 @@ use native.Mathlib.Omega.{arith}
 use Rattle.guided_pixels.proofs.details.detail_ones.Statement.{statement}
 use Rattle.laws.proofs.Lists.{Run, run-after, run-end, run-more, run-none}
 use Rattle.image.specs.Scratch.{cellAt}
-use Rattle.guided_pixels.proofs.detail_runs.Details.{detail-is}
+use Rattle.guided_pixels.proofs.DetailRows.{detail-is}
 use Rattle.guided_pixels.specs.Pixels.{detailIn, detailRun}
 use lib.Ieee.{nan}
 use borrow.Author.Needs.{needs}
-use Rattle.guided_pixels.proofs.lerps.Phases.{one-is}
+use Rattle.guided_pixels.proofs.Phases.{one-is}
 use Rattle.guided_pixels.proofs.details.detail_ones.Tie as tie
 
 abbrev Inv-loop : tie.InvT-loop

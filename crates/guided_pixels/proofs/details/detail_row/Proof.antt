@@ -2,7 +2,7 @@ use mathlib.Core.Path.{_∙_}
 use native.Mathlib.Omega.{arith}
 use borrow.Author.Needs.{needs}
 use Rattle.guided_pixels.proofs.details.detail_row.Statement.{statement}
-use Rattle.guided_pixels.proofs.detail_runs.Details.{detail-line, detail-ready}
+use Rattle.guided_pixels.proofs.DetailRows.{detail-line, detail-ready}
 use Rattle.guided_pixels.proofs.details.detail_row.Tie as tie
 
 column-at-requires : tie.Need-column-at-requires

@@ -1,7 +1,7 @@
 use mathlib.Core.Path.{ap, _∙_}
 use Prim.Native.Nat.{_/_}
 use borrow.Author.Needs.{needs}
-use Rattle.places.specs.Lent.{chromaOf}
+use Rattle.guided_window.specs.Lent.{chromaOf}
 use Rattle.guided_pixels.specs.Values.{valueRow}
 use Rattle.guided_pixels.specs.Row.{componentRow}
 use Rattle.guided_pixels.proofs.row.component.Statement.{statement}

@@ -1,6 +1,6 @@
-use Rattle.places.specs.Lent.{chromaOf}
+use Rattle.guided_window.specs.Lent.{chromaOf}
 use Rattle.guided_pixels.specs.Columns.{downColumn}
-use Rattle.guided_pixels.proofs.row.RowSteps.{downs-are}
+use Rattle.guided_pixels.proofs.RowSteps.{downs-are}
 use mathlib.Core.Path.{ap, _∙_}
 use Prim.Native.Nat.{_+_}
 use borrow.Author.Needs.{needs}

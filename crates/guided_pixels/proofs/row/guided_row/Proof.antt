@@ -2,7 +2,7 @@ use native.Mathlib.Omega.{arith}
 use borrow.Author.Needs.{needs}
 use borrow.Author.Tests.{not-true, not-false}
 use Rattle.image.specs.Picture.{Planes}
-use Rattle.guided_pixels.proofs.row.RowSteps.{row-cb, row-both}
+use Rattle.guided_pixels.proofs.RowSteps.{row-cb, row-both}
 use Rattle.guided_pixels.proofs.row.guided_row.Statement.{statement}
 use Rattle.guided_pixels.proofs.row.guided_row.Tie as tie
 

@@ -1,10 +1,10 @@
 use Rattle.image.specs.Picture.{pictureOf}
-use Rattle.places.specs.Lent.{components}
+use Rattle.guided_window.specs.Lent.{components}
 use Rattle.guided_rows.proofs.Catching.{HRun, hrun-none, hrun-more, hrun-length, hrun-end}
 use Prim.Native.Nat.{_-_}
 use native.Mathlib.Omega.{arith}
 use Rattle.guided_rows.proofs.steps.across_rows.Statement.{statement}
-use Rattle.guided.proofs.calls.Acceptance.{both}
+use Rattle.guided.proofs.Acceptance.{both}
 use Rattle.guided_rows.proofs.steps.across_rows.Tie as tie
 
 abbrev Inv-loop : tie.InvT-loop

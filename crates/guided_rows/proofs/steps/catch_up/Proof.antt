@@ -1,7 +1,7 @@
 use Rattle.image.specs.Scratch.{scratchNeed}
 use Rattle.image.specs.Picture.{pictureOf}
-use Rattle.guided.proofs.calls.Window.{length-hsteps}
-use Rattle.places.specs.Lent.{components}
+use Rattle.guided.proofs.Window.{length-hsteps}
+use Rattle.guided_window.specs.Lent.{components}
 use Rattle.guided_rows.proofs.Catching.{FRun, frun-none, frun-more, frun-length, frun-end}
 use borrow.Author.Needs.{needs}
 use mathlib.Core.Path.{ap, _∙_}
@@ -9,7 +9,7 @@ use Prim.Native.Nat.{_-_, _≤_}
 use native.Mathlib.Omega.{arith}
 use lib.ListN.{length}
 use Rattle.guided_rows.proofs.steps.catch_up.Statement.{statement}
-use Rattle.guided.proofs.calls.Acceptance.{both}
+use Rattle.guided.proofs.Acceptance.{both}
 use Rattle.guided_rows.proofs.steps.catch_up.Tie as tie
 
 abbrev Inv-loop : tie.InvT-loop

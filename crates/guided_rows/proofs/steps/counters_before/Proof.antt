@@ -2,10 +2,10 @@ use mathlib.Core.Path.{_≡_}
 use Prim.Native.Nat.{ℕ, zero, suc, _+_, _-_}
 use native.Mathlib.Omega.{arith}
 use borrow.Author.Needs.{needs}
-use Rattle.image.specs.declared.layouts.layout.Layout.{Layout}
+use Rattle.image.specs.declared.layout.Layout.{Layout}
 use Rattle.guided.specs.Calls.{freshH, freshF, doneH, doneF}
-use Rattle.reader_state.specs.declared.states.state.Counters.{Counters}
-use Rattle.guided_rows.specs.Rows.{beforeH, beforeF}
+use Rattle.reader_state.specs.declared.state.Counters.{Counters}
+use Rattle.guided_rows.specs.CatchingUp.{beforeH, beforeF}
 use Rattle.guided_rows.proofs.steps.counters_before.Statement.{statement}
 use Rattle.guided_rows.proofs.steps.counters_before.Tie as tie
 

@@ -1,7 +1,7 @@
 use mathlib.Core.Path.{sym}
 use borrow.Author.Needs.{needs}
 use Rattle.image.specs.Picture.{pictureOf}
-use Rattle.guided_rows.specs.Rows.{guidedStep}
+use Rattle.guided_rows.specs.CatchingUp.{guidedStep}
 use Rattle.guided_rows.proofs.steps.guided_step.Statement.{statement}
 use Rattle.guided_rows.proofs.steps.guided_step.Tie as tie
 

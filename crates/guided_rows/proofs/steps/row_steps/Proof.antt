@@ -1,10 +1,10 @@
 use Rattle.guided.specs.Calls.{doneF}
 use Rattle.image.specs.Picture.{Planes, pictureOf}
-use Rattle.places.specs.Lent.{components}
+use Rattle.guided_window.specs.Lent.{components}
 use Rattle.guided.specs.Scratch.{fsteps, rowSteps}
 use Rattle.guided_pixels.specs.Row.{windowRow}
-use Rattle.guided.proofs.calls.Taken.{taken}
-use Rattle.guided.proofs.calls.Window.{length-fsteps}
+use Rattle.guided.proofs.Taken.{taken}
+use Rattle.guided.proofs.Window.{length-fsteps}
 use mathlib.Core.Path.{ap, _∙_}
 use Prim.Native.Nat.{ℕ, _-_, _≤_}
 use native.Mathlib.Omega.{arith}

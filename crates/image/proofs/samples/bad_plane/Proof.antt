@@ -4,7 +4,7 @@ use native.Mathlib.Omega.{arith}
 use borrow.Author.Needs.{needs}
 use lib.Dec.{ltb}
 use borrow.Author.Tests.{ltb-false}
-use Rattle.image.proofs.layouts.Planes.{stride-below, first-short, last-short}
+use Rattle.image.proofs.Planes.{stride-below, first-short, last-short}
 use Rattle.image.proofs.samples.bad_plane.Statement.{statement}
 use Rattle.image.proofs.samples.bad_plane.Tie as tie
 

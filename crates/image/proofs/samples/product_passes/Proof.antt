@@ -1,6 +1,6 @@
 use borrow.Author.Needs.{needs}
-use Rattle.image.proofs.layouts.Quotients.{pos-of}
-use Rattle.image.proofs.layouts.Planes.{divided, divided-zero}
+use Rattle.image.proofs.Quotients.{pos-of}
+use Rattle.image.proofs.Planes.{divided, divided-zero}
 use Rattle.image.proofs.samples.product_passes.Statement.{statement}
 use Rattle.image.proofs.samples.product_passes.Tie as tie
 

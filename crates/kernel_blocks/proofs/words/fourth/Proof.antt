@@ -1,6 +1,6 @@
 use native.Mathlib.Omega.{arith}
 use borrow.Author.Needs.{needs}
-use Rattle.kernel_blocks.proofs.words.Packed.{cleared}
+use Rattle.kernel_blocks.proofs.Packed.{cleared}
 use Rattle.kernel_blocks.proofs.words.fourth.Statement.{statement}
 use Rattle.kernel_blocks.proofs.words.fourth.Tie as tie
 

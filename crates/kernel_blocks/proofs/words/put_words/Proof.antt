@@ -4,8 +4,8 @@ use native.Mathlib.Omega.{arith}
 use lib.ListN.{length, length-set}
 use borrow.Author.Needs.{needs}
 use Rattle.kernel_blocks.specs.Stores.{pixels, blockPixel}
-use Rattle.kernel_blocks.proofs.stores.Puts.{length-pixel, pixels-none}
-use Rattle.kernel_blocks.proofs.words.Packed.{AsPixels, word-stored}
+use Rattle.kernel_blocks.proofs.Puts.{length-pixel, pixels-none}
+use Rattle.kernel_blocks.proofs.Packed.{AsPixels, word-stored}
 use Rattle.kernel_blocks.proofs.words.put_words.Statement.{statement}
 use Rattle.kernel_blocks.proofs.words.put_words.Tie as tie
 

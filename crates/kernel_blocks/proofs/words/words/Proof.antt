@@ -6,7 +6,7 @@ use borrow.Author.Needs.{needs}
 use Rattle.kernel_blocks.specs.Stores.{blockPixel}
 use Rattle.kernel_blocks.specs.Words.{Word}
 use Rattle.lanes.proofs.Filled.{Filled, filled-none, filled-more}
-use Rattle.kernel_blocks.proofs.words.Packed.{joined}
+use Rattle.kernel_blocks.proofs.Packed.{joined}
 use Rattle.kernel_blocks.proofs.words.words.Statement.{statement}
 use Rattle.kernel_blocks.proofs.words.words.Tie as tie
 

@@ -3,7 +3,7 @@ use borrow.Author.Tests.{eq-eqb, ne-eqb}
 use borrow.Author.Needs.{needs}
 use Rattle.laws.specs.Refusals.{first}
 use Rattle.kernels.specs.Pixels.{exactPixel, exactColour}
-use Rattle.kernels.proofs.pixel.Colours.{exact-passed}
+use Rattle.kernels.proofs.Colours.{exact-passed}
 use Rattle.kernels.proofs.calls.ycbcr_frac_to_rgb8.Statement.{statement}
 use Rattle.kernels.proofs.calls.ycbcr_frac_to_rgb8.Tie as tie
 

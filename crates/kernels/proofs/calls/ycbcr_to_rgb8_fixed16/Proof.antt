@@ -2,7 +2,7 @@ use mathlib.Core.Path.{refl, sym}
 use borrow.Author.Needs.{needs}
 use Rattle.laws.specs.Refusals.{first}
 use Rattle.kernels.specs.Pixels.{fixedPixel}
-use Rattle.kernels.proofs.pixel.Colours.{fixed-passed}
+use Rattle.kernels.proofs.Colours.{fixed-passed}
 use Rattle.kernels.proofs.calls.ycbcr_to_rgb8_fixed16.Statement.{statement}
 use Rattle.kernels.proofs.calls.ycbcr_to_rgb8_fixed16.Tie as tie
 

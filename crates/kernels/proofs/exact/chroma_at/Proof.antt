@@ -1,7 +1,7 @@
 use mathlib.Core.Path.{sym, _∙_}
 use native.Mathlib.Omega.{arith}
 use borrow.Author.Needs.{needs}
-use Rattle.kernels.proofs.pixel.Channels.{product-most, chroma-at}
+use Rattle.kernels.proofs.Channels.{product-most, chroma-at}
 use Rattle.kernels.proofs.exact.chroma_at.Statement.{statement}
 use Rattle.kernels.proofs.exact.chroma_at.Tie as tie
 

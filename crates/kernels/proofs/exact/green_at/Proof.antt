@@ -1,6 +1,6 @@
 use mathlib.Core.Path.{sym, _∙_}
 use borrow.Author.Needs.{needs}
-use Rattle.kernels.proofs.pixel.Channels.{green-at}
+use Rattle.kernels.proofs.Channels.{green-at}
 use Rattle.kernels.proofs.exact.green_at.Statement.{statement}
 use Rattle.kernels.proofs.exact.green_at.Tie as tie
 

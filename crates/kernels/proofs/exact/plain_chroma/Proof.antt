@@ -1,7 +1,7 @@
 use mathlib.Core.Path.{sym, ap, _∙_}
 use Prim.Native.Nat.{ℕ, _+_, _-_, _/_, min}
 use borrow.Author.Needs.{needs}
-use Rattle.kernels.proofs.pixel.Channels.{plus-chroma}
+use Rattle.kernels.proofs.Channels.{plus-chroma}
 use Rattle.kernels.proofs.exact.plain_chroma.Statement.{statement}
 use Rattle.kernels.proofs.exact.plain_chroma.Tie as tie
 

@@ -1,7 +1,7 @@
 use mathlib.Core.Path.{sym, _∙_}
 use native.Mathlib.Omega.{arith}
 use borrow.Author.Needs.{needs}
-use Rattle.kernels.proofs.pixel.Channels.{green-255}
+use Rattle.kernels.proofs.Channels.{green-255}
 use Rattle.kernels.proofs.exact.plain_green.Statement.{statement}
 use Rattle.kernels.proofs.exact.plain_green.Tie as tie
 

@@ -1,5 +1,5 @@
 use borrow.Author.Needs.{needs}
-use Rattle.kernels.proofs.pixel.Colours.{colour-255}
+use Rattle.kernels.proofs.Colours.{colour-255}
 use Rattle.kernels.proofs.exact.ycbcr_frac_to_rgb8_8bit.Statement.{statement}
 use Rattle.kernels.proofs.exact.ycbcr_frac_to_rgb8_8bit.Tie as tie
 

@@ -1,5 +1,5 @@
 use borrow.Author.Needs.{needs}
-use Rattle.kernels.proofs.pixel.Colours.{colour-at}
+use Rattle.kernels.proofs.Colours.{colour-at}
 use Rattle.kernels.proofs.exact.ycbcr_frac_to_rgb8_at.Statement.{statement}
 use Rattle.kernels.proofs.exact.ycbcr_frac_to_rgb8_at.Tie as tie
 

@@ -1,8 +1,8 @@
 use mathlib.Core.Path.{sym, _∙_}
 use native.Mathlib.Omega.{arith}
 use borrow.Author.Needs.{needs}
-use Rattle.kernels.proofs.pixel.Channels.{product-most}
-use Rattle.kernels.proofs.pixel.FixedPoint.{plus-fixed}
+use Rattle.kernels.proofs.Channels.{product-most}
+use Rattle.kernels.proofs.FixedPoint.{plus-fixed}
 use Rattle.kernels.proofs.fixed.fixed_chroma.Statement.{statement}
 use Rattle.kernels.proofs.fixed.fixed_chroma.Tie as tie
 

@@ -1,7 +1,7 @@
 use mathlib.Core.Path.{sym, _∙_}
 use native.Mathlib.Omega.{arith}
 use borrow.Author.Needs.{needs}
-use Rattle.kernels.proofs.pixel.FixedPoint.{fixed-green}
+use Rattle.kernels.proofs.FixedPoint.{fixed-green}
 use Rattle.kernels.proofs.fixed.fixed_green.Statement.{statement}
 use Rattle.kernels.proofs.fixed.fixed_green.Tie as tie
 

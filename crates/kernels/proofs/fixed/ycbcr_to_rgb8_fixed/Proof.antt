@@ -1,5 +1,5 @@
 use borrow.Author.Needs.{needs}
-use Rattle.kernels.proofs.pixel.Colours.{colour-fixed}
+use Rattle.kernels.proofs.Colours.{colour-fixed}
 use Rattle.kernels.proofs.fixed.ycbcr_to_rgb8_fixed.Statement.{statement}
 use Rattle.kernels.proofs.fixed.ycbcr_to_rgb8_fixed.Tie as tie
 

@@ -1,6 +1,6 @@
 use native.Mathlib.Omega.{arith}
 use borrow.Author.Needs.{needs}
-use Rattle.netpbm.proofs.images.Acceptance.{taken}
+use Rattle.netpbm.proofs.Acceptance.{taken}
 use Rattle.picture.proofs.Readings.{rows-inside, filled}
 use Rattle.picture.proofs.ppm.put_pixels.Statement.{statement}
 use Rattle.picture.proofs.ppm.put_pixels.Tie as tie

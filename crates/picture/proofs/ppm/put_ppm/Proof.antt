@@ -4,7 +4,7 @@ use lib.ListN.{length-drop, length}
 use borrow.Author.Needs.{needs}
 use Rattle.laws.proofs.Lists.{length-put}
 use Rattle.netpbm.specs.Lines.{ppmHeader}
-use Rattle.netpbm.proofs.images.Acceptance.{taken}
+use Rattle.netpbm.proofs.Acceptance.{taken}
 use Rattle.picture.proofs.Fronts.{header-most, line-length, ppm-covers, picture-layout, ppm-is}
 use Rattle.picture.proofs.Readings.{to-end, told}
 use Rattle.picture.proofs.ppm.put_ppm.Statement.{statement}

@@ -7,15 +7,15 @@ use borrow.Author.Tests.{not-true, not-false}
 use borrow.Author.Needs.{needs}
 use Rattle.laws.specs.Refusals.{accepted}
 use Rattle.laws.proofs.Refusals.{accepted-failed, accepted-is}
-use Rattle.image.specs.declared.layouts.layout.Layout.{Layout}
+use Rattle.image.specs.declared.layout.Layout.{Layout}
 use Rattle.image.specs.Picture.{badPlanes}
-use Rattle.image.proofs.layouts.Layouts.{neither}
+use Rattle.image.proofs.Layouts.{neither}
 use Rattle.guided.specs.Scratch.{finishedAt}
 use Rattle.guided.specs.Calls.{RowCall, layoutOf, rowTests, rowScratch, rowOut}
-use Rattle.guided.proofs.calls.Places.{front-fits}
-use Rattle.guided.proofs.calls.FinishedRows.{length-row}
-use Rattle.guided.proofs.calls.Acceptance.{fine, RowHanded, row-handed}
-use Rattle.places.specs.Lent.{Lent}
+use Rattle.guided.proofs.Places.{front-fits}
+use Rattle.guided.proofs.FinishedRows.{length-row}
+use Rattle.guided.proofs.Acceptance.{fine, RowHanded, row-handed}
+use Rattle.guided_window.specs.Lent.{Lent}
 use Rattle.reader.proofs.rows.row.Statement.{statement}
 use Rattle.reader.proofs.rows.row.Tie as tie
 

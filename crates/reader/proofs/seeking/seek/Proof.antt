@@ -3,7 +3,7 @@ use lib.Dec.{leb}
 use Rattle.laws.specs.Refusals.{first}
 use Rattle.laws.proofs.Refusals.{refused-here, passed-over}
 use Rattle.guided.specs.Calls.{badState, seekTests}
-use Rattle.guided.proofs.calls.Acceptance.{fine}
+use Rattle.guided.proofs.Acceptance.{fine}
 use mathlib.Core.Path.{_≡_, refl, sym, _∙_}
 use borrow.Author.Tests.{le-leb, lt-leb}
 use native.Mathlib.Omega.{arith}

@@ -2,10 +2,10 @@ use mathlib.Core.Path.{refl}
 use native.Mathlib.Omega.{arith}
 use borrow.Author.Needs.{needs}
 use Rattle.laws.proofs.Lists.{run-none}
-use Rattle.upsample.specs.Rows.{cells}
+use Rattle.upsample.specs.Pairs.{cells}
 use Rattle.upsample.specs.Weights.{oneAxis}
-use Rattle.upsample.proofs.weights.Axis.{one-even, one-odd}
-use Rattle.upsample.proofs.weights.Inside.{cells-to}
+use Rattle.upsample.proofs.Axis.{one-even, one-odd}
+use Rattle.upsample.proofs.Inside.{cells-to}
 use Rattle.laws.proofs.Lists.{run-two}
 use Rattle.upsample.proofs.across.first_cell.Statement.{statement}
 use Rattle.upsample.proofs.across.first_cell.Tie as tie

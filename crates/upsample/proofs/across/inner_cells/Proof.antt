@@ -1,5 +1,5 @@
 use borrow.Author.Needs.{needs}
-use Rattle.upsample.proofs.weights.Inside.{two-bytes}
+use Rattle.upsample.proofs.Inside.{two-bytes}
 use Rattle.upsample.proofs.across.inner_cells.Statement.{statement}
 use Rattle.upsample.proofs.across.inner_cells.Tie as tie
 

@@ -3,10 +3,10 @@ use Prim.Native.Nat.{_+_, _-_, _*_, _≤_}
 use native.Mathlib.Omega.{arith}
 use borrow.Author.Needs.{needs}
 use Rattle.laws.proofs.Lists.{Run, run-none, run-end}
-use Rattle.upsample.specs.Rows.{cells}
+use Rattle.upsample.specs.Pairs.{cells}
 use Rattle.upsample.specs.Weights.{oneAxis}
-use Rattle.upsample.proofs.weights.Axis.{one-even, one-odd}
-use Rattle.upsample.proofs.weights.Inside.{cells-to}
+use Rattle.upsample.proofs.Axis.{one-even, one-odd}
+use Rattle.upsample.proofs.Inside.{cells-to}
 use Rattle.laws.proofs.Lists.{run-two}
 use Rattle.upsample.proofs.across.inner_pairs.Statement.{statement}
 use Rattle.upsample.proofs.across.inner_pairs.Tie as tie

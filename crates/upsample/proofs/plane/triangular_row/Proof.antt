@@ -4,9 +4,9 @@ use native.Mathlib.Omega.{arith}
 use lib.ListN.{length}
 use borrow.Author.Needs.{needs}
 use Rattle.laws.proofs.Lists.{put-same}
-use Rattle.upsample.specs.Rows.{RowInside}
-use Rattle.upsample.proofs.plane.Accepted.{Taken, taken, across-kind, two-down, both-kind, doubled, output-row, cell-row, cell-row-all, near-one, near-two}
-use Rattle.upsample.proofs.plane.Ratios.{across-is, down-is, both-is}
+use Rattle.upsample.specs.Pairs.{RowInside}
+use Rattle.upsample.proofs.Accepted.{Taken, taken, across-kind, two-down, both-kind, doubled, output-row, cell-row, cell-row-all, near-one, near-two}
+use Rattle.upsample.proofs.Ratios.{across-is, down-is, both-is}
 use Rattle.upsample.proofs.plane.triangular_row.Statement.{statement}
 use Rattle.upsample.specs.Weights.{far}
 use Rattle.upsample.proofs.plane.triangular_row.Tie as tie

@@ -1,3 +1,0 @@
-// cases.
-pub mod shared;
-pub mod words;

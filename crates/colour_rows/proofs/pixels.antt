@@ -1,2 +1,0 @@
--- Laws of the colour of a pixel.
-pub mod Colouring

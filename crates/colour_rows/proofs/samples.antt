@@ -1,2 +1,0 @@
--- Laws of samples by their columns.
-mod Samples

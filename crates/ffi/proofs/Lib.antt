@@ -1,0 +1,2 @@
+-- Laws that the proofs and other crates cite.
+pub mod RoundTrip

@@ -1,0 +1,63 @@
+use mathlib.Core.Bool.{true≢false}
+use mathlib.Core.Path.{refl, sym, _∙_}
+use borrow.Author.Needs.{needs}
+use Rattle.ffi.proofs.filling.chroma_fill.Statement.{statement}
+use Rattle.ffi.specs.Calls.{noSuchWay}
+use Rattle.ffi.proofs.filling.chroma_fill.Tie as tie
+
+either-requires : tie.Need-either-requires
+either-requires c κs = search needs
+
+returns : tie.Need-returns
+unfolding noSuchWay
+returns c =
+    let e = sym (c .before .either .ensures) ∙ c .if1 .taken in
+    record { strange = λ _. (refl, (refl, refl)); plain = λ f. absurd (true≢false (sym e ∙ f)) }
+
+to-layout-requires : tie.Need-to-layout-requires
+to-layout-requires c κs = search needs
+
+to-upsampling-requires : tie.Need-to-upsampling-requires
+to-upsampling-requires c κs = search needs
+
+to-kernel-requires : tie.Need-to-kernel-requires
+to-kernel-requires c κs = search needs
+
+fill-requires : tie.Need-fill-requires
+fill-requires c κs = search needs
+
+number-of-requires : tie.Need-number-of-requires
+number-of-requires c κs = search needs
+
+same-length : tie.Need-same-length
+same-length c = search needs
+
+same-length-2 : tie.Need-same-length-2
+same-length-2 c = search needs
+
+returns-2 : tie.Need-returns-2
+unfolding noSuchWay
+returns-2 c =
+    let k = c .before .before .before .before .before in
+    let t = k .before .before .before in
+    let l = t .before .before in
+    let e = sym (l .before .before .either .ensures) ∙ l .before .if1 .left in
+    record {
+      strange = λ f. absurd (true≢false (sym f ∙ e));
+      plain = λ _. record { answer = k .fill .result; given = rw (sym (l .to-layout .ensures), sym (t .before .to-upsampling .ensures), sym (t .to-kernel .ensures)) (k .fill .ensures); number = c .number-of .ensures };
+    }
+
+pub chroma-fill-spec : {M : Type 1} → statement M
+chroma-fill-spec =
+    tie.close
+    (tie.spec
+    either-requires
+    returns
+    to-layout-requires
+    to-upsampling-requires
+    to-kernel-requires
+    fill-requires
+    number-of-requires
+    same-length
+    same-length-2
+    returns-2)

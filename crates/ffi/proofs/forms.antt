@@ -1,2 +1,0 @@
--- A state through C and back is the state.
-pub mod RoundTrip

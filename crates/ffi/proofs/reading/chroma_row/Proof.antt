@@ -1,0 +1,55 @@
+use mathlib.Core.Bool.{true≢false}
+use mathlib.Core.Path.{refl, sym, _∙_}
+use borrow.Author.Needs.{needs}
+use Rattle.ffi.proofs.reading.chroma_row.Statement.{statement}
+use Rattle.ffi.proofs.reading.chroma_row.Tie as tie
+
+strange-phases-requires : tie.Need-strange-phases-requires
+strange-phases-requires c κs = search needs
+
+returns : tie.Need-returns
+returns c =
+    let e = sym (c .before .strange-phases .ensures) ∙ c .if1 .taken in
+    record { strange = λ _. (refl, (refl, refl, refl)); plain = λ f. absurd (true≢false (sym e ∙ f)) }
+
+to-reader-requires : tie.Need-to-reader-requires
+to-reader-requires c κs = search needs
+
+row-requires : tie.Need-row-requires
+row-requires c κs = search needs
+
+reply-to-requires : tie.Need-reply-to-requires
+reply-to-requires c κs = search needs
+
+same-length : tie.Need-same-length
+same-length c = search needs
+
+same-length-2 : tie.Need-same-length-2
+same-length-2 c = search needs
+
+same-length-3 : tie.Need-same-length-3
+same-length-3 c = search needs
+
+returns-2 : tie.Need-returns-2
+returns-2 c =
+    let k = c .before .before .before .before .before .before .before in
+    let t = k .before .before .before .before in
+    let e = sym (t .before .before .strange-phases .ensures) ∙ t .before .if1 .left in
+    record {
+      strange = λ f. absurd (true≢false (sym f ∙ e));
+      plain = λ _. record { reply = k .row .result; given = rw (sym (t .to-reader .ensures)) (k .row .ensures); is = c .reply-to .ensures };
+    }
+
+pub chroma-row-spec : {M : Type 1} → statement M
+chroma-row-spec =
+    tie.close
+    (tie.spec
+    strange-phases-requires
+    returns
+    to-reader-requires
+    row-requires
+    reply-to-requires
+    same-length
+    same-length-2
+    same-length-3
+    returns-2)

@@ -1,0 +1,43 @@
+use mathlib.Core.Bool.{true≢false}
+use mathlib.Core.Path.{refl, sym, _∙_}
+use borrow.Author.Needs.{needs}
+use Rattle.ffi.proofs.reading.chroma_seek.Statement.{statement}
+use Rattle.ffi.proofs.reading.chroma_seek.Tie as tie
+
+strange-phases-requires : tie.Need-strange-phases-requires
+strange-phases-requires c κs = search needs
+
+returns : tie.Need-returns
+returns c =
+    let e = sym (c .before .strange-phases .ensures) ∙ c .if1 .taken in
+    record { strange = λ _. (refl, tt); plain = λ f. absurd (true≢false (sym e ∙ f)) }
+
+to-reader-requires : tie.Need-to-reader-requires
+to-reader-requires c κs = search needs
+
+seek-requires : tie.Need-seek-requires
+seek-requires c κs = search needs
+
+reply-to-requires : tie.Need-reply-to-requires
+reply-to-requires c κs = search needs
+
+returns-2 : tie.Need-returns-2
+returns-2 c =
+    let k = c .before in
+    let t = k .before in
+    let e = sym (t .before .before .strange-phases .ensures) ∙ t .before .if1 .left in
+    record {
+      strange = λ f. absurd (true≢false (sym f ∙ e));
+      plain = λ _. record { reply = k .seek .result; given = rw (sym (t .to-reader .ensures)) (k .seek .ensures); is = c .reply-to .ensures };
+    }
+
+pub chroma-seek-spec : {M : Type 1} → statement M
+chroma-seek-spec =
+    tie.close
+    (tie.spec
+    strange-phases-requires
+    returns
+    to-reader-requires
+    seek-requires
+    reply-to-requires
+    returns-2)

@@ -1,0 +1,67 @@
+-- What C's structs and numbers stand for. Definitions only.
+use mathlib.Core.Bool.{Bool, _||_, cond}
+use mathlib.Core.List.{[], _∷_}
+use Prim.Native.Nat.{ℕ}
+use lib.Dec.{eqb, ltb}
+use lib.ListN.{getD}
+use lib.Ieee.{nan}
+use Rattle.laws.specs.declared.Answer.{Answer}
+use Rattle.laws.specs.declared.Answer.the-variants.{Accepted, Refused}
+use Rattle.image.specs.declared.layout.Layout.{Layout}
+use Rattle.taps.specs.declared.positions.Phase.{Phase}
+use Rattle.guided.specs.declared.state.Reader.{Reader}
+use Rattle.guided.specs.Calls.{phaseIn}
+use Rattle.ffi.specs.declared.types.ChromaLayout.{ChromaLayout}
+use Rattle.ffi.specs.declared.types.ChromaPhase.{ChromaPhase}
+use Rattle.ffi.specs.declared.types.ChromaReader.{ChromaReader}
+
+-- 0 for accepted, else document 01's number
+abbrev pub numberOf : Answer → ℕ
+numberOf Accepted = 0
+numberOf (Refused n) = n
+
+unfoldable pub asLayout : ChromaLayout → Layout
+asLayout l = record { w = l .w; h = l .h; rh = l .rh; rv = l .rv; cw = l .cw; ch = l .ch; «sample_bytes» = l .«sample_bytes»; maxval = l .maxval }
+
+-- ---- the reader's state
+
+unfoldable pub asPhase : ChromaPhase → Phase
+asPhase p = record { left = eqb (p .left) 1; f = p .f }
+
+unfoldable pub chromaPhase : Phase → ChromaPhase
+chromaPhase p = record { left = cond (p .left) 1 0; f = p .f }
+
+-- phase k of C's state; past the end of an array the machine reads 0 and nan
+abbrev pub chromaPhaseIn : ChromaReader → ℕ → ChromaPhase
+chromaPhaseIn r k = getD (r .phases) k (record { left = 0; f = nan })
+
+-- a `left` that is neither 0 nor 1: no state has this form
+unfoldable pub strangePhases : ChromaReader → Bool
+strangePhases r = (ltb 1 (chromaPhaseIn r 0 .left) || ltb 1 (chromaPhaseIn r 1 .left)) || (ltb 1 (chromaPhaseIn r 2 .left) || ltb 1 (chromaPhaseIn r 3 .left))
+
+-- the state that C's stands for, and a state's form in C
+unfoldable pub asReader : ChromaReader → Reader
+asReader r = record {
+  geometry = record { w = r .w; h = r .h; rh = r .rh; rv = r .rv; cw = r .cw; ch = r .ch; phases = asPhase (chromaPhaseIn r 0) ∷ asPhase (chromaPhaseIn r 1) ∷ asPhase (chromaPhaseIn r 2) ∷ asPhase (chromaPhaseIn r 3) ∷ [] };
+  «sample_bytes» = r .«sample_bytes»;
+  maxval = r .maxval;
+  place = r .place;
+  «h_next» = r .«h_next»;
+  «f_next» = r .«f_next»;
+}
+
+unfoldable pub chromaReader : Reader → ChromaReader
+chromaReader r = record {
+  w = r .geometry .w;
+  h = r .geometry .h;
+  rh = r .geometry .rh;
+  rv = r .geometry .rv;
+  cw = r .geometry .cw;
+  ch = r .geometry .ch;
+  phases = chromaPhase (phaseIn (r .geometry) 0) ∷ chromaPhase (phaseIn (r .geometry) 1) ∷ chromaPhase (phaseIn (r .geometry) 2) ∷ chromaPhase (phaseIn (r .geometry) 3) ∷ [];
+  «sample_bytes» = r .«sample_bytes»;
+  maxval = r .maxval;
+  place = r .place;
+  «h_next» = r .«h_next»;
+  «f_next» = r .«f_next»;
+}

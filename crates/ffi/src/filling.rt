@@ -1,0 +1,64 @@
+// Fill to RGB, for C.
+ghost use mathlib.Core.Path.{_≡_};
+ghost use Rattle.fill.specs.Fill.{FillGiven};
+ghost use Rattle.ffi.specs.Types.{asLayout};
+ghost use Rattle.ffi.specs.Calls.{Filled, lentPlanes, asUpsampling, asKernel};
+use crate::types::ChromaLayout;
+use crate::types::ChromaStrides;
+use crate::types::number_of;
+use crate::types::to_layout;
+use colour_rows::YcbcrKernel;
+use fill::ChromaUpsampling;
+
+fn to_upsampling(n: u32) -> ChromaUpsampling
+    ensures { λ r. ⌜ r ≡ asUpsampling n ⌝ }
+{
+    if n == 1 {
+        return ChromaUpsampling::LumaGuided;
+    }
+    ChromaUpsampling::Linear
+}
+
+fn to_kernel(n: u32) -> YcbcrKernel
+    ensures { λ r. ⌜ r ≡ asKernel n ⌝ }
+{
+    if n == 1 {
+        return YcbcrKernel::FixedPoint16;
+    }
+    YcbcrKernel::Exact
+}
+
+// `fill`: chroma linear (0) or guided (1), kernel exact (0) or fixed (1); 255 for any other switch, before all else.
+#[no_mangle]
+pub extern "C" fn chroma_fill(
+    layout: ChromaLayout,
+    y: &[u8],
+    cb: &[u8],
+    cr: &[u8],
+    strides: ChromaStrides,
+    upsampling: u32,
+    kernel: u32,
+    size: usize,
+    s: &mut [f32],
+    out: &mut [u8],
+) -> u32
+    ensures { λ r. ⌜ Filled upsampling kernel ((now (s .exit) ≡ now (s .entry)) × (now (out .exit) ≡ now (out .entry))) (λ u k a. FillGiven (record { layout = asLayout layout; planes = lentPlanes (now (y .entry)) (now (cb .entry)) (now (cr .entry)) strides; upsampling = u; kernel = k; size = size; scratch = now (s .entry); out = now (out .entry) }) a (now (s .exit)) (now (out .exit))) r ⌝ }
+{
+    if image::either(1 < upsampling, 1 < kernel) {
+        return 255;
+    }
+    number_of(fill::fill(
+        to_layout(layout),
+        y,
+        strides.y,
+        cb,
+        strides.cb,
+        cr,
+        strides.cr,
+        to_upsampling(upsampling),
+        to_kernel(kernel),
+        size,
+        s,
+        out,
+    ))
+}

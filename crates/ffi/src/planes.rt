@@ -1,0 +1,52 @@
+// A whole chroma plane, for C: linear, guided or triangular.
+ghost use Rattle.linear.specs.Linear.{LinearGiven};
+ghost use Rattle.upsample.specs.Triangular.{TriangularGiven};
+ghost use Rattle.guided_plane.specs.Plane.{GuidedGiven};
+ghost use Rattle.ffi.specs.Types.{asLayout};
+ghost use Rattle.ffi.specs.Calls.{Answered, lentPlane};
+use crate::types::ChromaLayout;
+use crate::types::number_of;
+use crate::types::to_layout;
+
+// `linear_plane`.
+#[no_mangle]
+pub extern "C" fn chroma_linear_plane(
+    layout: ChromaLayout,
+    plane: &[u8],
+    stride: usize,
+    s: &mut [f32],
+    out: &mut [u16],
+) -> u32
+    ensures { λ r. ⌜ Answered (λ a. LinearGiven (asLayout layout) (lentPlane (now (plane .entry)) stride) (now (s .entry)) (now (out .entry)) a (now (s .exit)) (now (out .exit))) r ⌝ }
+{
+    number_of(linear::linear_plane(to_layout(layout), plane, stride, s, out))
+}
+
+// `guided_plane`.
+#[no_mangle]
+pub extern "C" fn chroma_guided_plane(
+    layout: ChromaLayout,
+    y: &[u8],
+    y_stride: usize,
+    plane: &[u8],
+    stride: usize,
+    s: &mut [f32],
+    out: &mut [u16],
+) -> u32
+    ensures { λ r. ⌜ Answered (λ a. GuidedGiven (asLayout layout) (lentPlane (now (y .entry)) «y_stride») (lentPlane (now (plane .entry)) stride) (now (s .entry)) (now (out .entry)) a (now (s .exit)) (now (out .exit))) r ⌝ }
+{
+    number_of(guided_plane::guided_plane(to_layout(layout), y, y_stride, plane, stride, s, out))
+}
+
+// `triangular_plane`.
+#[no_mangle]
+pub extern "C" fn chroma_triangular_plane(
+    layout: ChromaLayout,
+    plane: &[u8],
+    stride: usize,
+    out: &mut [u16],
+) -> u32
+    ensures { λ r. ⌜ Answered (λ a. TriangularGiven (asLayout layout) (lentPlane (now (plane .entry)) stride) (now (out .entry)) a (now (out .exit))) r ⌝ }
+{
+    number_of(upsample::triangular_plane(to_layout(layout), plane, stride, out))
+}

@@ -1,0 +1,86 @@
+// The reader's calls for C: open, seek and row.
+ghost use mathlib.Core.Path.{_≡_};
+ghost use Rattle.guided.specs.Calls.{OpenGiven, SeekGiven, RowGiven};
+ghost use Rattle.ffi.specs.Types.{asLayout, asReader};
+ghost use Rattle.ffi.specs.Calls.{Replied, Checked, lentPlanes};
+use crate::replies::reply_to;
+use crate::types::ChromaLayout;
+use crate::types::ChromaReader;
+use crate::types::ChromaReply;
+use crate::types::ChromaStrides;
+use crate::types::strange_phases;
+use crate::types::to_layout;
+use crate::types::to_reader;
+
+// `open`: a picture's reader at row 0. The state that it is handed may hold anything.
+#[no_mangle]
+pub extern "C" fn chroma_open(
+    layout: ChromaLayout,
+    y: &[u8],
+    cb: &[u8],
+    cr: &[u8],
+    strides: ChromaStrides,
+    s: &[f32],
+    reader: ChromaReader,
+) -> ChromaReply
+    ensures { λ r. ⌜ Replied reader (OpenGiven (record { layout = asLayout layout; planes = lentPlanes (now (y .entry)) (now (cb .entry)) (now (cr .entry)) strides; scratch = now (s .entry); reader = asReader reader })) r ⌝ }
+{
+    let reply = reader::open(
+        to_layout(layout),
+        y,
+        strides.y,
+        cb,
+        strides.cb,
+        cr,
+        strides.cr,
+        s,
+        to_reader(reader),
+    );
+    reply_to(reader, reply)
+}
+
+// `seek`: the reader at row y.
+#[no_mangle]
+pub extern "C" fn chroma_seek(reader: ChromaReader, y: usize) -> ChromaReply
+    ensures { λ r. ⌜ Checked reader Unit (SeekGiven (record { y = y; reader = asReader reader })) r ⌝ }
+{
+    if strange_phases(reader) {
+        return ChromaReply { refusal: 1, reader };
+    }
+    let reply = reader::seek(to_reader(reader), y);
+    reply_to(reader, reply)
+}
+
+// `row`: one row of Cb and of Cr.
+#[no_mangle]
+pub extern "C" fn chroma_row(
+    reader: ChromaReader,
+    y: &[u8],
+    cb: &[u8],
+    cr: &[u8],
+    strides: ChromaStrides,
+    row: usize,
+    s: &mut [f32],
+    out_cb: &mut [f32],
+    out_cr: &mut [f32],
+) -> ChromaReply
+    ensures { λ r. ⌜ Checked reader ((now (s .exit) ≡ now (s .entry)) × (now («out_cb» .exit) ≡ now («out_cb» .entry)) × (now («out_cr» .exit) ≡ now («out_cr» .entry))) (λ p. RowGiven (record { y = row; planes = lentPlanes (now (y .entry)) (now (cb .entry)) (now (cr .entry)) strides; reader = asReader reader; scratch = now (s .entry); outCb = now («out_cb» .entry); outCr = now («out_cr» .entry) }) p (now (s .exit)) (now («out_cb» .exit)) (now («out_cr» .exit))) r ⌝ }
+{
+    if strange_phases(reader) {
+        return ChromaReply { refusal: 1, reader };
+    }
+    let reply = reader::row(
+        to_reader(reader),
+        y,
+        strides.y,
+        cb,
+        strides.cb,
+        cr,
+        strides.cr,
+        row,
+        s,
+        out_cb,
+        out_cr,
+    );
+    reply_to(reader, reply)
+}

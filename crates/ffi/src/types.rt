@@ -1,0 +1,190 @@
+// What crosses the boundary to C, and its translation: structs with C's layout, whose numbers stand for the Rattle calls' bools and enums.
+ghost use mathlib.Core.Path.{_≡_};
+ghost use Rattle.ffi.specs.Types.{asLayout, asPhase, chromaPhase, asReader, chromaReader, strangePhases, numberOf};
+use guided::Geometry;
+use guided::Reader;
+use image::Layout;
+use image::either;
+use laws::Answer;
+use taps::Phase;
+
+// A picture's numbers.
+#[repr(C)]
+pub struct ChromaLayout {
+    pub w: usize,
+    pub h: usize,
+    pub rh: usize,
+    pub rv: usize,
+    pub cw: usize,
+    pub ch: usize,
+    pub sample_bytes: usize,
+    pub maxval: u32,
+}
+
+// How many bytes apart the rows of each plane begin.
+#[repr(C)]
+pub struct ChromaStrides {
+    pub y: usize,
+    pub cb: usize,
+    pub cr: usize,
+}
+
+// `left` is 1 for true and 0 for false; another number stands for none.
+#[repr(C)]
+pub struct ChromaPhase {
+    pub left: u32,
+    pub f: f32,
+}
+
+// The reader's state.
+#[repr(C)]
+pub struct ChromaReader {
+    pub w: usize,
+    pub h: usize,
+    pub rh: usize,
+    pub rv: usize,
+    pub cw: usize,
+    pub ch: usize,
+    pub phases: [ChromaPhase; 4],
+    pub sample_bytes: usize,
+    pub maxval: u32,
+    pub place: usize,
+    pub h_next: usize,
+    pub f_next: usize,
+}
+
+// `refusal` is 0 where the call was accepted, as in the others.
+#[repr(C)]
+pub struct ChromaReply {
+    pub refusal: u32,
+    pub reader: ChromaReader,
+}
+
+// Three bytes of colour, 0 where the call was refused.
+#[repr(C)]
+pub struct ChromaPixel {
+    pub refusal: u32,
+    pub r: u8,
+    pub g: u8,
+    pub b: u8,
+}
+
+// How many bytes were written, 0 where the call was refused.
+#[repr(C)]
+pub struct ChromaWritten {
+    pub refusal: u32,
+    pub len: usize,
+}
+
+// Inner: the layout that C's stands for.
+pub fn to_layout(l: ChromaLayout) -> Layout
+    ensures { λ r. ⌜ r ≡ asLayout l ⌝ }
+{
+    Layout {
+        w: l.w,
+        h: l.h,
+        rh: l.rh,
+        rv: l.rv,
+        cw: l.cw,
+        ch: l.ch,
+        sample_bytes: l.sample_bytes,
+        maxval: l.maxval,
+    }
+}
+
+fn to_phase(p: ChromaPhase) -> Phase
+    ensures { λ r. ⌜ r ≡ asPhase p ⌝ }
+{
+    Phase {
+        left: p.left == 1,
+        f: p.f,
+    }
+}
+
+fn from_phase(p: Phase) -> ChromaPhase
+    ensures { λ r. ⌜ r ≡ chromaPhase p ⌝ }
+{
+    if p.left {
+        return ChromaPhase { left: 1, f: p.f };
+    }
+    ChromaPhase { left: 0, f: p.f }
+}
+
+// Inner: whether a phase's `left` is neither 0 nor 1, so that the state stands for none.
+pub fn strange_phases(reader: ChromaReader) -> bool
+    ensures { λ r. ⌜ r ≡ strangePhases reader ⌝ }
+{
+    let p = reader.phases;
+    either(
+        either(1 < p[0].left, 1 < p[1].left),
+        either(1 < p[2].left, 1 < p[3].left),
+    )
+}
+
+// Inner: the state that C's stands for.
+pub fn to_reader(r: ChromaReader) -> Reader
+    ensures { λ s. ⌜ s ≡ asReader r ⌝ }
+{
+    let p = r.phases;
+    let phases = [
+        to_phase(p[0]),
+        to_phase(p[1]),
+        to_phase(p[2]),
+        to_phase(p[3]),
+    ];
+    let geometry = Geometry {
+        w: r.w,
+        h: r.h,
+        rh: r.rh,
+        rv: r.rv,
+        cw: r.cw,
+        ch: r.ch,
+        phases,
+    };
+    Reader {
+        geometry,
+        sample_bytes: r.sample_bytes,
+        maxval: r.maxval,
+        place: r.place,
+        h_next: r.h_next,
+        f_next: r.f_next,
+    }
+}
+
+// Inner: a state in C's form.
+pub fn from_reader(r: Reader) -> ChromaReader
+    ensures { λ s. ⌜ s ≡ chromaReader r ⌝ }
+{
+    let g = r.geometry;
+    let p = g.phases;
+    let phases = [
+        from_phase(p[0]),
+        from_phase(p[1]),
+        from_phase(p[2]),
+        from_phase(p[3]),
+    ];
+    ChromaReader {
+        w: g.w,
+        h: g.h,
+        rh: g.rh,
+        rv: g.rv,
+        cw: g.cw,
+        ch: g.ch,
+        phases,
+        sample_bytes: r.sample_bytes,
+        maxval: r.maxval,
+        place: r.place,
+        h_next: r.h_next,
+        f_next: r.f_next,
+    }
+}
+
+// Inner: an answer's number, 0 for accepted.
+pub fn number_of(answer: Answer) -> u32
+    ensures { λ r. ⌜ r ≡ numberOf answer ⌝ }
+{
+    match answer {
+        Answer::Accepted => 0,
+        Answer::Refused(n) => n as u32,
+    }
+}

@@ -1,0 +1,34 @@
+-- What an accepted fill may rely on.
+use mathlib.Core.Path.{_≡_}
+use mathlib.Core.List.{_++_}
+use Prim.Native.Nat.{_*_}
+use lib.ListN.{length}
+use borrow.Author.Tests.{ltb-false}
+use Rattle.laws.specs.declared.Answer.the-variants.{Accepted}
+use Rattle.laws.specs.Refusals.{first}
+use Rattle.laws.proofs.Refusals.{accepted-failed, failed-both}
+use Rattle.image.specs.Tests.{layoutTests}
+use Rattle.image.specs.Picture.{shortPlane, badPlanes}
+use Rattle.image.proofs.Layouts.{neither, sound}
+use Rattle.image.specs.Scratch.{scratchNeed}
+use Rattle.fill.specs.Tests.{FillCall, isFixed, fillTests}
+use Rattle.fill.proofs.Later.{sized, laterTests}
+use Rattle.fill.specs.Steps.{FillLent}
+
+pub ready : (c : FillCall) → first (fillTests c) ≡ Accepted → FillLent (c .layout) (c .planes) (c .size) (length (c .scratch)) (length (c .out))
+unfolding fillTests badPlanes
+ready c e =
+    let l = c .layout in
+    let ps = c .planes in
+    let early = layoutTests (isFixed (c .kernel)) l in
+    let f = failed-both early (laterTests c) (accepted-failed (early ++ laterTests c) e) in
+    let p = neither (shortPlane l (l .w) (l .h) (ps .y)) _ (f .1 .0) in
+    let q = neither (shortPlane l (l .cw) (l .ch) (ps .cb)) (shortPlane l (l .cw) (l .ch) (ps .cr)) (p .1) in
+    let z = sized (c .size) (f .1 .1 .0) in
+    record {
+      lent = record { sound = sound (isFixed (c .kernel)) l (f .0); luma = p .0; cb = q .0; cr = λ _. q .1 };
+      size-least = z .0;
+      size-most = z .1;
+      scratch = ltb-false (length (c .scratch)) (scratchNeed l) (f .1 .1 .1 .0);
+      output = ltb-false (length (c .out)) (l .w * l .h * c .size) (f .1 .1 .1 .1 .0);
+    }

@@ -1,0 +1,6 @@
+-- Laws that the proofs and other crates cite.
+pub mod Acceptance
+pub mod Bytes
+pub mod Chroma
+pub mod Later
+pub mod Painted

@@ -1,0 +1,60 @@
+use mathlib.Core.Path.{ap, _∙_}
+use mathlib.Core.List.{List}
+use Prim.Native.Nat.{_+_, _*_}
+use native.Mathlib.Omega.{arith}
+use lib.Ieee.{Float}
+use lib.ListN.{length}
+use borrow.Author.Needs.{needs}
+use Rattle.guided.proofs.Places.{front-fits}
+use Rattle.colour_rows.specs.Colours.{colourRow}
+use Rattle.fill.proofs.Chroma.{length-fill}
+use Rattle.fill.proofs.Painted.{row-bytes, row-begins, row-room}
+use Rattle.fill.proofs.rows.fill_row.Statement.{statement}
+use Rattle.fill.proofs.rows.fill_row.Tie as tie
+
+add-row : tie.Need-add-row
+add-row c = search needs
+
+mul-at : tie.Need-mul-at
+mul-at c = let s = c .before .before .before .before .before .before in omega (arith, row-bytes (s .pre .0))
+
+mul-at-2 : tie.Need-mul-at-2
+mul-at-2 c = let s = c .before .before .before .before .before .before in omega (arith, row-begins (s .pre .0) (s .args .first + s .args .n) (s .pre .1))
+
+chroma-row-requires : tie.Need-chroma-row-requires
+chroma-row-requires c κs = let p = c .before .before .before .before .before .before .before .pre in (p .0 .lent, (p .1, p .0 .scratch))
+
+colour-row-requires : tie.Need-colour-row-requires
+colour-row-requires c κs =
+    let s = c .before .before .before .before .before .before .before .before .before .before .before .before in
+    let p = s .pre .0 in
+    let a = s .args in
+    let e = ap length (c .before .before .before .before .chroma-row .ensures) ∙ length-fill (a .upsampling) (a .layout) (record { y = record { bytes = a .y .now; stride = a .y-stride }; cb = record { bytes = a .cb .now; stride = a .cb-stride }; cr = record { bytes = a .cr .now; stride = a .cr-stride } }) (a .first) (a .n) (a .s .now) in
+    let f = front-fits (a .layout) in
+    let g = p .scratch in
+    (record { luma = record { sound = p .lent .sound; plane = p .lent .luma; inside = s .pre .1 }; rows = omega arith }, (p .size-least, p .size-most, row-room p (a .first + a .n) (s .pre .1)))
+
+same-length : tie.Need-same-length
+same-length c = search needs
+
+same-length-2 : tie.Need-same-length-2
+same-length-2 c = search needs
+
+returns : tie.Need-returns
+returns c =
+    let a = c .before .before .before .before .before .before .before .before .before .before .before .before .before .before .before .args in
+    let e = c .before .before .before .before .before .before .before .chroma-row .ensures in
+    (e, c .before .before .colour-row .ensures ∙ ap (λ (z : List Float). colourRow (a .kernel) (a .layout) (record { bytes = a .y .now; stride = a .y-stride }) (a .first + a .n) z ((a .first + a .n) * (a .layout .w * a .size)) (a .size) (a .out .now)) e)
+
+pub fill-row-spec : {M : Type 1} → statement M
+fill-row-spec =
+    tie.close
+    (tie.spec
+    add-row
+    mul-at
+    mul-at-2
+    chroma-row-requires
+    colour-row-requires
+    same-length
+    same-length-2
+    returns)

@@ -1,0 +1,159 @@
+// Rows of a fill: chroma into scratch, then colour into out.
+ghost use mathlib.Core.Path.{_≡_};
+ghost use mathlib.Core.Bool.{true};
+ghost use Prim.Native.Nat.{_+_, _-_, _*_, _≤_, _<_};
+ghost use lib.ListN.{length};
+ghost use Rattle.image.specs.Picture.{pictureOf};
+ghost use Rattle.linear.specs.Linear.{linearRow, Ready};
+ghost use Rattle.image.specs.Scratch.{scratchNeed};
+ghost use Rattle.guided_window.specs.Lent.{Lent};
+ghost use Rattle.colour_rows.specs.Colours.{colourRow};
+ghost use Rattle.fill.specs.Fill.{fillColour, pixelRows, fillScratch};
+ghost use Rattle.fill.specs.Steps.{fillStep, FillLent};
+use crate::answer::ChromaUpsampling;
+use colour_rows::YcbcrKernel;
+use image::Layout;
+
+// A row of linear chroma into scratch: Cb's at 0, Cr's at w.
+fn linear_pair(
+    layout: Layout,
+    cb: &[u8],
+    cb_stride: usize,
+    cr: &[u8],
+    cr_stride: usize,
+    row: usize,
+    s: &mut [f32],
+)
+    requires { ⌜ Ready layout (record { bytes = now cb; stride = «cb_stride» }) (length (now s)) ⌝ }
+    requires { ⌜ Ready layout (record { bytes = now cr; stride = «cr_stride» }) (length (now s)) ⌝ }
+    requires { ⌜ row < layout .h ⌝ }
+    ensures { λ _. ⌜ now (s .exit) ≡ linearRow layout (record { bytes = now (cr .entry); stride = «cr_stride» }) (layout .w) row (linearRow layout (record { bytes = now (cb .entry); stride = «cb_stride» }) 0 row (now (s .entry))) ⌝ }
+{
+    linear::linear_row(layout, cb, cb_stride, row, s, 0);
+    linear::linear_row(layout, cr, cr_stride, row, s, layout.w);
+}
+
+// Row first + n of chroma into scratch, the rows from first on having been made before it.
+fn chroma_row(
+    layout: Layout,
+    y: &[u8],
+    y_stride: usize,
+    cb: &[u8],
+    cb_stride: usize,
+    cr: &[u8],
+    cr_stride: usize,
+    upsampling: ChromaUpsampling,
+    first: usize,
+    n: usize,
+    s: &mut [f32],
+)
+    requires { ⌜ Lent layout (record { y = record { bytes = now y; stride = «y_stride» }; cb = record { bytes = now cb; stride = «cb_stride» }; cr = record { bytes = now cr; stride = «cr_stride» } }) true ⌝ }
+    requires { ⌜ (first + n < layout .h) × (scratchNeed layout ≤ length (now s)) ⌝ }
+    ensures { λ _. ⌜ now (s .exit) ≡ fillStep upsampling layout (record { y = record { bytes = now (y .entry); stride = «y_stride» }; cb = record { bytes = now (cb .entry); stride = «cb_stride» }; cr = record { bytes = now (cr .entry); stride = «cr_stride» } }) first n (now (s .entry)) ⌝ }
+{
+    match upsampling {
+        ChromaUpsampling::Linear => {
+            linear_pair(layout, cb, cb_stride, cr, cr_stride, first + n, s);
+        }
+        ChromaUpsampling::LumaGuided => {
+            guided_rows::guided_step(
+                layout,
+                y,
+                y_stride,
+                cb,
+                cb_stride,
+                cr,
+                cr_stride,
+                true,
+                first,
+                n,
+                s,
+            );
+        }
+    }
+}
+
+// Row first + n: its chroma, then its colour to its place in out.
+fn fill_row(
+    layout: Layout,
+    y: &[u8],
+    y_stride: usize,
+    cb: &[u8],
+    cb_stride: usize,
+    cr: &[u8],
+    cr_stride: usize,
+    upsampling: ChromaUpsampling,
+    kernel: YcbcrKernel,
+    size: usize,
+    first: usize,
+    n: usize,
+    s: &mut [f32],
+    out: &mut [u8],
+)
+    requires { ⌜ FillLent layout (record { y = record { bytes = now y; stride = «y_stride» }; cb = record { bytes = now cb; stride = «cb_stride» }; cr = record { bytes = now cr; stride = «cr_stride» } }) size (length (now s)) (length (now out)) ⌝ }
+    requires { ⌜ first + n < layout .h ⌝ }
+    ensures { λ _. ⌜ now (s .exit) ≡ fillStep upsampling layout (record { y = record { bytes = now (y .entry); stride = «y_stride» }; cb = record { bytes = now (cb .entry); stride = «cb_stride» }; cr = record { bytes = now (cr .entry); stride = «cr_stride» } }) first n (now (s .entry)) ⌝ }
+    ensures { λ _. ⌜ now (out .exit) ≡ colourRow kernel layout (record { bytes = now (y .entry); stride = «y_stride» }) (first + n) (fillStep upsampling layout (record { y = record { bytes = now (y .entry); stride = «y_stride» }; cb = record { bytes = now (cb .entry); stride = «cb_stride» }; cr = record { bytes = now (cr .entry); stride = «cr_stride» } }) first n (now (s .entry))) ((first + n) * (layout .w * size)) size (now (out .entry)) ⌝ }
+{
+    let row = first + n;
+    let at = row * (layout.w * size);
+    chroma_row(
+        layout,
+        y,
+        y_stride,
+        cb,
+        cb_stride,
+        cr,
+        cr_stride,
+        upsampling,
+        first,
+        n,
+        s,
+    );
+    colour_rows::colour_row(layout, kernel, size, y, y_stride, row, s, out, at);
+}
+
+// Inner: rows a, .. b - 1 of the picture, whatever scratch holds.
+pub fn fill_rows(
+    layout: Layout,
+    y: &[u8],
+    y_stride: usize,
+    cb: &[u8],
+    cb_stride: usize,
+    cr: &[u8],
+    cr_stride: usize,
+    upsampling: ChromaUpsampling,
+    kernel: YcbcrKernel,
+    size: usize,
+    a: usize,
+    b: usize,
+    s: &mut [f32],
+    out: &mut [u8],
+)
+    requires { ⌜ FillLent layout (record { y = record { bytes = now y; stride = «y_stride» }; cb = record { bytes = now cb; stride = «cb_stride» }; cr = record { bytes = now cr; stride = «cr_stride» } }) size (length (now s)) (length (now out)) ⌝ }
+    requires { ⌜ (a ≤ b) × (b ≤ layout .h) ⌝ }
+    ensures { λ _. ⌜ now (out .exit) ≡ pixelRows (layout .w) size (fillColour upsampling kernel (pictureOf layout (record { y = record { bytes = now (y .entry); stride = «y_stride» }; cb = record { bytes = now (cb .entry); stride = «cb_stride» }; cr = record { bytes = now (cr .entry); stride = «cr_stride» } }))) a (b - a) (now (out .entry)) ⌝ }
+    ensures { λ _. ⌜ now (s .exit) ≡ fillScratch upsampling layout (record { y = record { bytes = now (y .entry); stride = «y_stride» }; cb = record { bytes = now (cb .entry); stride = «cb_stride» }; cr = record { bytes = now (cr .entry); stride = «cr_stride» } }) a (b - a) (now (s .entry)) ⌝ }
+{
+    let rows = b - a;
+    let mut n = 0;
+    while n < rows {
+        fill_row(
+            layout,
+            y,
+            y_stride,
+            cb,
+            cb_stride,
+            cr,
+            cr_stride,
+            upsampling,
+            kernel,
+            size,
+            a,
+            n,
+            s,
+            out,
+        );
+        n += 1;
+    }
+}

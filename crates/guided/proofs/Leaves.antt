@@ -1,0 +1,97 @@
+-- A state passes exactly when some list of accepted calls leaves it.
+use mathlib.Core.Path.{_≡_, refl, _∙_}
+use mathlib.Core.Logic.{inl, inr}
+use mathlib.Core.Bool.{true, false}
+use mathlib.Core.List.{[]}
+use Prim.Native.Nat.{ℕ, _+_, _-_, _*_, _<_, zero-le}
+use native.Mathlib.Nat.{le-refl}
+use lib.Dec.{ltb}
+use lib.ListN.{length, replicate, length-replicate}
+use lib.Ieee.{nan}
+use borrow.Author.Tests.{le-ltb, lt-leb}
+use Rattle.laws.specs.declared.Answer.the-variants.{Accepted}
+use Rattle.laws.specs.Refusals.{first, accepted}
+use Rattle.laws.proofs.Refusals.{accepted-failed, accepted-is, failed-accepted, passed-early}
+use Rattle.image.specs.declared.layout.Layout.{Layout}
+use Rattle.image.specs.Tests.{layoutTests, badPlane}
+use Rattle.image.specs.Samples.{Plane}
+use Rattle.image.specs.Picture.{Planes, shortPlane, badPlanes}
+use Rattle.image.specs.Scratch.{scratchNeed}
+use Rattle.guided.specs.declared.state.Reader.{Reader}
+use Rattle.guided.specs.Calls.{layoutOf, geometryOf, readerAt, opened, sought, rowed, badState, OpenCall, SeekCall, RowCall, openTests, seekTests, rowTests}
+use Rattle.guided.proofs.Acceptance.{state-tests, open-handed, seek-handed, row-handed}
+use Rattle.guided.proofs.LeftStates.{opened-passes, sought-passes, rowed-passes, Typed, left-states}
+
+-- s is what an accepted open leaves, or an accepted seek or row in a state that was left
+pub data Left : Reader → Type 0 where
+  by-open : {s : Reader} (o : OpenCall) → first (openTests o) ≡ Accepted → s ≡ opened (o .layout) → Left s
+  by-seek : {s : Reader} (k : SeekCall) → Left (k .reader) → first (seekTests k) ≡ Accepted → s ≡ sought (k .reader) (k .y) → Left s
+  by-row : {s : Reader} (c : RowCall) → Left (c .reader) → first (rowTests c) ≡ Accepted → s ≡ rowed (c .reader) (c .y) → Left s
+
+-- what is left passes
+pub left-passes : (s : Reader) → Left s → badState s ≡ false
+unfolding layoutOf
+left-passes s (by-open o a e) = rw e (opened-passes (o .layout) (open-handed o (accepted-failed (openTests o) a) .layout))
+left-passes s (by-seek k l a e) = let h = seek-handed k (accepted-failed (seekTests k) a) in rw e (sought-passes (k .reader) (k .y) (h .state) (h .inside))
+left-passes s (by-row c l a e) = let h = row-handed c (accepted-failed (rowTests c) a) in rw e (rowed-passes (c .reader) (c .y) (h .state) (h .inside))
+
+-- ---- what passes is left: planes, scratch and outputs that are long enough for a layout
+
+abbrev blank : Layout → ℕ → ℕ → Plane
+blank l w h = record { bytes = replicate ((h - 1) * (w * l .«sample_bytes») + w * l .«sample_bytes») 0; stride = w * l .«sample_bytes» }
+
+abbrev blanks : Layout → Planes
+blanks l = record { y = blank l (l .w) (l .h); cb = blank l (l .cw) (l .ch); cr = blank l (l .cw) (l .ch) }
+
+blank-long : (l : Layout) (w h : ℕ) → shortPlane l w h (blank l w h) ≡ false
+unfolding shortPlane badPlane
+blank-long l w h =
+    let r = w * l .«sample_bytes» in
+    rw (le-ltb r r (le-refl r), length-replicate {A = ℕ} ((h - 1) * r + r) 0, le-ltb ((h - 1) * r + r) ((h - 1) * r + r) (le-refl _)) refl
+
+blanks-long : (l : Layout) → badPlanes l (blanks l) ≡ false
+unfolding badPlanes
+blanks-long l = rw (blank-long l (l .w) (l .h), blank-long l (l .cw) (l .ch)) refl
+
+abbrev openOf : Layout → Reader → OpenCall
+openOf l s = record { layout = l; planes = blanks l; scratch = replicate (scratchNeed l) nan; reader = s }
+
+abbrev rowOf : Layout → ℕ → RowCall
+rowOf l y = record { y = y; planes = blanks l; reader = opened l; scratch = replicate (scratchNeed l) nan; outCb = replicate (l .w) nan; outCr = replicate (l .w) nan }
+
+module _ (l : Layout) (a : accepted (first (layoutTests false l)) ≡ true) where
+  opened-state : badState (opened l) ≡ false
+  opened-state = opened-passes l (accepted-failed (layoutTests false l) (accepted-is (first (layoutTests false l)) a))
+
+  scratch-long : ltb (length (replicate (scratchNeed l) nan)) (scratchNeed l) ≡ false
+  scratch-long = rw length-replicate (le-ltb (scratchNeed l) (scratchNeed l) (le-refl (scratchNeed l)))
+
+  out-long : ltb (length (replicate (l .w) nan)) (l .w) ≡ false
+  out-long = rw length-replicate (le-ltb (l .w) (l .w) (le-refl (l .w)))
+
+  open-accepted : (s : Reader) → first (openTests (openOf l s)) ≡ Accepted
+  unfolding openTests
+  open-accepted s = passed-early (layoutTests false l) _ a ∙ failed-accepted _ (blanks-long l, (scratch-long, tt))
+
+  opened-left : (s : Reader) → Left (opened l)
+  opened-left s = by-open (openOf l s) (open-accepted s) refl
+
+  module _ (y : ℕ) (Y : y < l .h) where
+    seek-accepted : first (seekTests (record { y = y; reader = opened l })) ≡ Accepted
+    unfolding seekTests opened readerAt geometryOf
+    seek-accepted = failed-accepted (seekTests (record { y = y; reader = opened l })) (opened-state, (lt-leb (l .h) y Y, tt))
+
+    row-accepted : first (rowTests (rowOf l y)) ≡ Accepted
+    unfolding rowTests opened readerAt geometryOf layoutOf
+    row-accepted = failed-accepted (rowTests (rowOf l y)) (opened-state, (blanks-long l, (scratch-long, (rw out-long refl, (lt-leb (l .h) y Y, (le-ltb y 0 zero-le, tt))))))
+
+-- what passes is left
+pub passes-left : (s : Reader) → Typed s → badState s ≡ false → Left s
+unfolding layoutOf
+passes-left s t e =
+    let l = layoutOf s in
+    let p = state-tests s e in
+    elim (left-states s t e) [
+      | inl q ↦ by-seek (record { y = s .place; reader = opened l }) (opened-left l (p .0) s) (seek-accepted l (p .0) (s .place) (p .2)) q
+      | inr q ↦ by-row (rowOf l (s .place)) (opened-left l (p .0) s) (row-accepted l (p .0) (s .place) (p .2)) q
+    ]

@@ -1,0 +1,99 @@
+-- A guided sample turns on nothing more than two cells from its own.
+use mathlib.Core.Path.{_≡_, refl, sym, ap, ap₂, _∙_}
+use Prim.Native.Nat.{ℕ, zero, suc, _+_, _-_, _*_, _/_, _<_, min}
+use native.Mathlib.Nat.{mul-add-div-right, div-eq-of-lt, add-zero}
+use native.Mathlib.Omega.{arith}
+use lib.Ieee.{Float}
+use Rattle.laws.specs.Floats.{f32, _⊕_, _⊗_}
+use Rattle.image.specs.Tests.{Sound}
+use Rattle.image.specs.Picture.{Chroma, Picture}
+use Rattle.fround.specs.Rounding.{fmin, fmax}
+use Rattle.guided.specs.Guided.{sumTo, three, Across, Luma, LumaSum, SquareSum, Cell, CellSum, ProductSum, lumaOf, extremeOf, cellLuma, cellOf, acrossVal, extreme, slope, downTo, guidedSample}
+use Rattle.guided.specs.Events.{Near, AlikeNear}
+use Rattle.guided.proofs.Taken.{taken, own-row, own-column}
+use Rattle.guided.proofs.Congruence.{Beside, three-cong, slope-cong, down-cong, detail-cong, value-cong}
+
+sum-cong : (n : ℕ) (f g : ℕ → ℕ) → ((d : ℕ) → d < n → f d ≡ g d) → sumTo n f ≡ sumTo n g
+unfolding sumTo
+sum-cong zero f g e = refl
+sum-cong (suc n) f g e = ap₂ (λ (u v : ℕ). u + v) (sum-cong n f g (λ d l. e d (omega arith))) (e n (omega arith))
+
+-- a pixel's cell
+own : (r i d : ℕ) → d < r → (i * r + d) / r ≡ i
+own r i d h = mul-add-div-right (omega arith) i d ∙ ap (λ (z : ℕ). i + z) (div-eq-of-lt h) ∙ add-zero i
+
+-- p's layout with other samples
+abbrev like : Picture → (ℕ → ℕ → ℕ) → (Chroma → ℕ → ℕ → ℕ) → Picture
+like p luma chroma = record { layout = p .layout; luma = luma; chroma = chroma }
+
+-- samples that agree with p's no more than two cells from cell (ci, cj)
+module _ (p : Picture) (luma : ℕ → ℕ → ℕ) (chroma : Chroma → ℕ → ℕ → ℕ) (ci cj : ℕ)
+    (eL : (x y : ℕ) → x < p .layout .w → y < p .layout .h → Near (x / p .layout .rh) ci → Near (y / p .layout .rv) cj → p .luma x y ≡ luma x y)
+    (eC : (k : Chroma) (x y : ℕ) → x < p .layout .cw → y < p .layout .ch → Near x ci → Near y cj → p .chroma k x y ≡ chroma k x y) where
+  luma-local : (i j : ℕ) → Near i ci → Near j cj → cellLuma p i j ≡ cellLuma (like p luma chroma) i j
+  unfolding cellLuma lumaOf
+  luma-local i j I J =
+      let l = p .layout in
+      let nx = min (l .rh) (l .w - i * l .rh) in
+      let ny = min (l .rv) (l .h - j * l .rv) in
+      rw (sum-cong ny (λ dy. sumTo nx (λ dx. p .luma (i * l .rh + dx) (j * l .rv + dy))) (λ dy. sumTo nx (λ dx. luma (i * l .rh + dx) (j * l .rv + dy)))
+      (λ dy Y. sum-cong nx (λ dx. p .luma (i * l .rh + dx) (j * l .rv + dy)) (λ dx. luma (i * l .rh + dx) (j * l .rv + dy))
+      (λ dx X. eL (i * l .rh + dx) (j * l .rv + dy) (omega arith) (omega arith) (omega (arith, own (l .rh) i dx (omega arith))) (omega (arith, own (l .rv) j dy (omega arith)))))) refl
+
+  cell-local : (k : Chroma) (i j : ℕ) → i < p .layout .cw → j < p .layout .ch → Near i ci → Near j cj → cellOf p k i j ≡ cellOf (like p luma chroma) k i j
+  unfolding cellOf
+  cell-local k i j X Y I J = ap f32 (eC k i j X Y I J)
+
+  -- what is made across at a cell beside the own column
+  across-local : (q : Across) (j i : ℕ) → j < p .layout .ch → Beside (p .layout .cw) ci i → Near j cj → acrossVal p q j i ≡ acrossVal (like p luma chroma) q j i
+  unfolding acrossVal
+  across-local Luma j i Y b J = luma-local i j (omega arith) J
+  across-local LumaSum j i Y b J = three-cong _⊕_ (p .layout .cw) (λ q. cellLuma p q j) (λ q. cellLuma (like p luma chroma) q j) i (b .2) (λ q c. luma-local q j (omega arith) J)
+  across-local SquareSum j i Y b J =
+      three-cong _⊕_ (p .layout .cw) (λ q. cellLuma p q j ⊗ cellLuma p q j) (λ q. cellLuma (like p luma chroma) q j ⊗ cellLuma (like p luma chroma) q j) i (b .2) (λ q c. ap (λ (z : Float). z ⊗ z) (luma-local q j (omega arith) J))
+  across-local (Cell k) j i Y b J = cell-local k i j (b .2) Y (omega arith) J
+  across-local (CellSum k) j i Y b J = three-cong _⊕_ (p .layout .cw) (λ q. cellOf p k q j) (λ q. cellOf (like p luma chroma) k q j) i (b .2) (λ q c. cell-local k q j (c .2) Y (omega arith) J)
+  across-local (ProductSum k) j i Y b J =
+      three-cong _⊕_ (p .layout .cw) (λ q. cellLuma p q j ⊗ cellOf p k q j) (λ q. cellLuma (like p luma chroma) q j ⊗ cellOf (like p luma chroma) k q j) i (b .2)
+      (λ q c. ap₂ (λ (y z : Float). y ⊗ z) (luma-local q j (omega arith) J) (cell-local k q j (c .2) Y (omega arith) J))
+
+  -- the slope at a cell beside the own cell
+  slope-local : (k : Chroma) (j i : ℕ) → Beside (p .layout .cw) ci i → Beside (p .layout .ch) cj j → slope p k j i ≡ slope (like p luma chroma) k j i
+  unfolding slope
+  slope-local k j i b d =
+      let go : (q : Across) (r : ℕ) → Beside (p .layout .ch) j r → acrossVal p q r i ≡ acrossVal (like p luma chroma) q r i = λ q r c. across-local q r i (c .2) b (omega arith) in
+      slope-cong (p .layout) (acrossVal p) (acrossVal (like p luma chroma)) k j i (d .2) (go LumaSum) (go SquareSum) (go (CellSum k)) (go (ProductSum k))
+
+  -- the least or the greatest round the own cell
+  extreme-local : (op : Float → Float → Float) (k : Chroma) → ci < p .layout .cw → cj < p .layout .ch → extreme p op k cj ci ≡ extreme (like p luma chroma) op k cj ci
+  unfolding extreme extremeOf
+  extreme-local op k X Y =
+      let l = p .layout in
+      three-cong op (l .ch) (λ r. three op (l .cw) (λ q. f32 (p .chroma k q r)) ci) (λ r. three op (l .cw) (λ q. f32 (chroma k q r)) ci) cj Y
+      (λ r c. three-cong op (l .cw) (λ q. f32 (p .chroma k q r)) (λ q. f32 (chroma k q r)) ci X (λ q d. ap f32 (eC k q r (d .2) (c .2) (omega arith) (omega arith))))
+
+  sample-local : Sound (p .layout) → (k : Chroma) (y x : ℕ) → x < p .layout .w → y < p .layout .h → x / p .layout .rh ≡ ci → y / p .layout .rv ≡ cj → guidedSample p k y x ≡ guidedSample (like p luma chroma) k y x
+  unfolding guidedSample
+  sample-local s k y x X Y ex ey =
+      let l = p .layout in
+      let cx = own-column l s x X in
+      let cy = own-row l s y Y in
+      let t = taken l s y Y in
+      let m = like p luma chroma in
+      value-cong l s x X _ _ _ _ _ _ _ _ _ _
+      (λ i b. down-cong l s y Y (acrossVal p (Cell k)) (acrossVal m (Cell k)) i (λ j u v. across-local (Cell k) j i (omega (arith, t .inside)) (omega arith) (omega (arith, t .near, t .above, t .below))))
+      (λ i b. down-cong l s y Y (slope p k) (slope m k) i (λ j u v. slope-local k j i (omega arith) (omega (arith, t .near, t .above, t .below, t .inside))))
+      (rw (ex, ey) (extreme-local fmin k (omega arith) (omega arith)))
+      (rw (ex, ey) (extreme-local fmax k (omega arith) (omega arith)))
+      (detail-cong l s x X (downTo l (acrossVal p Luma) y) (downTo l (acrossVal m Luma) y) (f32 (p .luma x y)) (f32 (luma x y))
+      (λ i b. down-cong l s y Y (acrossVal p Luma) (acrossVal m Luma) i (λ j u v. across-local Luma j i (omega (arith, t .inside)) (omega arith) (omega (arith, t .near, t .above, t .below))))
+      (ap f32 (eL x y X Y (omega arith) (omega arith))))
+
+alike-is : (p q : Picture) (i j : ℕ) → AlikeNear p q i j → q ≡ like p (q .luma) (q .chroma)
+alike-is p q i j e = λ t. record { layout = sym (e .layout) t; luma = q .luma; chroma = q .chroma }
+
+-- pictures alike but for what is more than two cells away have the same sample there
+pub guided-local : (p q : Picture) (k : Chroma) (y x : ℕ) → Sound (p .layout) → x < p .layout .w → y < p .layout .h → AlikeNear p q (x / p .layout .rh) (y / p .layout .rv) → guidedSample p k y x ≡ guidedSample q k y x
+guided-local p q k y x s X Y e =
+    sample-local p (q .luma) (q .chroma) (x / p .layout .rh) (y / p .layout .rv) (e .luma) (e .chroma) s k y x X Y refl refl
+    ∙ ap (λ (z : Picture). guidedSample z k y x) (sym (alike-is p q (x / p .layout .rh) (y / p .layout .rv) e))

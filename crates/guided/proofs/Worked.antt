@@ -1,0 +1,221 @@
+-- A list that meets the premise, with refused calls among accepted ones and a second picture over the first one's scratch.
+use mathlib.Core.Path.{_≡_, refl, _∙_}
+use mathlib.Core.Bool.{Bool, true, false, cond, _&&_}
+use mathlib.Core.List.{List, [], _∷_}
+use Prim.Native.Nat.{ℕ, zero, suc, _<_}
+use lib.Dec.{T, ltb, ltb→lt, lit<}
+use lib.ListN.{length, getD, replicate}
+use lib.Ieee.{nan, add, sub, sum, neg, mul, div, round, size, span, climb, units, odd, lt, ofInt}
+use lib.Count.{trailingZeros}
+use Rattle.laws.specs.declared.Answer.the-variants.{Accepted, Refused}
+use Rattle.laws.specs.Floats.{f32}
+use Rattle.laws.specs.Lists.{table}
+use Rattle.laws.specs.Refusals.{first, accepted}
+use Rattle.laws.proofs.Refusals.{Failed, failed-accepted}
+use Rattle.image.specs.declared.layout.Layout.{Layout}
+use Rattle.image.specs.Tests.{badSize, badRatio, badSamples, divCeil, badChroma, layoutTests, badPlane}
+use Rattle.image.specs.Samples.{sampleOf, sampleAt}
+use Rattle.image.specs.Picture.{Cb, Cr, Planes, inside, pictureOf, shortPlane, badPlanes}
+use Rattle.taps.specs.Taps.{spotAt, spotOf, tapOf, phaseOf}
+use Rattle.image.specs.Scratch.{scratchNeed}
+use Rattle.guided.specs.declared.state.Reader.{Reader}
+use Rattle.guided.specs.Guided.{sumTo, three, lumaOf, extremeOf, cellLuma, cellOf, acrossVal, extreme, epsilon, mean, slopeOf, downTo, acrossTo, detailOf, valueOf, slope, guidedSample, guidedRow}
+use Rattle.guided.specs.Calls.{geometryOf, layoutOf, readerAt, opened, sought, rowed, badState, OpenCall, SeekCall, RowCall, openTests, seekTests, rowTests, rowScratch, rowOut, Bytes}
+use Rattle.guided.specs.Events.{RowEvent, Event, Opened, Sought, Rowed, Ran, AllRan, done, Start, pictureBy, moved, next, Handed, Premise, Gives, here, later, given}
+use Rattle.guided.proofs.FinishedRows.{length-row}
+use Rattle.guided.proofs.LeftStates.{opened-passes, sought-passes, rowed-passes}
+use Rattle.guided.proofs.Runs.{shows-own}
+use Rattle.guided.proofs.Demand.{demand-3}
+
+-- ---- what the code gives, by its contracts
+
+abbrev openEvent : OpenCall → Event
+openEvent o = Opened o (record { answer = first (openTests o); reader = cond (accepted (first (openTests o))) (opened (o .layout)) (o .reader) })
+
+abbrev seekEvent : SeekCall → Event
+seekEvent k = Sought k (record { answer = first (seekTests k); reader = cond (accepted (first (seekTests k))) (sought (k .reader) (k .y)) (k .reader) })
+
+abbrev rowEvent : RowCall → RowEvent
+rowEvent c =
+    let t = accepted (first (rowTests c)) in
+    record {
+      call = c;
+      reply = record { answer = first (rowTests c); reader = cond t (rowed (c .reader) (c .y)) (c .reader) };
+      scratch = cond t (rowScratch c) (c .scratch);
+      outCb = cond t (rowOut c Cb (c .outCb)) (c .outCb);
+      outCr = cond t (rowOut c Cr (c .outCr)) (c .outCr);
+    }
+
+-- ---- the calls
+
+abbrev junk : Reader
+junk = record { geometry = record { w = 9; h = 9; rh = 0; rv = 7; cw = 1; ch = 1; phases = [] }; «sample_bytes» = 3; maxval = 0; place = 7; «h_next» = 7; «f_next» = 7 }
+
+-- 2 by 2, both ratios 2, at a stride of 3
+abbrev layoutA : Layout
+layoutA = record { w = 2; h = 2; rh = 2; rv = 2; cw = 1; ch = 1; «sample_bytes» = 1; maxval = 255 }
+
+abbrev planesA : Planes
+planesA = record { y = record { bytes = 10 ∷ 20 ∷ 99 ∷ 30 ∷ 40 ∷ []; stride = 3 }; cb = record { bytes = 100 ∷ []; stride = 1 }; cr = record { bytes = 200 ∷ 77 ∷ []; stride = 9 } }
+
+-- 1 by 1
+abbrev layoutB : Layout
+layoutB = record { w = 1; h = 1; rh = 1; rv = 1; cw = 1; ch = 1; «sample_bytes» = 1; maxval = 255 }
+
+abbrev planesB : Planes
+planesB = record { y = record { bytes = 230 ∷ []; stride = 1 }; cb = record { bytes = 3 ∷ []; stride = 1 }; cr = record { bytes = 128 ∷ []; stride = 1 } }
+
+abbrev openA : OpenCall
+openA = record { layout = layoutA; planes = planesA; scratch = replicate 80 nan; reader = junk }
+
+-- refused as 2, over any state and scratch
+abbrev badOpen : OpenCall
+badOpen = record { layout = record { w = 0; h = 2; rh = 2; rv = 2; cw = 1; ch = 1; «sample_bytes» = 1; maxval = 255 }; planes = planesB; scratch = []; reader = junk }
+
+-- refused as 1
+abbrev badRow : RowCall
+badRow = record { y = 0; planes = planesB; reader = junk; scratch = []; outCb = []; outCr = [] }
+
+abbrev row0 : RowCall
+row0 = record { y = 0; planes = planesA; reader = opened layoutA; scratch = replicate 80 nan; outCb = nan ∷ nan ∷ nan ∷ []; outCr = nan ∷ nan ∷ [] }
+
+abbrev seek1 : SeekCall
+seek1 = record { y = 1; reader = rowed (opened layoutA) 0 }
+
+abbrev row1 : RowCall
+row1 = record { y = 1; planes = planesA; reader = sought (rowed (opened layoutA) 0) 1; scratch = rowScratch row0; outCb = nan ∷ nan ∷ []; outCr = nan ∷ nan ∷ [] }
+
+abbrev openB : OpenCall
+openB = record { layout = layoutB; planes = planesB; scratch = rowScratch row1; reader = rowed (sought (rowed (opened layoutA) 0) 1) 1 }
+
+abbrev row2 : RowCall
+row2 = record { y = 0; planes = planesB; reader = opened layoutB; scratch = rowScratch row1; outCb = nan ∷ []; outCr = nan ∷ [] }
+
+abbrev events : List Event
+events = openEvent openA ∷ Rowed (rowEvent badRow) ∷ openEvent badOpen ∷ Rowed (rowEvent row0) ∷ seekEvent seek1 ∷ Rowed (rowEvent row1) ∷ openEvent openB ∷ Rowed (rowEvent row2) ∷ []
+
+-- ---- their answers
+
+length-scratch : (c : RowCall) → length (rowScratch c) ≡ length (c .scratch)
+unfolding rowScratch
+length-scratch c = length-row _ _ _ _ _ _ (c .scratch)
+
+openA-answer : first (openTests openA) ≡ Accepted
+unfolding openTests first layoutTests badSize badRatio badSamples divCeil badChroma badPlane shortPlane badPlanes scratchNeed
+openA-answer = refl
+
+badOpen-answer : first (openTests badOpen) ≡ Refused 2
+unfolding openTests first layoutTests badSize
+badOpen-answer = refl
+
+badRow-answer : first (rowTests badRow) ≡ Refused 1
+unfolding rowTests first badState layoutOf layoutTests badSize badRatio badSamples
+badRow-answer = refl
+
+layoutA-sound : Failed (layoutTests false layoutA)
+unfolding layoutTests badSize badRatio badSamples divCeil badChroma
+layoutA-sound = (refl, (refl, (refl, (refl, tt))))
+
+layoutB-sound : Failed (layoutTests false layoutB)
+unfolding layoutTests badSize badRatio badSamples divCeil badChroma
+layoutB-sound = (refl, (refl, (refl, (refl, tt))))
+
+state0 : badState (opened layoutA) ≡ false
+state0 = opened-passes layoutA layoutA-sound
+
+state1 : badState (rowed (opened layoutA) 0) ≡ false
+unfolding opened readerAt geometryOf
+state1 = rowed-passes (opened layoutA) 0 state0 (lit< tt)
+
+state2 : badState (sought (rowed (opened layoutA) 0) 1) ≡ false
+unfolding opened rowed readerAt geometryOf
+state2 = sought-passes (rowed (opened layoutA) 0) 1 state1 (lit< tt)
+
+scratch0 : length (rowScratch row0) ≡ 80
+scratch0 = length-scratch row0
+
+scratch1 : length (rowScratch row1) ≡ 80
+scratch1 = length-scratch row1 ∙ scratch0
+
+row0-answer : first (rowTests row0) ≡ Accepted
+unfolding rowTests opened readerAt geometryOf layoutOf badPlane shortPlane badPlanes scratchNeed
+row0-answer = failed-accepted (rowTests row0) (state0, (refl, (refl, (refl, (refl, (refl, tt))))))
+
+seek1-answer : first (seekTests seek1) ≡ Accepted
+unfolding seekTests opened rowed readerAt geometryOf
+seek1-answer = failed-accepted (seekTests seek1) (state1, (refl, tt))
+
+row1-answer : first (rowTests row1) ≡ Accepted
+unfolding rowTests opened rowed sought readerAt geometryOf layoutOf badPlane shortPlane badPlanes scratchNeed
+row1-answer = failed-accepted (rowTests row1) (state2, (refl, (rw scratch0 refl, (refl, (refl, (refl, tt))))))
+
+openB-answer : first (openTests openB) ≡ Accepted
+unfolding openTests layoutTests badSize badRatio badSamples divCeil badChroma badPlane shortPlane badPlanes scratchNeed
+openB-answer = failed-accepted (openTests openB) (refl, (refl, (refl, (refl, (refl, (rw scratch1 refl, tt))))))
+
+row2-answer : first (rowTests row2) ≡ Accepted
+unfolding rowTests opened readerAt geometryOf layoutOf badPlane shortPlane badPlanes scratchNeed
+row2-answer = failed-accepted (rowTests row2) (opened-passes layoutB layoutB-sound, (refl, (rw scratch1 refl, (refl, (refl, (refl, tt))))))
+
+-- ---- the list meets the premise
+
+abbrev allBytes : List ℕ → Bool
+allBytes [] = true
+allBytes (x ∷ l) = ltb x 256 && allBytes l
+
+bytes-are : (l : List ℕ) → T (allBytes l) → (i : ℕ) → getD l i 0 < 256
+bytes-are [] t i = lit< tt
+bytes-are (x ∷ l) t i = go (ltb x 256) (ltb→lt x 256) (bytes-are l) t i
+  where
+    go : (b : Bool) → (T b → x < 256) → (T (allBytes l) → (i : ℕ) → getD l i 0 < 256) → T (b && allBytes l) → (i : ℕ) → getD (x ∷ l) i 0 < 256
+    go true f g t zero = f tt
+    go true f g t (suc i) = g t i
+    go false f g t i = absurd t
+
+bytesA : Bytes openA
+unfolding Bytes
+bytesA Cb = bytes-are (100 ∷ []) tt
+bytesA Cr = bytes-are (200 ∷ 77 ∷ []) tt
+
+bytesB : (o : OpenCall) → o .planes ≡ planesB → Bytes o
+unfolding Bytes
+bytesB o e Cb = rw e (bytes-are (3 ∷ []) tt)
+bytesB o e Cr = rw e (bytes-are (128 ∷ []) tt)
+
+open-ran : (o : OpenCall) → Bytes o → Ran (openEvent o)
+unfolding Ran
+open-ran o b = record { answers = refl; leaves = refl; bytes = b }
+
+seek-ran : (k : SeekCall) → Ran (seekEvent k)
+unfolding Ran
+seek-ran k = record { answers = refl; leaves = refl }
+
+row-ran : (c : RowCall) → Ran (Rowed (rowEvent c))
+unfolding Ran
+row-ran c = record { answers = refl; leaves = refl; scratches = refl; cbs = refl; crs = refl }
+
+all-ran : AllRan events
+unfolding AllRan
+all-ran = (open-ran openA bytesA, (row-ran badRow, (open-ran badOpen (bytesB badOpen refl), (row-ran row0, (seek-ran seek1, (row-ran row1, (open-ran openB (bytesB openB refl), (row-ran row2, tt))))))))
+
+premise : Premise Start events
+unfolding Premise next moved Handed done
+premise =
+    rw (openA-answer, badRow-answer, badOpen-answer, row0-answer, seek1-answer, row1-answer, openB-answer, row2-answer)
+    ((λ _. tt), ((λ t. absurd t), ((λ t. absurd t), ((λ _. (shows-own openA, refl, refl)), ((λ _. refl), ((λ _. (shows-own openA, refl, refl)), ((λ _. tt), ((λ _. (shows-own openB, refl, refl)), tt))))))))
+
+gives : Gives openB (rowEvent row2) Start events
+unfolding next moved done
+gives =
+    rw (openA-answer, badRow-answer, badOpen-answer, row0-answer, seek1-answer, row1-answer, openB-answer, row2-answer)
+    (later (later (later (later (later (later (later (here tt refl))))))))
+
+-- ---- and the row given is the second picture's, by its numbers
+
+computed : guidedRow (pictureBy openB) Cb 0 ≡ f32 3 ∷ []
+unfolding guidedRow table guidedSample valueOf detailOf acrossTo downTo slope slopeOf mean epsilon extreme extremeOf acrossVal cellOf cellLuma lumaOf three sumTo phaseOf tapOf spotOf spotAt pictureOf inside sampleAt sampleOf add sub mul div sum neg round size span climb units odd lt ofInt trailingZeros
+computed = refl
+
+-- the row that the list gives
+pub worked : given openB (rowEvent row2) Cb ≡ f32 3 ∷ []
+worked = demand-3 .guided openB (rowEvent row2) events (record { ran = all-ran; premise = premise; gives = gives }) Cb ∙ computed

@@ -1,2 +1,0 @@
--- Rows by their bits.
-pub mod Vectors

@@ -1,0 +1,6 @@
+-- Laws that the proofs and other crates cite.
+pub mod Areas
+pub mod ByteBlocks
+pub mod ReadBack
+pub mod SumsTo
+pub mod Threes

@@ -1,0 +1,62 @@
+use Rattle.guided_across.proofs.ReadBack.{horizontal-one, horizontal-both}
+use Rattle.guided_across.specs.Parts.{chromaPart}
+use Rattle.guided_window.specs.Lent.{components}
+use Rattle.guided.specs.Scratch.{horizontal}
+use Rattle.image.specs.Picture.{Cb, Cr, Planes, pictureOf}
+use Rattle.image.specs.Samples.{sampleAt}
+use mathlib.Core.Bool.{Bool}
+use mathlib.Core.Path.{sym, ap, _∙_}
+use borrow.Author.Tests.{not-true, not-false}
+use native.Mathlib.Omega.{arith}
+use borrow.Author.Needs.{needs}
+use Rattle.guided_across.proofs.across.horizontal.Statement.{statement}
+use Rattle.guided_across.proofs.across.horizontal.Tie as tie
+
+abbrev planes : tie.Start → Planes
+planes c = record { y = record { bytes = c .args .y .now; stride = c .args .y-stride }; cb = record { bytes = c .args .cb .now; stride = c .args .cb-stride }; cr = record { bytes = c .args .cr .now; stride = c .args .cr-stride } }
+
+luma-part-requires : tie.Need-luma-part-requires
+luma-part-requires c κs = let o = c .before .before .before .before .before .pre .0 in (record { sound = o .sound; plane = o .luma }, omega arith)
+
+chroma-part-requires : tie.Need-chroma-part-requires
+chroma-part-requires c κs = let o = c .before .before .before .before .before .before .before .before .before .pre .0 in (record { sound = o .sound; plane = o .cb }, omega arith)
+
+same-length : tie.Need-same-length
+same-length c = search needs
+
+returns : tie.Need-returns
+returns c =
+    let a = c .before .before .before .before .before .before .before .before .before .before .before .before .before .args in
+    let l = a .layout in
+    let ps = planes (c .before .before .before .before .before .before .before .before .before .before .before .before .before) in
+    c .before .before .before .chroma-part .ensures ∙ ap (chromaPart l (sampleAt (l .«sample_bytes») (ps .cb)) Cb (a .j)) (c .before .before .before .before .before .before .before .luma-part .ensures)
+    ∙ horizontal-one l ps (a .j) (a .s .now) (omega arith) (omega arith)
+    ∙ ap (λ (b : Bool). horizontal (pictureOf l ps) (components b) (a .j) (a .s .now)) (sym (not-true (a .both) (c .if1 .taken)))
+
+chroma-part-requires-2 : tie.Need-chroma-part-requires-2
+chroma-part-requires-2 c κs = let o = c .before .before .before .before .before .before .before .before .before .before .before .before .before .before .pre .0 in (record { sound = o .sound; plane = o .cr (not-false _ (c .before .if1 .left)) }, omega arith)
+
+same-length-2 : tie.Need-same-length-2
+same-length-2 c = search needs
+
+returns-2 : tie.Need-returns-2
+returns-2 c =
+    let a = c .before .before .before .before .before .before .before .before .before .before .before .before .before .before .before .before .before .args in
+    let l = a .layout in
+    let ps = planes (c .before .before .before .before .before .before .before .before .before .before .before .before .before .before .before .before .before) in
+    c .before .before .chroma-part2 .ensures
+    ∙ ap (chromaPart l (sampleAt (l .«sample_bytes») (ps .cr)) Cr (a .j)) (c .before .before .before .before .before .before .before .chroma-part .ensures ∙ ap (chromaPart l (sampleAt (l .«sample_bytes») (ps .cb)) Cb (a .j)) (c .before .before .before .before .before .before .before .before .before .before .before .luma-part .ensures))
+    ∙ horizontal-both l ps (a .j) (a .s .now) (omega arith) (omega arith)
+    ∙ ap (λ (b : Bool). horizontal (pictureOf l ps) (components b) (a .j) (a .s .now)) (sym (not-false (a .both) (c .before .before .before .before .if1 .left)))
+
+pub horizontal-spec : {M : Type 1} → statement M
+horizontal-spec =
+    tie.close
+    (tie.spec
+    luma-part-requires
+    chroma-part-requires
+    same-length
+    returns
+    chroma-part-requires-2
+    same-length-2
+    returns-2)

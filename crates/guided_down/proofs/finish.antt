@@ -1,2 +1,0 @@
--- Laws of a chroma row's steps down.
-pub mod DownSteps

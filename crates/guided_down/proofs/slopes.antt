@@ -1,3 +1,0 @@
--- Laws that the proofs and callers cite.
-pub mod Buffers
-pub mod Statistics

@@ -1,0 +1,46 @@
+use Rattle.guided_pixels.proofs.DownLerps.{column-is, column-ready}
+use mathlib.Core.Path.{_∙_}
+use native.Mathlib.Omega.{arith}
+use borrow.Author.Needs.{needs}
+use Rattle.guided_pixels.proofs.columns.down_column.Statement.{statement}
+use Rattle.guided_pixels.proofs.columns.down_column.Tie as tie
+
+tap-at-requires : tie.Need-tap-at-requires
+tap-at-requires c κs = search needs
+
+slot-at-requires : tie.Need-slot-at-requires
+slot-at-requires c κs = search needs
+
+slot-at-requires-2 : tie.Need-slot-at-requires-2
+slot-at-requires-2 c κs = search needs
+
+column-at-requires : tie.Need-column-at-requires
+column-at-requires c κs = search needs
+
+lerp-row-requires : tie.Need-lerp-row-requires
+lerp-row-requires c κs =
+    let t = c .before .before .before .before .tap-at .result in
+    let a = c .before .before .before .before .before .before .args in
+    column-ready (a .layout) (a .n) (a .m) (t .i0) (t .i1) _ _ _ _ (omega arith) (c .before .column-at .ensures) (c .before .before .before .slot-at .ensures .is) (c .before .before .slot-at2 .ensures .is) (omega arith)
+
+same-length : tie.Need-same-length
+same-length c = search needs
+
+returns : tie.Need-returns
+returns c =
+    let a = c .before .before .before .before .before .before .before .before .before .args in
+    let t = c .before .before .before .before .before .before .before .tap-at in
+    c .before .before .lerp-row .ensures
+    ∙ column-is (a .layout) (a .n) (a .m) (a .y) (t .result) _ _ _ (a .s .now) (t .ensures .is) (c .before .before .before .before .before .before .slot-at .ensures .is) (c .before .before .before .before .before .slot-at2 .ensures .is) (c .before .before .before .before .column-at .ensures .is)
+
+pub down-column-spec : {M : Type 1} → statement M
+down-column-spec =
+    tie.close
+    (tie.spec
+    tap-at-requires
+    slot-at-requires
+    slot-at-requires-2
+    column-at-requires
+    lerp-row-requires
+    same-length
+    returns)

@@ -1,2 +1,0 @@
--- Laws of a picture row's steps.
-pub mod RowSteps

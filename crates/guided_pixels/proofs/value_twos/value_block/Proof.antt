@@ -1,0 +1,83 @@
+use mathlib.Core.Path.{refl}
+use Prim.Native.Nat.{_+_, _-_, _*_, _≤_}
+use lib.Ieee.{nan}
+use native.Mathlib.Omega.{arith}
+use Rattle.guided_pixels.proofs.value_twos.value_block.Statement.{statement}
+use Rattle.laws.proofs.Lists.{Run, run-at, run-none, run-two, front-at}
+use Rattle.guided_pixels.proofs.Twos.{pair-turn}
+use Rattle.guided_pixels.proofs.ValuePairs.{value-pair-at}
+use Rattle.guided_pixels.specs.Values.{valueAt}
+use Rattle.guided_pixels.proofs.value_twos.value_block.Tie as tie
+
+abbrev Inv-loop : tie.InvT-loop
+Inv-loop layout s t i block₀ b₀ block b = (b ≤ 8) × Run block₀ block 0 (2 * b) (λ k. valueAt layout s t (2 + 2 * i + k))
+
+abbrev μ-loop : tie.MeasureT-loop
+μ-loop layout s t i block₀ b₀ block b = 8 - b
+
+loop-holds : tie.Need-loop-holds Inv-loop μ-loop
+loop-holds c = (omega arith, run-none _ _ _)
+
+add-value-pair : tie.Need-add-value-pair Inv-loop μ-loop
+add-value-pair c = omega arith
+
+value-pair-requires : tie.Need-value-pair-requires Inv-loop μ-loop
+value-pair-requires c κs = let s = c .before .before .before in ((s .pre .0 .0, omega arith, omega arith), s .pre .1)
+
+mul-block : tie.Need-mul-block Inv-loop μ-loop
+mul-block c = omega arith
+
+mul-block-2 : tie.Need-mul-block-2 Inv-loop μ-loop
+mul-block-2 c = omega arith
+
+array-write-block : tie.Need-array-write-block Inv-loop μ-loop
+array-write-block c = omega arith
+
+mul-block-3 : tie.Need-mul-block-3 Inv-loop μ-loop
+mul-block-3 c = omega arith
+
+add-block : tie.Need-add-block Inv-loop μ-loop
+add-block c = omega arith
+
+mul-block-4 : tie.Need-mul-block-4 Inv-loop μ-loop
+mul-block-4 c = omega arith
+
+array-write-block-2 : tie.Need-array-write-block-2 Inv-loop μ-loop
+array-write-block-2 c = omega arith
+
+add-b : tie.Need-add-b Inv-loop μ-loop
+add-b c = omega arith
+
+loop-less : tie.Need-loop-less Inv-loop μ-loop
+loop-less c = omega arith
+
+loop-again : tie.Need-loop-again Inv-loop μ-loop
+loop-again c = let a = c .before .before .before .before .args in
+    let l = c .before .before .loop in
+    let p = value-pair-at (a .layout) (a .s .now) (a .t) (a .i + l .b) _ (c .value-pair .ensures) in
+    let t = pair-turn (valueAt (a .layout) (a .s .now) (a .t)) (a .i) (l .b) _ _ (p .0) (p .1) in
+    (omega arith, run-two (l .inv .1) _ _ (2 * (l .b + 1)) _ _ refl (omega arith) (omega arith) (t .0) (t .1))
+
+returns : tie.Need-returns Inv-loop μ-loop
+returns c = λ k h. front-at (run-at (c .before .loop .inv .1) 16 (omega arith)) k nan h (omega arith)
+
+pub value-block-spec : {M : Type 1} → statement M
+value-block-spec =
+    tie.close
+    (tie.spec
+    Inv-loop
+    μ-loop
+    loop-holds
+    add-value-pair
+    value-pair-requires
+    mul-block
+    mul-block-2
+    array-write-block
+    mul-block-3
+    add-block
+    mul-block-4
+    array-write-block-2
+    add-b
+    loop-less
+    loop-again
+    returns)

@@ -1,0 +1,56 @@
+// Where a component's rows of cells and its finished row lie in scratch, and how a value is kept between two of them.
+ghost use mathlib.Core.Path.{_≡_};
+ghost use Prim.Native.Nat.{_≤_};
+ghost use Rattle.image.specs.Tests.{Sound};
+ghost use Rattle.fround.specs.Rounding.{fmin, fmax};
+ghost use Rattle.guided.specs.Scratch.{finishedAt, columnOf};
+ghost use Rattle.guided_window.specs.Lent.{chromaOf};
+ghost use Rattle.guided_pixels.specs.Values.{bandsOf};
+use image::Layout;
+
+// Where a component's two rows of cells of a picture row begin, and its extremes of a chroma row.
+pub struct Bands {
+    pub cells: usize,
+    pub slopes: usize,
+    pub least: usize,
+    pub greatest: usize,
+}
+
+// Inner: the number of a component's first row of cells.
+pub fn column_of(cr: bool) -> usize
+    ensures { λ r. ⌜ (r ≡ columnOf (chromaOf cr)) × (r ≤ 3) ⌝ }
+{
+    if cr { 3 } else { 1 }
+}
+
+// Inner: where a component's finished row begins.
+pub fn finished_at(layout: Layout, cr: bool) -> usize
+    ensures { λ r. ⌜ r ≡ finishedAt layout (chromaOf cr) ⌝ }
+{
+    if cr {
+        return layout.w;
+    }
+    0
+}
+
+// Inner: where they begin, the extremes being those of chroma row j.
+pub fn bands_of(layout: Layout, cr: bool, j: usize) -> Bands
+    requires { ⌜ Sound layout ⌝ }
+    ensures { λ t. ⌜ t ≡ bandsOf layout (chromaOf cr) j ⌝ }
+{
+    let m = column_of(cr);
+    let n = guided_window::first_of(cr);
+    Bands {
+        cells: crate::columns::column_at(layout, m),
+        slopes: crate::columns::column_at(layout, m + 1),
+        least: guided_window::slot_at(layout, n + 4, j),
+        greatest: guided_window::slot_at(layout, n + 5, j),
+    }
+}
+
+// Inner: a value raised to the least and lowered to the greatest.
+pub fn limited(v: f32, least: f32, greatest: f32) -> f32
+    ensures { λ r. ⌜ r ≡ fmin (fmax v least) greatest ⌝ }
+{
+    fround::fmin(fround::fmax(v, least), greatest)
+}

@@ -1,0 +1,40 @@
+// Rows of cells of one picture row: rows of the window lerped down.
+ghost use mathlib.Core.Path.{_≡_};
+ghost use Prim.Native.Nat.{_+_, _≤_, _<_};
+ghost use lib.ListN.{length};
+ghost use Rattle.image.specs.Tests.{Sound};
+ghost use Rattle.image.specs.Scratch.{scratchNeed};
+ghost use Rattle.guided_pixels.specs.Columns.{lerpRun, ColumnGiven, downColumn};
+use image::Layout;
+
+// The n cells at a and at b, lerped by f, to s from dst on.
+fn lerp_row(s: &mut [f32], a: usize, b: usize, f: f32, n: usize, dst: usize)
+    requires { ⌜ (a + n ≤ dst) × (b + n ≤ dst) × (dst + n ≤ length (now s)) ⌝ }
+    ensures { λ _. ⌜ now (s .exit) ≡ lerpRun a b f n dst (now (s .entry)) ⌝ }
+{
+    let mut i = 0;
+    while i < n {
+        s[dst + i] = taps::lerp(s[a + i], s[b + i], f);
+        i += 1;
+    }
+}
+
+// Inner: where row of cells m of a picture row begins.
+pub fn column_at(layout: Layout, m: usize) -> usize
+    requires { ⌜ Sound layout × (m < 5) ⌝ }
+    ensures { λ r. ⌜ ColumnGiven layout m r ⌝ }
+{
+    3 * layout.w + (45 + m) * guided_window::pitch_of(layout.cw)
+}
+
+// Inner: buffer n of the window, lerped down for picture row y into row of cells m.
+pub fn down_column(layout: Layout, n: usize, m: usize, y: usize, s: &mut [f32])
+    requires { ⌜ Sound layout × (n < 15) × (m < 5) × (y < layout .h) × (scratchNeed layout ≤ length (now s)) ⌝ }
+    ensures { λ _. ⌜ now (s .exit) ≡ downColumn layout n m y (now (s .entry)) ⌝ }
+{
+    let t = taps::tap_at(layout.rv, layout.ch, y);
+    let a = guided_window::slot_at(layout, n, t.i0);
+    let b = guided_window::slot_at(layout, n, t.i1);
+    let dst = column_at(layout, m);
+    lerp_row(s, a, b, t.f, layout.cw, dst);
+}

@@ -1,0 +1,131 @@
+// A whole chroma plane, guided by luma: its checks, a row of it, the loop, and the public call.
+ghost use mathlib.Core.Path.{_≡_};
+ghost use mathlib.Core.Bool.{false};
+ghost use mathlib.Core.List.{[], _∷_};
+ghost use Prim.Native.Nat.{_*_, _≤_, _<_};
+ghost use lib.ListN.{length};
+ghost use Rattle.laws.specs.Refusals.{first};
+ghost use Rattle.image.specs.Tests.{Sound};
+ghost use Rattle.image.specs.Picture.{Cb, pictureOf};
+ghost use Rattle.image.specs.Scratch.{scratchNeed};
+ghost use Rattle.linear.specs.Stores.{storeRun};
+ghost use Rattle.guided_window.specs.Lent.{Lent};
+ghost use Rattle.guided_rows.specs.CatchingUp.{guidedStep, guidedRows};
+ghost use Rattle.guided_plane.specs.Plane.{planesWith, shortPair, guidedTests, guidedPlane, GuidedGiven};
+use guided_rows::guided_step;
+use image::Layout;
+use laws::Answer;
+
+// Refusal 7's test for luma and one chroma plane.
+fn bad_pair(layout: Layout, y: &[u8], y_stride: usize, c: &[u8], c_stride: usize) -> bool
+    ensures { λ r. ⌜ r ≡ shortPair layout (record { bytes = now (y .entry); stride = «y_stride» }) (record { bytes = now (c .entry); stride = «c_stride» }) ⌝ }
+{
+    let size = layout.sample_bytes;
+    let bad_y = image::bad_plane(size, layout.w, layout.h, y_stride, y.len());
+    let bad_c = image::bad_plane(size, layout.cw, layout.ch, c_stride, c.len());
+    image::either(bad_y, bad_c)
+}
+
+// The lowest refusal of `guided_plane` that applies; `space` and `room` are the lengths of scratch and output. It writes nothing.
+fn plane_answer(
+    layout: Layout,
+    y: &[u8],
+    y_stride: usize,
+    c: &[u8],
+    c_stride: usize,
+    space: usize,
+    room: usize,
+) -> Answer
+    ensures { λ r. ⌜ r ≡ first (guidedTests layout (record { bytes = now (y .entry); stride = «y_stride» }) (record { bytes = now (c .entry); stride = «c_stride» }) space room) ⌝ }
+{
+    let early = layout.answer(false);
+    if image::refused(early) {
+        return early;
+    }
+    if bad_pair(layout, y, y_stride, c, c_stride) {
+        return Answer::Refused(7);
+    }
+    if space < image::scratch_need(layout) {
+        return Answer::Refused(9);
+    }
+    if room < layout.w * layout.h {
+        return Answer::Refused(10);
+    }
+    Answer::Accepted
+}
+
+// One row: its steps over scratch, then rounded into out.
+fn plane_row(
+    layout: Layout,
+    y: &[u8],
+    y_stride: usize,
+    c: &[u8],
+    c_stride: usize,
+    row: usize,
+    s: &mut [f32],
+    out: &mut [u16],
+)
+    requires { ⌜ Lent layout (planesWith (record { bytes = now y; stride = «y_stride» }) (record { bytes = now c; stride = «c_stride» })) false ⌝ }
+    requires { ⌜ (row < layout .h) × (scratchNeed layout ≤ length (now s)) × (layout .w * layout .h ≤ length (now out)) ⌝ }
+    ensures { λ _. ⌜ now (s .exit) ≡ guidedStep (pictureOf layout (planesWith (record { bytes = now (y .entry); stride = «y_stride» }) (record { bytes = now (c .entry); stride = «c_stride» }))) (Cb ∷ []) 0 row (now (s .entry)) ⌝ }
+    ensures { λ _. ⌜ now (out .exit) ≡ storeRun (guidedStep (pictureOf layout (planesWith (record { bytes = now (y .entry); stride = «y_stride» }) (record { bytes = now (c .entry); stride = «c_stride» }))) (Cb ∷ []) 0 row (now (s .entry))) 0 (layout .w) (layout .maxval) (row * layout .w) (now (out .entry)) ⌝ }
+{
+    guided_step(
+        layout,
+        y,
+        y_stride,
+        c,
+        c_stride,
+        c,
+        c_stride,
+        false,
+        0,
+        row,
+        s,
+    );
+    linear::store_row(s, 0, layout.w, layout.maxval, out, row * layout.w);
+}
+
+// Every row of the plane in turn.
+fn plane_rows(
+    layout: Layout,
+    y: &[u8],
+    y_stride: usize,
+    c: &[u8],
+    c_stride: usize,
+    s: &mut [f32],
+    out: &mut [u16],
+)
+    requires { ⌜ Lent layout (planesWith (record { bytes = now y; stride = «y_stride» }) (record { bytes = now c; stride = «c_stride» })) false ⌝ }
+    requires { ⌜ (scratchNeed layout ≤ length (now s)) × (layout .w * layout .h ≤ length (now out)) ⌝ }
+    ensures { λ _. ⌜ now (out .exit) ≡ guidedPlane (pictureOf layout (planesWith (record { bytes = now (y .entry); stride = «y_stride» }) (record { bytes = now (c .entry); stride = «c_stride» }))) (now (out .entry)) ⌝ }
+    ensures { λ _. ⌜ now (s .exit) ≡ guidedRows (pictureOf layout (planesWith (record { bytes = now (y .entry); stride = «y_stride» }) (record { bytes = now (c .entry); stride = «c_stride» }))) (Cb ∷ []) 0 (layout .h) (now (s .entry)) ⌝ }
+{
+    let h = layout.h;
+    let mut row = 0;
+    while row < h {
+        plane_row(layout, y, y_stride, c, c_stride, row, s, out);
+        row += 1;
+    }
+}
+
+// One whole chroma plane, guided by luma: w by h values, rounded and limited to 0..=maxval, into out. Refusals 2, 3, 4, 5, 7, 9 and 10.
+// Scratch afterwards is `guidedRows` of specs/Plane.
+pub fn guided_plane(
+    layout: Layout,
+    y: &[u8],
+    y_stride: usize,
+    c: &[u8],
+    c_stride: usize,
+    s: &mut [f32],
+    out: &mut [u16],
+) -> Answer
+    ensures { λ r. ⌜ GuidedGiven layout (record { bytes = now (y .entry); stride = «y_stride» }) (record { bytes = now (c .entry); stride = «c_stride» }) (now (s .entry)) (now (out .entry)) r (now (s .exit)) (now (out .exit)) ⌝ }
+{
+    let answer = plane_answer(layout, y, y_stride, c, c_stride, s.len(), out.len());
+    if image::refused(answer) {
+        return answer;
+    }
+    plane_rows(layout, y, y_stride, c, c_stride, s, out);
+    Answer::Accepted
+}

@@ -1,0 +1,5 @@
+-- Laws that the proofs and other crates cite.
+pub mod Layouts
+pub mod Pictures
+pub mod Planes
+pub mod Quotients

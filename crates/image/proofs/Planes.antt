@@ -1,0 +1,72 @@
+-- Laws of refusal 7's test: what the code's divisions say of its products, and where the samples of a plane that passes stand.
+use mathlib.Core.Path.{_≡_, refl, sym}
+use mathlib.Core.Bool.{Bool, true, false}
+use Prim.Native.Nat.{ℕ, _+_, _-_, _*_, _/_, _≤_, _<_}
+use native.Mathlib.Nat.{mul-zero, div-lt-iff-lt-mul, le-div-iff-mul-le}
+use native.Mathlib.Omega.{arith}
+use lib.Dec.{ltb}
+use borrow.Author.Tests.{lt-ltb, le-ltb, ltb-true, ltb-false}
+use Rattle.laws.proofs.Rows.{row-fits, row-begins}
+use Rattle.image.specs.Tests.{badPlane}
+use Rattle.image.proofs.Layouts.{neither}
+use lib.ListN.{length}
+use Rattle.image.specs.declared.layout.Layout.{Layout}
+use Rattle.image.specs.Samples.{Plane, place}
+use Rattle.image.specs.Picture.{shortPlane}
+
+-- tests that follow from each other are equal
+same-test : (a b c d : ℕ) → (a < b → c < d) → (b ≤ a → d ≤ c) → ltb a b ≡ ltb c d
+same-test a b c d f g = go (ltb a b) (ltb-true a b) (ltb-false a b)
+  where
+    go : (t : Bool) → (t ≡ true → a < b) → (t ≡ false → b ≤ a) → t ≡ ltb c d
+    go true y z = sym (lt-ltb c d (f (y refl)))
+    go false y z = sym (le-ltb c d (g (z refl)))
+
+-- n / b < a says that n < a * b
+pub divided : (a b n : ℕ) → 0 < b → ltb (n / b) a ≡ ltb n (a * b)
+divided a b n p = same-test (n / b) a n (a * b) (div-lt-iff-lt-mul p .0) (le-div-iff-mul-le p .0)
+
+-- a product by 0 passes nothing
+pub divided-zero : (a b n : ℕ) → b ≡ 0 → false ≡ ltb n (a * b)
+divided-zero a b n e = sym (le-ltb n (a * b) (rw (e, mul-zero) (omega arith)))
+
+-- ---- the steps of the test: the stride is below the row; the data ends before the first row's end; it ends before the last row's
+
+module _ (bytes w h stride len : ℕ) where
+  pub stride-below : ltb stride (w * bytes) ≡ true → true ≡ badPlane bytes w h stride len
+  unfolding badPlane
+  stride-below e = rw e refl
+
+  pub first-short : ltb stride (w * bytes) ≡ false → len < w * bytes → true ≡ badPlane bytes w h stride len
+  unfolding badPlane
+  first-short e l = rw (e, lt-ltb len ((h - 1) * stride + w * bytes) (omega arith)) refl
+
+  pub last-short : ltb stride (w * bytes) ≡ false → w * bytes ≤ len → ltb (len - w * bytes) ((h - 1) * stride) ≡ badPlane bytes w h stride len
+  unfolding badPlane
+  last-short e l = rw e (same-test (len - w * bytes) ((h - 1) * stride) len ((h - 1) * stride + w * bytes) (λ k. omega arith) (λ k. omega arith))
+
+-- ---- a plane that passes
+
+-- its rows lie apart, and the last one ends within the data
+pub record Holds (bytes w h stride len : ℕ) : Type 0 where
+  pub row : w * bytes ≤ stride
+  pub last : (h - 1) * stride + w * bytes ≤ len
+
+pub holds : (bytes w h stride len : ℕ) → badPlane bytes w h stride len ≡ false → Holds bytes w h stride len
+unfolding badPlane
+holds bytes w h stride len e =
+    let p = neither (ltb stride (w * bytes)) (ltb len ((h - 1) * stride + w * bytes)) e in
+    record { row = ltb-false stride (w * bytes) (p .0); last = ltb-false len ((h - 1) * stride + w * bytes) (p .1) }
+
+-- row y, its padding left out, ends within the data
+pub row-inside : {bytes w h stride len : ℕ} → Holds bytes w h stride len → (y : ℕ) → y < h → y * stride + w * bytes ≤ len
+row-inside {bytes} {w} {h} {stride} o y l = omega (arith, o .last, row-begins y h stride l)
+
+-- and so does the sample in column x of row y
+pub sample-inside : {bytes w h stride len : ℕ} → Holds bytes w h stride len → (x y : ℕ) → x < w → y < h → place bytes stride x y + bytes ≤ len
+sample-inside {bytes} {w} o x y k l = omega (arith, row-inside o y l, row-fits x w bytes k)
+
+-- the same of a plane as a call is lent it
+pub short-holds : (l : Layout) (w h : ℕ) (p : Plane) → shortPlane l w h p ≡ false → Holds (l .«sample_bytes») w h (p .stride) (length (p .bytes))
+unfolding shortPlane
+short-holds l w h p e = holds (l .«sample_bytes») w h (p .stride) (length (p .bytes)) e

@@ -1,0 +1,21 @@
+-- A block's pixels.
+use mathlib.Core.Path.{_≡_, refl}
+use mathlib.Core.List.{List}
+use Prim.Native.Nat.{ℕ, _<_}
+use lib.ListN.{getD}
+use lib.Ieee.{Float, nan}
+use Rattle.kernels.specs.declared.bytes.Rgb.{Rgb}
+use Rattle.kernels.specs.Kernels.{exact255}
+use Rattle.kernel_blocks.specs.Floating.{Centred}
+use Rattle.kernel_blocks.specs.Blocks.{BlockOf}
+use Rattle.kernels.specs.Forms.{colourOf}
+use Rattle.kernel_blocks.specs.Stores.{blockPixel}
+
+module _ {rows : List (List ℕ)} {y : List ℕ} {cb cr : List Float} (o : BlockOf rows y cb cr) (k : ℕ) (h : k < 16) {b r : ℕ} (u : Centred (getD cb k nan) b) (v : Centred (getD cr k nan) r) where
+  -- pixel k of a block is the exact kernel's
+  pub block-pixel : blockPixel rows k ≡ exact255 (getD y k 0) b r
+  block-pixel = rw (o .red k h b r u v, o .green k h b r u v, o .blue k h b r u v) refl
+
+  -- "Both give the same bytes": the block's pixel is what the plain form gives
+  pub block-plain : (p : Rgb) → colourOf p ≡ exact255 (getD y k 0) b r → blockPixel rows k ≡ colourOf p
+  block-plain p e = rw e block-pixel

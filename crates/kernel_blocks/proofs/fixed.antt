@@ -1,2 +1,0 @@
--- The laws of the three bytes.
-mod FixedBytes

@@ -1,3 +1,0 @@
--- Laws of stored pixels, which callers cite.
-pub mod Puts
-pub mod Stored

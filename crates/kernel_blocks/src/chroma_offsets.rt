@@ -1,0 +1,86 @@
+// What chroma adds to luma, at maxval 255, without a division: the block's form of the three offsets, in single precision. Chroma is a float, in 256ths less its centre.
+ghost use mathlib.Core.Path.{_≡_};
+ghost use Prim.Native.Nat.{ℕ, _≤_};
+ghost use Rattle.kernels.specs.Kernels.{centred, greenOffset};
+ghost use Rattle.kernels.specs.Forms.{chromaOffset, Biased};
+ghost use Rattle.kernel_blocks.specs.Floating.{Centred, Chroma, Tint, Tinted, OnGrid, Margin, greenBits, Sure};
+use kernels::Bias;
+
+// Inner: floats far up, which are 256 apart.
+pub struct Grid;
+
+impl Grid {
+    // 1.5 * 2^31. A sum with it is rounded to a multiple of 256: to a whole offset, which its bits count.
+    pub const MIDDLE: f32 = 3_221_225_472.0;
+
+    // The bits of MIDDLE, and so the bias of an offset.
+    pub const BITS: u32 = 1_329_594_368;
+
+    // What green's offset has to be from a half at least, to be sure of.
+    pub const MARGIN: f32 = 0.031_25;
+}
+
+// Inner: the offset of red at Cr, or of blue at Cb, plus the grid's bits.
+//
+// The float product is near enough for every chroma, and `tie` sends blue's halves up.
+pub fn chroma_offset(k: f32, tie: f32, x: f32) -> u32
+    requires { ⌜ Tinted k tie × Chroma x ⌝ }
+    ensures { λ r. ⌜ ((m c : ℕ) → Tint k tie m → Centred x c → OnGrid (chromaOffset m (centred c)) r) ⌝ }
+{
+    f32::to_bits(Grid::MIDDLE + (k * x + tie))
+}
+
+// Green's offset with a margin, plus the grid's bits. Where the margin added and taken away give the same, that is the offset.
+fn green_near(cb: f32, cr: f32, margin: f32) -> u32
+    requires { ⌜ Chroma cb × Chroma cr × Margin margin ⌝ }
+    ensures { λ r. ⌜ (r ≡ greenBits cb cr margin) × (r ≤ 2147483647) ⌝ }
+{
+    f32::to_bits(Grid::MIDDLE - (0.344_136_3 * cb + 0.714_136_3 * cr + margin))
+}
+
+// Inner: 0 where green is sure: where both margins give the same offset.
+pub fn green_doubt(cb: f32, cr: f32) -> u32
+    requires { ⌜ Chroma cb × Chroma cr ⌝ }
+    ensures { λ r. ⌜ (r ≡ 0 → Sure cb cr) ⌝ }
+{
+    green_near(cb, cr, Grid::MARGIN) ^ green_near(cb, cr, -Grid::MARGIN)
+}
+
+// Chroma in 256ths. With 2^23 and the centre added it is a whole number whose bits count from those of 2^23.
+fn in_256ths(x: f32) -> u32
+    requires { ⌜ Chroma x ⌝ }
+    ensures { λ r. ⌜ (r ≤ 65536) × ((c : ℕ) → Centred x c → r ≡ c) ⌝ }
+{
+    f32::to_bits(8_421_376.0 + x) - 1_258_291_200
+}
+
+// The offset of green, plus its bias; chroma in 256ths.
+//
+// What it falls short of 272 by, in 2^41ths: Cb's part for both and the rest of Cr's, near enough for every pair.
+fn green_whole(cb: u32, cr: u32) -> u32
+    requires { ⌜ (cb ≤ 65536) × (cr ≤ 65536) ⌝ }
+    ensures { λ r. do bias ← ⟦Bias::GREEN⟧ .entry; ⌜ Biased (greenOffset (centred cb) (centred cr)) bias r ⌝ }
+{
+    let both = (cb + cr) as u64;
+    let n = 2_956_108_189 * both + 3_178_275_799 * (cr as u64) + 90_403_456_700;
+    272 - (n >> 41) as u32
+}
+
+// Inner: the offset of green, plus the grid's bits, for every chroma.
+pub fn green_offset(cb: f32, cr: f32) -> u32
+    requires { ⌜ Chroma cb × Chroma cr ⌝ }
+    ensures { λ q. ⌜ ((b r : ℕ) → Centred cb b → Centred cr r → OnGrid (greenOffset (centred b) (centred r)) q) ⌝ }
+{
+    green_whole(in_256ths(cb), in_256ths(cr)) + (Grid::BITS - Bias::GREEN)
+}
+
+// Inner: the same, by the near form where there is no doubt. The doubt is a block's, so that one form serves it whole.
+pub fn green_by(cb: f32, cr: f32, doubt: u32) -> u32
+    requires { ⌜ Chroma cb × Chroma cr × (doubt ≡ 0 → Sure cb cr) ⌝ }
+    ensures { λ q. ⌜ ((b r : ℕ) → Centred cb b → Centred cr r → OnGrid (greenOffset (centred b) (centred r)) q) ⌝ }
+{
+    if doubt == 0 {
+        return green_near(cb, cr, Grid::MARGIN);
+    }
+    green_offset(cb, cr)
+}

@@ -1,0 +1,6 @@
+-- Laws that the proofs and other crates cite.
+pub mod AcrossRuns
+pub mod Bound
+pub mod Claims
+pub mod LinearRows
+pub mod Span

@@ -1,0 +1,105 @@
+-- A linear row over scratch is the definition's: what down leaves in the column buffer is what across reads there.
+use mathlib.Core.Path.{_≡_, refl, ap, _∙_}
+use mathlib.Core.Bool.{false}
+use mathlib.Core.List.{List, [], _∷_, _++_}
+use lib.Dec.{ltb}
+use borrow.Author.Tests.{ltb-false}
+use Prim.Native.Nat.{ℕ, _+_, _*_, _≤_, _<_}
+use native.Mathlib.Numerals.{add-one}
+use native.Mathlib.Omega.{arith}
+use lib.ListN.{length}
+use lib.Ieee.{Float, nan}
+use Rattle.laws.specs.Lists.{put}
+use Rattle.laws.proofs.Lists.{put-same, put-inside, length-put}
+use Rattle.image.specs.declared.layout.Layout.{Layout}
+use Rattle.laws.specs.declared.Answer.the-variants.{Accepted}
+use Rattle.laws.specs.Refusals.{Test, first}
+use Rattle.laws.proofs.Refusals.{accepted-failed, failed-both}
+use Rattle.image.specs.Tests.{layoutTests, Sound}
+use Rattle.image.specs.Picture.{shortPlane}
+use Rattle.image.proofs.Layouts.{sound}
+use Rattle.image.specs.Samples.{Plane, sampleAt}
+use Rattle.fround.specs.Rounding.{roundClamped}
+use Rattle.taps.specs.declared.positions.Tap.{Tap}
+use Rattle.taps.specs.Taps.{tapOf, TapGiven}
+use Rattle.linear.specs.Linear.{downBy, linearDown, linearSample, linearRow, linearScratch, columnAt, linearTests, Ready}
+use Rattle.image.specs.Scratch.{scratchNeed, cellAt}
+use Rattle.linear.specs.Down.{downRun}
+use Rattle.linear.specs.AcrossRows.{acrossBy, acrossRun}
+use Rattle.linear.specs.Stores.{storeRun}
+use Rattle.taps.proofs.Spots.{tap-given}
+use Rattle.laws.proofs.Counts.{none-plus, plus-none}
+
+-- down by the row's tap
+pub down-is : (l : Layout) (p : Plane) (y : ℕ) (t : Tap) (s : List Float) → t ≡ tapOf (l .rv) (l .ch) y
+    → downRun (p .bytes) (l .«sample_bytes») (t .i0 * p .stride) (t .i1 * p .stride) (t .f) (l .cw) (columnAt l) s ≡ put s (columnAt l) (l .cw) (linearDown l (sampleAt (l .«sample_bytes») p) y)
+unfolding downRun linearDown sampleAt
+down-is l p y t s e = ap (λ (u : Tap). put s (columnAt l) (l .cw) (downBy u (sampleAt (l .«sample_bytes») p))) e
+
+-- cells that scratch holds, lerped across by a tap whose cells are among them
+across-read : (s : List Float) (at cw : ℕ) (f : ℕ → Float) (t : Tap) → at + cw ≤ length s → t .i0 < cw → t .i1 < cw → acrossBy t (cellAt (put s at cw f) at) ≡ acrossBy t f
+across-read s at cw f t h p q = rw (put-inside s at cw f (t .i0) nan p h, put-inside s at cw f (t .i1) nan q h) refl
+
+-- then across
+pub row-is : (l : Layout) (p : Plane) (dst y : ℕ) (s : List Float) → Sound l → columnAt l + l .cw ≤ length s
+    → acrossRun (columnAt l) (l .cw) (l .rh) dst 0 (l .w) (put s (columnAt l) (l .cw) (linearDown l (sampleAt (l .«sample_bytes») p) y)) ≡ linearRow l p dst y s
+unfolding acrossRun linearRow linearSample
+row-is l p dst y s o h =
+    let g = linearDown l (sampleAt (l .«sample_bytes») p) y in
+    let xs = put s (columnAt l) (l .cw) g in
+    ap (λ (at : ℕ). put xs at (l .w) (λ i. acrossBy (tapOf (l .rh) (l .cw) (0 + i)) (cellAt xs (columnAt l)))) (plus-none dst)
+    ∙ put-same xs dst (l .w) _ _ (λ i k.
+    let t = tapOf (l .rh) (l .cw) i in
+    let n : TapGiven (l .rh) (l .cw) i t = tap-given (l .rh) (l .cw) i t (o .cw-some) (within i k (o .cells)) refl in
+    ap (λ (j : ℕ). acrossBy (tapOf (l .rh) (l .cw) j) (cellAt xs (columnAt l))) (none-plus i)
+    ∙ across-read s (columnAt l) (l .cw) g t h (n .i0-inside) (n .i1-inside))
+  where
+    within : (i : ℕ) → i < l .w → l .w ≤ l .cw * l .rh → i < l .cw * l .rh
+    within i k c = omega arith
+
+-- a row keeps scratch's length
+pub length-row : (l : Layout) (p : Plane) (at y : ℕ) (s : List Float) → length (linearRow l p at y s) ≡ length s
+unfolding linearRow
+length-row l p at y s =
+    length-put (put s (columnAt l) (l .cw) (linearDown l (sampleAt (l .«sample_bytes») p) y)) at (l .w) (linearSample l (sampleAt (l .«sample_bytes») p) y)
+    ∙ length-put s (columnAt l) (l .cw) (linearDown l (sampleAt (l .«sample_bytes») p) y)
+
+-- and the finished row is read back where it lies
+pub row-read : (l : Layout) (p : Plane) (at y : ℕ) (s : List Float) (x : ℕ) → x < l .w → at + l .w ≤ length s → cellAt (linearRow l p at y s) at x ≡ linearSample l (sampleAt (l .«sample_bytes») p) y x
+unfolding linearRow
+row-read l p at y s x h k = put-inside _ at (l .w) (linearSample l (sampleAt (l .«sample_bytes») p) y) x nan h (rw (length-put s (columnAt l) (l .cw) (linearDown l (sampleAt (l .«sample_bytes») p) y)) k)
+
+-- ---- a plane's loop
+
+-- scratch after the first y rows
+pub record Scratched (l : Layout) (p : Plane) (y : ℕ) (before after : List Float) : Type 0 where
+  pub len : length after ≡ length before
+  pub eq : after ≡ linearScratch l p y before
+
+pub scratch-none : (l : Layout) (p : Plane) (s : List Float) → Scratched l p 0 s s
+unfolding linearScratch
+scratch-none l p s = record { len = refl; eq = refl }
+
+pub scratch-more : {l : Layout} {p : Plane} {y : ℕ} {before after : List Float} → Scratched l p y before after → (next : List Float) → next ≡ linearRow l p 0 y after → Scratched l p (y + 1) before next
+unfolding linearScratch
+scratch-more {l} {p} {y} {before} {after} w next e =
+    record { len = ap length e ∙ length-row l p 0 y after ∙ w .len; eq = rw (add-one y) (e ∙ ap (linearRow l p 0 y) (w .eq)) }
+
+pub scratch-end : {l : Layout} {p : Plane} {y : ℕ} {before after : List Float} → Scratched l p y before after → (h : ℕ) → y ≤ h → h ≤ y → after ≡ linearScratch l p h before
+scratch-end {l} {p} {y} {before} w h a b = let e : y ≡ h = omega arith in w .eq ∙ ap (λ (n : ℕ). linearScratch l p n before) e
+
+-- a row of samples, as it is rounded out of scratch
+pub stored-is : (l : Layout) (p : Plane) (y at : ℕ) (s : List Float) (out : List ℕ) → 0 + l .w ≤ length s
+    → storeRun (linearRow l p 0 y s) 0 (l .w) (l .maxval) at out ≡ put out at (l .w) (λ x. roundClamped (l .maxval) (linearSample l (sampleAt (l .«sample_bytes») p) y x))
+unfolding storeRun
+stored-is l p y at s out h = put-same out at (l .w) _ _ (λ x k. ap (roundClamped (l .maxval)) (row-read l p 0 y s x k h))
+
+-- ---- acceptance
+
+-- what an accepted call may rely on
+pub ready : (l : Layout) (p : Plane) (space room : ℕ) → first (linearTests l p space room) ≡ Accepted → Ready l p space × (l .w * l .h ≤ room)
+unfolding linearTests
+ready l p space room e =
+    let rest : List Test = (shortPlane l (l .cw) (l .ch) p, 7) ∷ (ltb space (scratchNeed l), 9) ∷ (ltb room (l .w * l .h), 10) ∷ [] in
+    let f = failed-both (layoutTests false l) rest (accepted-failed (layoutTests false l ++ rest) e) in
+    (record { sound = sound false l (f .0); plane = f .1 .0; scratch = ltb-false space (scratchNeed l) (f .1 .1 .0) }, ltb-false room (l .w * l .h) (f .1 .1 .1 .0))

@@ -1,2 +1,0 @@
--- Laws of rows over scratch.
-pub mod Across

@@ -1,0 +1,48 @@
+// The two outputs between each pair of neighbouring cells at ratio 2: eight pairs at a time, so that many are computed at once.
+ghost use mathlib.Core.Path.{_≡_};
+ghost use Prim.Native.Nat.{ℕ, _+_, _*_, _≤_, _<_};
+ghost use lib.Ieee.{nan};
+ghost use lib.ListN.{length, getD};
+ghost use Rattle.linear.specs.AcrossRows.{betweenAt, betweenRun};
+use lanes::Lanes;
+use lanes::put_block;
+use taps::fraction;
+use taps::lerp;
+
+pub struct Twos;
+
+impl Twos {
+    // A row as wide as this has eight pairs of cells at ratio 2.
+    pub const ROW: usize = 18;
+}
+
+// The outputs between eight pairs of the cells at src, from pair i on.
+fn twos_block(s: &[f32], src: usize, i: usize) -> [f32; Lanes::PIXELS]
+    requires { ⌜ src + (i + 9) ≤ length (now s) ⌝ }
+    ensures { λ r. ⌜ ((k : ℕ) → k < 16 → getD r k nan ≡ betweenAt 2 (now (s .entry)) src (2 * i + k)) ⌝ }
+{
+    let f0 = fraction(1, 4);
+    let f1 = fraction(3, 4);
+    let mut v = [0.0f32; Lanes::PIXELS];
+    for k in 0..Lanes::CELLS {
+        let a = s[src + (i + k)];
+        let b = s[src + (i + k + 1)];
+        v[2 * k] = lerp(a, b, f0);
+        v[2 * k + 1] = lerp(a, b, f1);
+    }
+    v
+}
+
+// Inner: the outputs between n pairs of the cells at src, to s from dst on. The last block ends with them: it overlaps the one before, and stores what that stored again.
+pub fn across_twos(s: &mut [f32], src: usize, n: usize, dst: usize)
+    requires { ⌜ (8 ≤ n) × (dst + 2 * n ≤ src) × (src + (n + 1) ≤ length (now s)) ⌝ }
+    ensures { λ _. ⌜ now (s .exit) ≡ betweenRun 2 src n dst (now (s .entry)) ⌝ }
+{
+    let mut done = 0;
+    while done < n {
+        let i = image::least(done, n - Lanes::CELLS);
+        let v = twos_block(s, src, i);
+        put_block(s, dst + 2 * i, v);
+        done = i + Lanes::CELLS;
+    }
+}

@@ -1,0 +1,251 @@
+-- Three images one behind another: their answers are the answers of the whole, and what is held of accepted ones is what the definitions say.
+use mathlib.Core.Path.{_≡_, refl, sym, ap, _∙_}
+use mathlib.Core.Bool.{Bool, true, false}
+use mathlib.Core.List.{List, [], _∷_, _++_}
+use Prim.Native.Nat.{ℕ, _≤_, _<_}
+use native.Mathlib.Omega.{arith}
+use lib.Dec.{ltb, eqb}
+use lib.ListN.{length}
+use borrow.Author.Tests.{le-ltb, lt-ltb, ltb-false, eqb-false}
+use Rattle.laws.specs.declared.Answer.{Answer}
+use Rattle.laws.specs.declared.Answer.the-variants.{Accepted, Refused as Turned}
+use Rattle.laws.specs.Refusals.{Test, first, accepted}
+use Rattle.laws.proofs.Refusals.{accepted-is, accepted-failed, refused-early, passed-early, refused-here, passed-over}
+use Rattle.image.specs.declared.layout.Layout.{Layout}
+use Rattle.image.specs.Tests.{outsideOf, badSize}
+use Rattle.image.proofs.Layouts.{neither}
+use Rattle.netpbm.specs.declared.pgm.Image.{Image}
+use Rattle.netpbm.specs.declared.reading.Reading.{Reading}
+use Rattle.netpbm.specs.declared.reading.Reading.the-variants.{Read, Refused}
+use Rattle.netpbm.specs.Images.{widthOf, heightOf, rowsAt, imageEnd, imageTests}
+use Rattle.netpbm.specs.Reading.{cbAt, crAt, ratioFor, layoutOf, noRatio, imagesTests, wholeTests, readingTests, pickReading, readingOf}
+use Rattle.netpbm.specs.Forms.{layoutHeld, orAnswer, answerHeld}
+use Rattle.netpbm.specs.Held.{held, imageHeld, imageBehind, pickImage}
+use Rattle.netpbm.proofs.Runs.{differ}
+use Rattle.netpbm.proofs.Products.{held-over, held-under}
+use Rattle.netpbm.proofs.Ratios.{ratio-held, ratio-fits}
+use Rattle.netpbm.proofs.Fields.{Sits, sits}
+
+-- ---- an answer, and what is asked behind it
+
+pub pick-refused : (a b : Answer) → accepted a ≡ false → a ≡ orAnswer a b
+pick-refused Accepted b e = differ true refl e
+pick-refused (Turned n) b e = refl
+
+pub pick-accepted : (a b : Answer) → accepted a ≡ true → b ≡ orAnswer a b
+pick-accepted Accepted b e = refl
+pick-accepted (Turned n) b e = differ false e refl
+
+-- ---- one image behind another
+
+answer-is : (s : List ℕ) (at : ℕ) → imageHeld s at .answer ≡ first (imageTests s at)
+unfolding imageHeld
+answer-is s at = refl
+
+-- an image that is accepted where it stands ends inside
+pub held-fits : (s : List ℕ) (at : ℕ) (b : Image) → length s ≤ 49152 → b ≡ imageHeld s at → accepted (b .answer) ≡ true → Sits s at × ((b .end ≡ imageEnd s at) × (b .end ≤ length s))
+held-fits s at b l e a =
+    let q : b .answer ≡ first (imageTests s at) = ap (λ (i : Image). i .answer) e ∙ answer-is s at in
+    let t = sits s at l (sym q ∙ accepted-is (b .answer) a) in
+    let d : b .end ≡ imageEnd s at = ap (λ (i : Image). i .end) e ∙ t .held-end in
+    let u = t .ends in
+    (t, (d, omega arith))
+
+-- b is the answer to the tests ts, and ends at `at` where it is accepted: what stands behind it answers for both
+pub record Behind (s : List ℕ) (b : Image) (ts : List Test) (at : ℕ) (r : Image) : Type 0 where
+  pub answers : r .answer ≡ first (ts ++ imageTests s at)
+  pub before : accepted (r .answer) ≡ true → accepted (b .answer) ≡ true
+  pub is : accepted (r .answer) ≡ true → r ≡ imageHeld s at
+
+behind : (s : List ℕ) (b : Image) (ts : List Test) (at : ℕ) → b .answer ≡ first ts → (accepted (b .answer) ≡ true → b .end ≡ at) → Behind s b ts at (imageBehind s b)
+unfolding imageBehind
+behind s b ts at e d = go (accepted (b .answer)) refl
+  where
+    go : (t : Bool) → accepted (b .answer) ≡ t → Behind s b ts at (pickImage t (imageHeld s (b .end)) b)
+    go true k =
+        let z : imageHeld s (b .end) ≡ imageHeld s at = ap (imageHeld s) (d k) in
+        record {
+          answers = ap (λ (i : Image). i .answer) z ∙ answer-is s at ∙ sym (passed-early ts (imageTests s at) (sym (ap accepted e) ∙ k));
+          before = λ _. k;
+          is = λ _. z;
+        }
+    go false k = record {
+      answers = e ∙ sym (refused-early ts (imageTests s at) (sym (ap accepted e) ∙ k));
+      before = λ h. h;
+      is = λ h. differ (accepted (b .answer)) h k;
+    }
+
+-- ---- the three images
+
+pub record Three (s : List ℕ) (y cb cr : Image) : Type 0 where
+  pub first-is : y ≡ imageHeld s 0
+  pub second : Behind s y (imageTests s 0) (cbAt s) cb
+  pub third : Behind s cb (imageTests s 0 ++ imageTests s (cbAt s)) (crAt s) cr
+
+pub second-of : (s : List ℕ) (y cb : Image) → length s ≤ 49152 → y ≡ imageHeld s 0 → cb ≡ imageBehind s y → Behind s y (imageTests s 0) (cbAt s) cb
+unfolding cbAt
+second-of s y cb l e f =
+    rw f (behind s y (imageTests s 0) (imageEnd s 0) (ap (λ (i : Image). i .answer) e ∙ answer-is s 0) (λ a. held-fits s 0 y l e a .1 .0))
+
+pub three-of : (s : List ℕ) (y cb cr : Image) → length s ≤ 49152 → y ≡ imageHeld s 0 → cb ≡ imageBehind s y → cr ≡ imageBehind s cb → Three s y cb cr
+unfolding crAt
+three-of s y cb cr l e f g =
+    let b = second-of s y cb l e f in
+    record {
+      first-is = e;
+      second = b;
+      third = rw g (behind s cb (imageTests s 0 ++ imageTests s (cbAt s)) (imageEnd s (cbAt s)) (b .answers) (λ a. held-fits s (cbAt s) cb l (b .is a) a .1 .0));
+    }
+
+-- accepted together, each is what stands at its place
+record Places (s : List ℕ) (y cb cr : Image) : Type 0 where
+  y-is : y ≡ imageHeld s 0
+  cb-is : cb ≡ imageHeld s (cbAt s)
+  cr-is : cr ≡ imageHeld s (crAt s)
+  end-is : cr .end ≡ imageEnd s (crAt s)
+
+places : {s : List ℕ} {y cb cr : Image} → length s ≤ 49152 → Three s y cb cr → accepted (cr .answer) ≡ true → Places s y cb cr
+places {s} {y} {cb} {cr} l t a = record {
+  y-is = t .first-is;
+  cb-is = t .second .is (t .third .before a);
+  cr-is = t .third .is a;
+  end-is = held-fits s (crAt s) cr l (t .third .is a) a .1 .0;
+}
+
+-- ---- the tests behind the images
+
+-- a test that is passed over where another applies doesn't matter there
+tests-same : (x b b' n n' : Bool) → b ≡ b' → (b' ≡ false → n ≡ n') → first ((x, 14) ∷ (b, 2) ∷ (n, 5) ∷ []) ≡ first ((x, 14) ∷ (b', 2) ∷ (n', 5) ∷ [])
+unfolding first
+tests-same x true true n n' e f = refl
+tests-same x true false n n' e f = differ true refl e
+tests-same x false true n n' e f = differ false e refl
+tests-same x false false n n' e f = rw (f refl) refl
+
+module _ {s : List ℕ} {y cb cr : Image} (p : Places s y cb cr) where
+  y-w : y .w ≡ held (widthOf s 0)
+  unfolding imageHeld
+  y-w = ap (λ (i : Image). i .w) (p .y-is)
+
+  y-h : y .h ≡ held (heightOf s 0)
+  unfolding imageHeld
+  y-h = ap (λ (i : Image). i .h) (p .y-is)
+
+  cb-w : cb .w ≡ held (widthOf s (cbAt s))
+  unfolding imageHeld
+  cb-w = ap (λ (i : Image). i .w) (p .cb-is)
+
+  cb-h : cb .h ≡ held (heightOf s (cbAt s))
+  unfolding imageHeld
+  cb-h = ap (λ (i : Image). i .h) (p .cb-is)
+
+  cr-w : cr .w ≡ held (widthOf s (crAt s))
+  unfolding imageHeld
+  cr-w = ap (λ (i : Image). i .w) (p .cr-is)
+
+  cr-h : cr .h ≡ held (heightOf s (crAt s))
+  unfolding imageHeld
+  cr-h = ap (λ (i : Image). i .h) (p .cr-is)
+
+  -- 2 is the same test
+  size-same : badSize (layoutHeld y cb cr) ≡ badSize (layoutOf s)
+  unfolding badSize layoutHeld layoutOf
+  size-same =
+      let a : ltb (held (widthOf s 0)) 1 ≡ ltb (widthOf s 0) 1 = held-under 1 (widthOf s 0) (omega arith) in
+      let b : ltb 8192 (held (widthOf s 0)) ≡ ltb 8192 (widthOf s 0) = held-over 8192 (widthOf s 0) (omega arith) in
+      let c : ltb (held (heightOf s 0)) 1 ≡ ltb (heightOf s 0) 1 = held-under 1 (heightOf s 0) (omega arith) in
+      let d : ltb 8192 (held (heightOf s 0)) ≡ ltb 8192 (heightOf s 0) = held-over 8192 (heightOf s 0) (omega arith) in
+      rw (y-w, y-h, a, b, c, d) refl
+
+  sides : badSize (layoutOf s) ≡ false → (widthOf s 0 ≤ 8192) × (heightOf s 0 ≤ 8192)
+  unfolding badSize layoutOf
+  sides e =
+      let n = neither (outsideOf 1 8192 (widthOf s 0)) (outsideOf 1 8192 (heightOf s 0)) e in
+      (ltb-false 8192 (widthOf s 0) (neither (ltb (widthOf s 0) 1) (ltb 8192 (widthOf s 0)) (n .0) .1), ltb-false 8192 (heightOf s 0) (neither (ltb (heightOf s 0) 1) (ltb 8192 (heightOf s 0)) (n .1) .1))
+
+  -- past it the ratios are the same
+  ratio-w : badSize (layoutOf s) ≡ false → ratioFor (y .w) (cb .w) (cr .w) ≡ ratioFor (widthOf s 0) (widthOf s (cbAt s)) (widthOf s (crAt s))
+  ratio-w e = rw (y-w, cb-w, cr-w) (ratio-held (widthOf s 0) (widthOf s (cbAt s)) (widthOf s (crAt s)) (sides e .0))
+
+  ratio-h : badSize (layoutOf s) ≡ false → ratioFor (y .h) (cb .h) (cr .h) ≡ ratioFor (heightOf s 0) (heightOf s (cbAt s)) (heightOf s (crAt s))
+  ratio-h e = rw (y-h, cb-h, cr-h) (ratio-held (heightOf s 0) (heightOf s (cbAt s)) (heightOf s (crAt s)) (sides e .1))
+
+  none-same : badSize (layoutOf s) ≡ false → noRatio (layoutHeld y cb cr) ≡ noRatio (layoutOf s)
+  unfolding noRatio layoutHeld layoutOf
+  none-same e = rw (ratio-w e, ratio-h e) refl
+
+  -- so the same number is given
+  sizes-first : first ((ltb (cr .end) (length s), 14) ∷ (badSize (layoutHeld y cb cr), 2) ∷ (noRatio (layoutHeld y cb cr), 5) ∷ []) ≡ first (wholeTests s)
+  unfolding wholeTests
+  sizes-first =
+      ap (λ (k : ℕ). first ((ltb k (length s), 14) ∷ (badSize (layoutHeld y cb cr), 2) ∷ (noRatio (layoutHeld y cb cr), 5) ∷ [])) (p .end-is)
+      ∙ tests-same (ltb (imageEnd s (crAt s)) (length s)) (badSize (layoutHeld y cb cr)) (badSize (layoutOf s)) (noRatio (layoutHeld y cb cr)) (noRatio (layoutOf s)) size-same none-same
+
+  -- and a layout that passes is held as it is
+  layout-same : first (wholeTests s) ≡ Accepted → layoutHeld y cb cr ≡ layoutOf s
+  unfolding wholeTests layoutHeld layoutOf noRatio
+  layout-same e =
+      let f = accepted-failed (wholeTests s) e in
+      let b = f .1 .0 in
+      let rh = ratioFor (widthOf s 0) (widthOf s (cbAt s)) (widthOf s (crAt s)) in
+      let rv = ratioFor (heightOf s 0) (heightOf s (cbAt s)) (heightOf s (crAt s)) in
+      let n = neither (eqb rh 0) (eqb rv 0) (f .1 .1 .0) in
+      let u = ratio-fits (widthOf s 0) (widthOf s (cbAt s)) (widthOf s (crAt s)) (eqb-false rh 0 (n .0)) .less in
+      let v = ratio-fits (heightOf s 0) (heightOf s (cbAt s)) (heightOf s (crAt s)) (eqb-false rv 0 (n .1)) .less in
+      let k = sides b in
+      let yw : y .w ≡ widthOf s 0 = y-w ∙ small (widthOf s 0) (k .0) in
+      let yh : y .h ≡ heightOf s 0 = y-h ∙ small (heightOf s 0) (k .1) in
+      let cw : cb .w ≡ widthOf s (cbAt s) = cb-w ∙ small (widthOf s (cbAt s)) (omega arith) in
+      let ch : cb .h ≡ heightOf s (cbAt s) = cb-h ∙ small (heightOf s (cbAt s)) (omega arith) in
+      rw (ratio-w b, ratio-h b, yw, yh, cw, ch) refl
+    where
+      small : (n : ℕ) → n ≤ 8192 → held n ≡ n
+      small n l = omega arith
+
+-- ---- the whole
+
+pick-same : (a : Answer) (r q : Reading) → (a ≡ Accepted → r ≡ q) → pickReading a r ≡ pickReading a q
+pick-same Accepted r q f = f refl
+pick-same (Turned n) r q f = refl
+
+rows-is : (s : List ℕ) (at : ℕ) → imageHeld s at .rows ≡ rowsAt s at
+unfolding imageHeld
+rows-is s at = refl
+
+module _ {s : List ℕ} {y cb cr : Image} (l : length s ≤ 49152) (t : Three s y cb cr) where
+  -- the tests behind the first one
+  later : first (readingTests s) ≡ first (imagesTests s ++ wholeTests s)
+  unfolding readingTests
+  later = passed-over _ _ _ (le-ltb 49152 (length s) l)
+
+  images-first : cr .answer ≡ first (imagesTests s)
+  unfolding imagesTests
+  images-first = t .third .answers
+
+  -- what is answered from what is held is the reading
+  read-is : (a : Answer) → a ≡ answerHeld (cr .answer) (ltb (cr .end) (length s)) (layoutHeld y cb cr) → pickReading a (Read (layoutHeld y cb cr) (y .rows) (cb .rows) (cr .rows)) ≡ readingOf s
+  unfolding answerHeld readingOf
+  read-is a e = go (accepted (cr .answer)) refl
+    where
+      go : (u : Bool) → accepted (cr .answer) ≡ u → pickReading a (Read (layoutHeld y cb cr) (y .rows) (cb .rows) (cr .rows)) ≡ pickReading (first (readingTests s)) (Read (layoutOf s) (rowsAt s 0) (rowsAt s (cbAt s)) (rowsAt s (crAt s)))
+      go false k =
+          let q : first (readingTests s) ≡ cr .answer = later ∙ refused-early (imagesTests s) (wholeTests s) (sym (ap accepted images-first) ∙ k) ∙ sym images-first in
+          let d : a ≡ first (readingTests s) = e ∙ sym (pick-refused (cr .answer) _ k) ∙ sym q in
+          rw d (pick-same (first (readingTests s)) _ _ (λ h. differ (accepted (cr .answer)) (ap accepted (sym q ∙ h)) k))
+      go true k =
+          let p = places l t k in
+          let q : first (readingTests s) ≡ first (wholeTests s) = later ∙ passed-early (imagesTests s) (wholeTests s) (sym (ap accepted images-first) ∙ k) in
+          let d : a ≡ first (readingTests s) = e ∙ sym (pick-accepted (cr .answer) _ k) ∙ sizes-first p ∙ sym q in
+          let u : y .rows ≡ rowsAt s 0 = ap (λ (i : Image). i .rows) (p .y-is) ∙ rows-is s 0 in
+          let v : cb .rows ≡ rowsAt s (cbAt s) = ap (λ (i : Image). i .rows) (p .cb-is) ∙ rows-is s (cbAt s) in
+          let w : cr .rows ≡ rowsAt s (crAt s) = ap (λ (i : Image). i .rows) (p .cr-is) ∙ rows-is s (crAt s) in
+          rw d (pick-same (first (readingTests s)) _ _ (λ h. rw (layout-same p (sym q ∙ h), u, v, w) refl))
+
+  pub reading-is : (a : Answer) (k : Layout) → k ≡ layoutHeld y cb cr → a ≡ answerHeld (cr .answer) (ltb (cr .end) (length s)) k → pickReading a (Read k (y .rows) (cb .rows) (cr .rows)) ≡ readingOf s
+  reading-is a k f e =
+      ap (λ (m : Layout). pickReading a (Read m (y .rows) (cb .rows) (cr .rows))) f ∙ read-is a (e ∙ ap (answerHeld (cr .answer) (ltb (cr .end) (length s))) f)
+
+-- an input that is too long is read no further
+pub read-long : (s : List ℕ) → 49152 < length s → Refused 15 ≡ readingOf s
+unfolding readingOf readingTests
+read-long s l = ap (λ (a : Answer). pickReading a (Read (layoutOf s) (rowsAt s 0) (rowsAt s (cbAt s)) (rowsAt s (crAt s)))) (sym (refused-here _ _ _ (lt-ltb 49152 (length s) l)))

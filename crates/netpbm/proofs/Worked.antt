@@ -1,0 +1,49 @@
+-- Worked examples of the definitions: document 01's picture, the table's examples of 14 and 15, and the lines that are written.
+use mathlib.Core.Path.{_≡_, refl}
+use mathlib.Core.List.{List, [], _∷_, _++_}
+use Prim.Native.Nat.{ℕ}
+use Rattle.laws.specs.Refusals.{first}
+use Rattle.image.specs.Tests.{divCeil, badSize}
+use Rattle.netpbm.specs.declared.reading.Reading.the-variants.{Read, Refused}
+use Rattle.netpbm.specs.Bytes.{leading, decimalOf, hasBlank, hasDigit, digitsAt, pastBlanks, pastDigits, numberAt}
+use Rattle.netpbm.specs.Images.{hasMagic, hasNumber, fieldOf, fieldEnd, widthOf, widthEnd, heightOf, heightEnd, maxvalOf, maxvalEnd, rowsAt, imageEnd, imageTests}
+use Rattle.netpbm.specs.Reading.{cbAt, crAt, smallest, ratioFor, layoutOf, noRatio, imagesTests, wholeTests, readingTests, readingOf}
+use Rattle.netpbm.specs.Lines.{digits, digitsOf, ppmHeader, refusalLine}
+
+-- `P5 1 1 255`, newline
+abbrev header : List ℕ
+header = 80 ∷ 53 ∷ 32 ∷ 49 ∷ 32 ∷ 49 ∷ 32 ∷ 50 ∷ 53 ∷ 53 ∷ 10 ∷ []
+
+-- what the whole input comes to
+pub record Inputs : Type 0 where
+  -- "three 1 by 1 images holding 230, 3, 128"
+  pub one-by-one : readingOf (header ++ (230 ∷ header) ++ (3 ∷ header) ++ (128 ∷ [])) ≡ Read (record { w = 1; h = 1; rh = 1; rv = 1; cw = 1; ch = 1; «sample_bytes» = 1; maxval = 255 }) 11 23 35
+  -- a byte left over
+  pub one-more : readingOf (header ++ (230 ∷ header) ++ (3 ∷ header) ++ (128 ∷ 10 ∷ [])) ≡ Refused 14
+  -- two whitespace bytes behind the maxval: the second is the row, and no magic stands behind it
+  pub two-blanks : readingOf (header ++ (10 ∷ 230 ∷ header) ++ (3 ∷ header) ++ (128 ∷ [])) ≡ Refused 14
+  -- the last row is missing
+  pub no-row : readingOf (header ++ (230 ∷ header) ++ (3 ∷ header)) ≡ Refused 15
+  -- 14: "`P4`"
+  pub p4 : readingOf (80 ∷ 52 ∷ []) ≡ Refused 14
+  -- 15: "width 129", as its digits end
+  pub width-129 : readingOf (80 ∷ 53 ∷ 32 ∷ 49 ∷ 50 ∷ 57 ∷ []) ≡ Refused 15
+  -- a width of 128 goes on, and the height is missing
+  pub width-128 : readingOf (80 ∷ 53 ∷ 32 ∷ 49 ∷ 50 ∷ 56 ∷ []) ≡ Refused 14
+
+inputs : Inputs
+unfolding leading decimalOf hasBlank hasDigit digitsAt pastBlanks pastDigits numberAt hasMagic hasNumber fieldOf fieldEnd widthOf widthEnd heightOf heightEnd maxvalOf maxvalEnd rowsAt imageEnd imageTests cbAt crAt smallest ratioFor layoutOf noRatio imagesTests wholeTests readingTests readingOf first divCeil badSize
+inputs = record { one-by-one = refl; one-more = refl; two-blanks = refl; no-row = refl; p4 = refl; width-129 = refl; width-128 = refl }
+
+-- what is written
+pub record Outputs : Type 0 where
+  -- `P6`/`1 1`/`255`
+  pub smallest-header : ppmHeader 1 1 ≡ 80 ∷ 54 ∷ 10 ∷ 49 ∷ 32 ∷ 49 ∷ 10 ∷ 50 ∷ 53 ∷ 53 ∷ 10 ∷ []
+  pub longest-header : ppmHeader 128 8192 ≡ 80 ∷ 54 ∷ 10 ∷ 49 ∷ 50 ∷ 56 ∷ 32 ∷ 56 ∷ 49 ∷ 57 ∷ 50 ∷ 10 ∷ 50 ∷ 53 ∷ 53 ∷ 10 ∷ []
+  -- `refused 2` and `refused 15`
+  pub refused-2 : refusalLine 2 ≡ 114 ∷ 101 ∷ 102 ∷ 117 ∷ 115 ∷ 101 ∷ 100 ∷ 32 ∷ 50 ∷ 10 ∷ []
+  pub refused-15 : refusalLine 15 ≡ 114 ∷ 101 ∷ 102 ∷ 117 ∷ 115 ∷ 101 ∷ 100 ∷ 32 ∷ 49 ∷ 53 ∷ 10 ∷ []
+
+outputs : Outputs
+unfolding ppmHeader refusalLine digitsOf digits
+outputs = record { smallest-header = refl; longest-header = refl; refused-2 = refl; refused-15 = refl }

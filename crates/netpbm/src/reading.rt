@@ -1,0 +1,66 @@
+// The whole input: three images, nothing behind them, and sides that make a picture.
+ghost use mathlib.Core.Path.{_≡_};
+ghost use Rattle.netpbm.specs.Reading.{pickReading, readingOf};
+ghost use Rattle.netpbm.specs.Forms.{answerHeld};
+use crate::pgm::image_after;
+use crate::pgm::image_at;
+use crate::sizes::layout_of;
+use crate::sizes::no_ratio;
+use image::Layout;
+use laws::Answer;
+
+// What was read: the layout, and where the rows of Y, Cb and Cr begin; or the number of the reason why not.
+pub enum Reading {
+    Read(Layout, usize, usize, usize),
+    Refused(u8),
+}
+
+impl Reading {
+    // The longest input.
+    pub const LONGEST: usize = 49_152;
+}
+
+// The answer to three images: theirs, then what is left over, the sides and the ratios.
+fn whole_answer(images: Answer, left: bool, layout: Layout) -> Answer
+    ensures { λ r. ⌜ r ≡ answerHeld images left layout ⌝ }
+{
+    if image::refused(images) {
+        return images;
+    }
+    if left {
+        return Answer::Refused(14);
+    }
+    if layout.bad_size() {
+        return Answer::Refused(2);
+    }
+    if no_ratio(layout) {
+        return Answer::Refused(5);
+    }
+    Answer::Accepted
+}
+
+// What was read, or the number that the answer gives.
+fn settled(answer: Answer, layout: Layout, y: usize, cb: usize, cr: usize) -> Reading
+    ensures { λ r. ⌜ r ≡ pickReading answer (Reading.Read layout y cb cr) ⌝ }
+{
+    match answer {
+        Answer::Accepted => Reading::Read(layout, y, cb, cr),
+        Answer::Refused(n) => Reading::Refused(n),
+    }
+}
+
+// Inner: the input read. It is answered for every input.
+pub fn read(input: &[u8]) -> Reading
+    ensures { λ r. ⌜ r ≡ readingOf (now (input .entry)) ⌝ }
+{
+    if Reading::LONGEST < input.len() {
+        return Reading::Refused(15);
+    }
+    let y = image_at(input, 0);
+    let cb = image_after(input, y);
+    let cr = image_after(input, cb);
+    let layout = layout_of(y, cb, cr);
+    let images = cr.answer;
+    let answer = whole_answer(images, cr.end < input.len(), layout);
+    settled(answer, layout, y.rows, cb.rows, cr.rows)
+}

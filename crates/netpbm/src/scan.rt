@@ -1,0 +1,86 @@
+// The bytes of a header: whitespace, digits and numbers. Every function takes any place, past the end too.
+ghost use mathlib.Core.Path.{_≡_};
+ghost use mathlib.Core.Bool.{true};
+ghost use Prim.Native.Nat.{_-_, _≤_};
+ghost use lib.ListN.{getD};
+ghost use Rattle.netpbm.specs.Bytes.{hasBlank, hasDigit, pastBlanks};
+ghost use Rattle.netpbm.specs.Images.{hasMagic};
+ghost use Rattle.netpbm.specs.Held.{numberHeld};
+use crate::ascii::is_blank;
+use crate::ascii::is_digit;
+
+// A number read from its digits, and where they end.
+pub struct Number {
+    pub value: usize,
+    pub end: usize,
+}
+
+impl Number {
+    // A value past this is held as this: it is more than every size that is accepted, and no product of two wraps.
+    pub const MOST: usize = 65_536;
+}
+
+// Inner: whether a whitespace byte stands at `at`.
+pub fn blank_at(input: &[u8], at: usize) -> bool
+    ensures { λ r. ⌜ r ≡ hasBlank (now (input .entry)) at ⌝ }
+{
+    if at < input.len() {
+        return is_blank(input[at]);
+    }
+    false
+}
+
+// Inner: whether a digit stands at `at`.
+pub fn digit_at(input: &[u8], at: usize) -> bool
+    ensures { λ r. ⌜ r ≡ hasDigit (now (input .entry)) at ⌝ }
+{
+    if at < input.len() {
+        return is_digit(input[at]);
+    }
+    false
+}
+
+// Inner: whether the two bytes of the magic stand at `at`.
+pub fn magic_at(input: &[u8], at: usize) -> bool
+    ensures { λ r. ⌜ r ≡ hasMagic (now (input .entry)) at ⌝ }
+{
+    let magic = b"P5";
+    if input.len() <= at {
+        return false;
+    }
+    if input.len() - at < 2 {
+        return false;
+    }
+    image::both(input[at] == magic[0], input[at + 1] == magic[1])
+}
+
+// Inner: where the whitespace at `at` ends.
+pub fn skip_blanks(input: &[u8], at: usize) -> usize
+    ensures { λ r. ⌜ r ≡ pastBlanks (now (input .entry)) at ⌝ }
+{
+    let mut end = at;
+    while blank_at(input, end) {
+        end += 1;
+    }
+    end
+}
+
+fn digit_value(input: &[u8], at: usize) -> usize
+    requires { ⌜ hasDigit (now input) at ≡ true ⌝ }
+    ensures { λ r. ⌜ (r ≡ getD (now (input .entry)) at 0 - 48) × (r ≤ 9) ⌝ }
+{
+    (input[at] - b'0') as usize
+}
+
+// Inner: the number whose digits stand at `at`.
+pub fn number_at(input: &[u8], at: usize) -> Number
+    ensures { λ r. ⌜ r ≡ numberHeld (now (input .entry)) at ⌝ }
+{
+    let mut value = 0;
+    let mut end = at;
+    while digit_at(input, end) {
+        value = image::least(value * 10 + digit_value(input, end), Number::MOST);
+        end += 1;
+    }
+    Number { value, end }
+}

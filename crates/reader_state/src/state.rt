@@ -1,0 +1,121 @@
+// The reader's state: its counters, and the test behind refusal 1.
+ghost use mathlib.Core.Path.{_≡_};
+ghost use mathlib.Core.Bool.{_&&_};
+ghost use Prim.Native.Nat.{_≤_, _<_};
+ghost use lib.Dec.{eqb};
+ghost use Rattle.image.specs.Tests.{Sound};
+ghost use Rattle.guided.specs.Calls.{layoutOf, topOf, lastOf, freshH, freshF, doneH, doneF, badCounters, badState};
+use crate::phases::bad_phases;
+use guided::Reader;
+use image::Layout;
+
+// Inner: the layout that a state has.
+pub fn layout_of(reader: Reader) -> Layout
+    ensures { λ l. ⌜ l ≡ layoutOf reader ⌝ }
+{
+    let g = reader.geometry;
+    Layout {
+        w: g.w,
+        h: g.h,
+        rh: g.rh,
+        rv: g.rv,
+        cw: g.cw,
+        ch: g.ch,
+        sample_bytes: reader.sample_bytes,
+        maxval: reader.maxval,
+    }
+}
+
+// Inner: the first chroma row that row y takes from.
+pub fn top_of(layout: Layout, y: usize) -> usize
+    requires { ⌜ Sound layout ⌝ }
+    requires { ⌜ y < layout .h ⌝ }
+    ensures { λ r. ⌜ (r ≡ topOf layout y) × (r < layout .ch) ⌝ }
+{
+    let t = taps::tap_at(layout.rv, layout.ch, y);
+    t.i0
+}
+
+// Inner: the last chroma row that row y takes from or is clamped by.
+pub fn last_of(layout: Layout, y: usize) -> usize
+    requires { ⌜ Sound layout ⌝ }
+    requires { ⌜ y < layout .h ⌝ }
+    ensures { λ r. ⌜ (r ≡ lastOf layout y) × (r < layout .ch) ⌝ }
+{
+    let t = taps::tap_at(layout.rv, layout.ch, y);
+    let own = y / layout.rv;
+    if t.i1 < own { own } else { t.i1 }
+}
+
+// The two counters.
+pub struct Counters {
+    pub h_next: usize,
+    pub f_next: usize,
+}
+
+// Inner: the counters that open and seek leave at row y: nothing is summed or finished yet.
+pub fn fresh_counters(layout: Layout, y: usize) -> Counters
+    requires { ⌜ Sound layout ⌝ }
+    requires { ⌜ y < layout .h ⌝ }
+    ensures { λ c. ⌜ (c .«h_next» ≡ freshH layout y) × (c .«f_next» ≡ freshF layout y) ⌝ }
+{
+    let top = top_of(layout, y);
+    if top == 0 {
+        return Counters {
+            h_next: 0,
+            f_next: 0,
+        };
+    }
+    Counters {
+        h_next: top - 1,
+        f_next: top,
+    }
+}
+
+// Inner: the counters that row leaves at row y.
+pub fn done_counters(layout: Layout, y: usize) -> Counters
+    requires { ⌜ Sound layout ⌝ }
+    requires { ⌜ y < layout .h ⌝ }
+    ensures { λ c. ⌜ (c .«h_next» ≡ doneH layout y) × (c .«f_next» ≡ doneF layout y) ⌝ }
+{
+    let last = last_of(layout, y);
+    Counters {
+        h_next: image::least(last + 2, layout.ch),
+        f_next: last + 1,
+    }
+}
+
+fn counters_are(reader: Reader, c: Counters) -> bool
+    ensures { λ r. ⌜ r ≡ (eqb (reader .«h_next») (c .«h_next») && eqb (reader .«f_next») (c .«f_next»)) ⌝ }
+{
+    image::both(reader.h_next == c.h_next, reader.f_next == c.f_next)
+}
+
+// Whether the counters are neither open's or seek's nor row's at the state's place.
+fn bad_counters(reader: Reader) -> bool
+    requires { ⌜ Sound (layoutOf reader) ⌝ }
+    requires { ⌜ reader .place < reader .geometry .h ⌝ }
+    ensures { λ r. ⌜ r ≡ badCounters reader ⌝ }
+{
+    let layout = layout_of(reader);
+    let fresh = fresh_counters(layout, reader.place);
+    let done = done_counters(layout, reader.place);
+    !image::either(counters_are(reader, fresh), counters_are(reader, done))
+}
+
+// Inner: refusal 1's test: whether open, seek and row never leave this state.
+pub fn bad_state(reader: Reader) -> bool
+    ensures { λ r. ⌜ r ≡ badState reader ⌝ }
+{
+    if image::refused(layout_of(reader).answer(false)) {
+        return true;
+    }
+    let g = reader.geometry;
+    if bad_phases(g) {
+        return true;
+    }
+    if g.h <= reader.place {
+        return true;
+    }
+    bad_counters(reader)
+}

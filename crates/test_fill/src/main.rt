@@ -1,0 +1,130 @@
+// Replays the fixed list of fills and single pixels on standard input, and writes for each its answer and the sum of what it left.
+// oracle/fill-cases made the list and what must be written for it: a line of 122 bytes for each call, a kind and 24 words of four hex digits. A fill's:
+// w h rh rv cw ch sample_bytes maxval(2) y_stride cb_stride cr_stride y_len cb_len cr_len seed y_shape cb_shape cr_shape
+// kernel size space(2) room. A pixel's: y(2) cb(2) cr(2) maxval(2), sixteen of 0.
+ghost use Prim.Native.Nat.{_<_};
+use colour_rows::YcbcrKernel;
+use fill::ChromaUpsampling;
+use kernels::Pixel;
+use libc::STDIN_FILENO;
+
+// Scratch as no call leaves it.
+fn marked() -> [f32; 600_000] {
+    [1.5; 600_000]
+}
+
+// An output that no call has written.
+fn unwritten() -> [u8; 65_536] {
+    [160; 65_536]
+}
+
+// A pixel's line: its refusal, or its colour for a sum.
+fn write_pixel(pixel: Pixel) {
+    match pixel {
+        Pixel::Rgb(r, g, b) => {
+            test_support::write_line(0, r as u32 * 65_536 + g as u32 * 256 + b as u32);
+        }
+        Pixel::Refused(n) => {
+            test_support::write_line(n as usize, 0);
+        }
+    }
+}
+
+// The number in words k and k+1.
+fn number(text: &[u8], k: usize) -> u32
+    requires { ⌜ k < 999 ⌝ }
+{
+    test_support::long(text, k) as u32
+}
+
+fn exact(text: &[u8]) {
+    write_pixel(reconstruction::ycbcr_frac_to_rgb8(
+        number(text, 0),
+        number(text, 2),
+        number(text, 4),
+        number(text, 6),
+    ));
+}
+
+fn fixed(text: &[u8]) {
+    write_pixel(reconstruction::ycbcr_to_rgb8_fixed16(
+        number(text, 0),
+        number(text, 2),
+        number(text, 4),
+    ));
+}
+
+fn upsampling(text: &[u8]) -> ChromaUpsampling {
+    if test_support::byte(text, 0) == b'l' {
+        return ChromaUpsampling::Linear;
+    }
+    ChromaUpsampling::LumaGuided
+}
+
+fn kernel(text: &[u8]) -> YcbcrKernel {
+    if test_support::word(text, 19) == 0 {
+        return YcbcrKernel::Exact;
+    }
+    YcbcrKernel::FixedPoint16
+}
+
+// The line of a fill: the sum is of all of out, and of what it may not touch of its scratch.
+fn fill_lent(text: &[u8], y: &[u8], cb: &[u8], cr: &[u8], s: &mut [f32], out: &mut [u8]) {
+    let answer = test_support::number(reconstruction::fill(
+        test_support::layout(text),
+        y,
+        test_support::size(text, 9),
+        cb,
+        test_support::size(text, 10),
+        cr,
+        test_support::size(text, 11),
+        upsampling(text),
+        kernel(text),
+        test_support::size(text, 20),
+        s,
+        out,
+    ));
+    let sum = test_support::sum_floats(
+        test_support::sum_bytes(0, out),
+        s,
+        test_support::scratch_part(text, answer),
+    );
+    test_support::write_line(answer, sum);
+}
+
+// A fill into scratch and out that no call has touched.
+fn fill_marked(text: &[u8], y: &[u8], cb: &[u8], cr: &[u8]) {
+    let mut s = marked();
+    let mut out = unwritten();
+    let space = image::least(test_support::long(text, 21), 600_000);
+    let room = test_support::word(text, 23);
+    fill_lent(text, y, cb, cr, &mut s[..space], &mut out[..room]);
+}
+
+fn fill(text: &[u8]) {
+    let y = test_support::plane(text, 0);
+    let cb = test_support::plane(text, 1);
+    let cr = test_support::plane(text, 2);
+    let y_len = test_support::word(text, 12);
+    let cb_len = test_support::word(text, 13);
+    let cr_len = test_support::word(text, 14);
+    fill_marked(text, &y[..y_len], &cb[..cb_len], &cr[..cr_len]);
+}
+
+fn replay(text: &[u8]) {
+    match test_support::byte(text, 0) {
+        b'e' => exact(text),
+        b'f' => fixed(text),
+        _ => fill(text),
+    }
+}
+
+fn main() {
+    let mut text = [0u8; 122];
+    for _ in 0..65_536usize {
+        if io::read_full(STDIN_FILENO, &mut text) < 122 {
+            break;
+        }
+        replay(&text);
+    }
+}

@@ -1,0 +1,87 @@
+// Replays the fixed list of whole planes on standard input, triangular, linear and guided, and writes for each its answer and the sum of what it left.
+// oracle/plane-cases made the list and what must be written for it: a line of 77 bytes for each call, a kind and 15 words of four hex digits:
+// w h rh rv cw ch sample_bytes maxval(2) stride plane_len space(2) room seed.
+use laws::Answer;
+use libc::STDIN_FILENO;
+
+// Scratch as no call leaves it.
+fn marked() -> [f32; 200_000] {
+    [1.5; 200_000]
+}
+
+// An output that no call has written.
+fn unwritten() -> [u16; 65_536] {
+    [42_405; 65_536]
+}
+
+// The number that luma's bytes come from.
+const LUMA: usize = 7;
+
+// How far apart luma's rows begin: there is room for samples of two bytes. What is wider is refused.
+fn luma_stride(w: usize) -> usize {
+    if w <= 8_192 { 2 * w } else { 0 }
+}
+
+// A guided plane; luma is one for all lines.
+fn guided(text: &[u8], plane: &[u8], s: &mut [f32], out: &mut [u16]) -> Answer {
+    let luma = test_support::grown(20_000, LUMA, 0);
+    let layout = test_support::layout(text);
+    reconstruction::guided_plane(
+        layout,
+        &luma[..20_000],
+        luma_stride(layout.w),
+        plane,
+        test_support::size(text, 9),
+        s,
+        out,
+    )
+}
+
+// The call of a line.
+fn called(text: &[u8], plane: &[u8], s: &mut [f32], out: &mut [u16]) -> Answer {
+    match test_support::byte(text, 0) {
+        b't' => reconstruction::triangular_plane(
+            test_support::layout(text),
+            plane,
+            test_support::size(text, 9),
+            out,
+        ),
+        b'l' => reconstruction::linear_plane(
+            test_support::layout(text),
+            plane,
+            test_support::size(text, 9),
+            s,
+            out,
+        ),
+        _ => guided(text, plane, s, out),
+    }
+}
+
+// The line of a call: the sum is of all of out, and of what it may not touch of its scratch.
+fn write_call(text: &[u8], plane: &[u8], s: &mut [f32], out: &mut [u16]) {
+    let answer = test_support::number(called(text, plane, s, out));
+    let sum = test_support::sum_values(0, out);
+    let spared = test_support::scratch_part(text, answer);
+    test_support::write_line(answer, test_support::sum_floats(sum, s, spared));
+}
+
+// A call into scratch and out that no call has touched.
+fn replay(text: &[u8]) {
+    let plane_len = test_support::word(text, 10);
+    let space = image::least(test_support::long(text, 11), 200_000);
+    let room = test_support::word(text, 13);
+    let plane = test_support::grown(plane_len, test_support::word(text, 14), 0);
+    let mut s = marked();
+    let mut out = unwritten();
+    write_call(text, &plane[..plane_len], &mut s[..space], &mut out[..room]);
+}
+
+fn main() {
+    let mut text = [0u8; 77];
+    for _ in 0..65_536usize {
+        if io::read_full(STDIN_FILENO, &mut text) < 77 {
+            break;
+        }
+        replay(&text);
+    }
+}

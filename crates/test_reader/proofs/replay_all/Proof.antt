@@ -1,0 +1,72 @@
+use mathlib.Core.Path.{_≡_}
+use Prim.Native.Nat.{_-_, _≤_}
+use native.Mathlib.Omega.{arith}
+use lib.ListN.{length}
+use borrow.Author.Needs.{needs}
+use Rattle.test_reader.proofs.replay_all.Statement.{statement}
+use Rattle.test_reader.proofs.replay_all.Tie as tie
+
+abbrev Inv-loop : tie.InvT-loop
+Inv-loop s₀ text₀ reader₀ counter₀ s text reader counter = (counter ≤ 65536) × (length text ≡ 142) × (length s ≡ length s₀)
+
+abbrev μ-loop : tie.MeasureT-loop
+μ-loop s₀ text₀ reader₀ counter₀ s text reader counter = 65536 - counter
+
+reader-of-requires : tie.Need-reader-of-requires Inv-loop μ-loop
+reader-of-requires c κs = search needs
+
+loop-holds : tie.Need-loop-holds Inv-loop μ-loop
+loop-holds c = omega arith
+
+slice-aggregate-read-full : tie.Need-slice-aggregate-read-full Inv-loop μ-loop
+slice-aggregate-read-full c = omega arith
+
+read-full-requires : tie.Need-read-full-requires Inv-loop μ-loop
+read-full-requires c κs = search needs
+
+slice-aggregate-replay : tie.Need-slice-aggregate-replay Inv-loop μ-loop
+slice-aggregate-replay c = omega arith
+
+replay-requires : tie.Need-replay-requires Inv-loop μ-loop
+replay-requires c κs = search needs
+
+add-counter : tie.Need-add-counter Inv-loop μ-loop
+add-counter c = omega arith
+
+loop-less : tie.Need-loop-less Inv-loop μ-loop
+loop-less c = omega arith
+
+loop-again : tie.Need-loop-again Inv-loop μ-loop
+loop-again c = omega arith
+
+same-length : tie.Need-same-length Inv-loop μ-loop
+same-length c = omega arith
+
+returns : tie.Need-returns Inv-loop μ-loop
+returns c = search needs
+
+same-length-2 : tie.Need-same-length-2 Inv-loop μ-loop
+same-length-2 c = omega arith
+
+returns-2 : tie.Need-returns-2 Inv-loop μ-loop
+returns-2 c = search needs
+
+pub replay-all-spec : {M : Type 1} → statement M
+replay-all-spec =
+    tie.close
+    (tie.spec
+    Inv-loop
+    μ-loop
+    reader-of-requires
+    loop-holds
+    slice-aggregate-read-full
+    read-full-requires
+    slice-aggregate-replay
+    replay-requires
+    add-counter
+    loop-less
+    loop-again
+    same-length
+    returns
+    same-length-2
+    returns-2)

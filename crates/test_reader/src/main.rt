@@ -1,0 +1,257 @@
+// Replays the fixed list of calls of the reader on standard input, open, seek and row, and writes for each its answer and the sum of what it left.
+// All share one scratch, which is not-a-number at first and never cleared, and one reader.
+// oracle/reader-cases made the list and what must be written for it: a line of 142 bytes for each call, a kind and 28 words of four hex digits:
+// w h rh rv cw ch sample_bytes maxval(2) y_stride cb_stride cr_stride y_len cb_len cr_len seed y_shape cb_shape cr_shape
+// space(2) room_cb room_cr row change value(3).
+use guided::Geometry;
+use guided::Reader;
+use guided::Reply;
+use libc::STDIN_FILENO;
+use taps::Phase;
+
+// What a call answered, the reader that it gave, and the sum of its outputs.
+struct Done {
+    answer: usize,
+    reader: Reader,
+    sum: u32,
+}
+
+fn done_by(reply: Reply, sum: u32) -> Done {
+    let answer = reply.answer;
+    let reader = reply.reader;
+    Done {
+        answer: test_support::number(answer),
+        reader,
+        sum,
+    }
+}
+
+// What no call has written.
+fn unwritten() -> [f32; 65_536] {
+    [1.5; 65_536]
+}
+
+// A phase as a number: its fraction's bits, and above them whether it goes to the left.
+fn phase_number(p: Phase) -> usize {
+    if p.left {
+        return 4_294_967_296 + test_support::bits(p.f) as usize;
+    }
+    test_support::bits(p.f) as usize
+}
+
+// A reader as numbers: none, place, h_next, f_next, maxval, sample_bytes, w h rh rv cw ch and the phases.
+fn numbers(r: Reader) -> [usize; 16] {
+    let g = r.geometry;
+    let p = g.phases;
+    [
+        0,
+        r.place,
+        r.h_next,
+        r.f_next,
+        r.maxval as usize,
+        r.sample_bytes,
+        g.w,
+        g.h,
+        g.rh,
+        g.rv,
+        g.cw,
+        g.ch,
+        phase_number(p[0]),
+        phase_number(p[1]),
+        phase_number(p[2]),
+        phase_number(p[3]),
+    ]
+}
+
+fn low(n: usize) -> u32 {
+    (n % 4_294_967_296) as u32
+}
+
+fn phase(n: usize) -> Phase {
+    Phase {
+        left: n >= 4_294_967_296,
+        f: test_support::float(low(n)),
+    }
+}
+
+// The reader of these numbers.
+fn reader_of(n: [usize; 16]) -> Reader {
+    let phases = [phase(n[12]), phase(n[13]), phase(n[14]), phase(n[15])];
+    let geometry = Geometry {
+        w: n[6],
+        h: n[7],
+        rh: n[8],
+        rv: n[9],
+        cw: n[10],
+        ch: n[11],
+        phases,
+    };
+    Reader {
+        geometry,
+        sample_bytes: n[5],
+        maxval: low(n[4]),
+        place: n[1],
+        h_next: n[2],
+        f_next: n[3],
+    }
+}
+
+// A line's value; ffffffff stands for the largest usize.
+fn value(text: &[u8]) -> usize {
+    let n = test_support::long(text, 26);
+    if n == 4_294_967_295 {
+        return 18_446_744_073_709_551_615;
+    }
+    test_support::word(text, 25) * 4_294_967_296 + n
+}
+
+// The reader that a line's call is handed: the one at hand, with one number changed where the line says which.
+fn handed(text: &[u8], r: Reader) -> Reader {
+    let change = test_support::word(text, 24);
+    let mut n = numbers(r);
+    if change < 16 {
+        n[change] = value(text);
+    }
+    reader_of(n)
+}
+
+fn sum_numbers(sum: u32, n: &[usize]) -> u32 {
+    let mut sum = sum;
+    let mut i = 0;
+    while i < n.len() {
+        sum = test_support::added(
+            test_support::added(sum, low(n[i] / 4_294_967_296)),
+            low(n[i]),
+        );
+        i += 1;
+    }
+    sum
+}
+
+fn open(text: &[u8], given: Reader, y: &[u8], cb: &[u8], cr: &[u8], s: &[f32]) -> Done {
+    let reply = reconstruction::open(
+        test_support::layout(text),
+        y,
+        test_support::size(text, 9),
+        cb,
+        test_support::size(text, 10),
+        cr,
+        test_support::size(text, 11),
+        s,
+        given,
+    );
+    done_by(reply, 0)
+}
+
+fn row_into(
+    text: &[u8],
+    given: Reader,
+    y: &[u8],
+    cb: &[u8],
+    cr: &[u8],
+    s: &mut [f32],
+    out_cb: &mut [f32],
+    out_cr: &mut [f32],
+) -> Done {
+    let reply = reconstruction::row(
+        given,
+        y,
+        test_support::size(text, 9),
+        cb,
+        test_support::size(text, 10),
+        cr,
+        test_support::size(text, 11),
+        test_support::size(text, 23),
+        s,
+        out_cb,
+        out_cr,
+    );
+    let sum = test_support::sum_floats(test_support::sum_floats(0, out_cb, 0), out_cr, 0);
+    done_by(reply, sum)
+}
+
+fn row(text: &[u8], given: Reader, y: &[u8], cb: &[u8], cr: &[u8], s: &mut [f32]) -> Done {
+    let mut out_cb = unwritten();
+    let mut out_cr = unwritten();
+    let room_cb = test_support::word(text, 21);
+    let room_cr = test_support::word(text, 22);
+    row_into(
+        text,
+        given,
+        y,
+        cb,
+        cr,
+        s,
+        &mut out_cb[..room_cb],
+        &mut out_cr[..room_cr],
+    )
+}
+
+fn seek(text: &[u8], given: Reader) -> Done {
+    done_by(reconstruction::seek(given, test_support::size(text, 23)), 0)
+}
+
+fn lent(text: &[u8], given: Reader, y: &[u8], cb: &[u8], cr: &[u8], s: &mut [f32]) -> Done {
+    match test_support::byte(text, 0) {
+        b'o' => open(text, given, y, cb, cr, s),
+        b's' => seek(text, given),
+        _ => row(text, given, y, cb, cr, s),
+    }
+}
+
+// A line's call, lent its planes; seek has no use for them.
+fn called(text: &[u8], given: Reader, s: &mut [f32]) -> Done {
+    let y = test_support::plane(text, 0);
+    let cb = test_support::plane(text, 1);
+    let cr = test_support::plane(text, 2);
+    let y_len = test_support::word(text, 12);
+    let cb_len = test_support::word(text, 13);
+    let cr_len = test_support::word(text, 14);
+    lent(text, given, &y[..y_len], &cb[..cb_len], &cr[..cr_len], s)
+}
+
+// Writes a call's line: the sum is of its outputs, of the reader that it gave, and of whether it was refused and changed scratch.
+fn write_call(done: Done, changed: bool) {
+    let n = numbers(done.reader);
+    let sum = sum_numbers(done.sum, &n);
+    let fault = if changed && done.answer != 0 { 1 } else { 0 };
+    test_support::write_line(done.answer, test_support::added(sum, fault));
+}
+
+// The reader after a line's call. That of a changed one is dropped.
+fn replayed(text: &[u8], reader: Reader, s: &mut [f32]) -> Reader {
+    let before = test_support::sum_floats(0, s, 0);
+    let done = called(text, handed(text, reader), s);
+    write_call(done, test_support::sum_floats(0, s, 0) != before);
+    if test_support::word(text, 24) != 0 {
+        return reader;
+    }
+    done.reader
+}
+
+// The same, lent the front of scratch.
+fn replay(text: &[u8], reader: Reader, s: &mut [f32]) -> Reader {
+    let space = image::least(test_support::long(text, 19), s.len());
+    replayed(text, reader, &mut s[..space])
+}
+
+fn replay_all(s: &mut [f32]) {
+    let mut text = [0u8; 142];
+    let mut reader = reader_of([0; 16]);
+    for _ in 0..65_536usize {
+        if io::read_full(STDIN_FILENO, &mut text) < 142 {
+            break;
+        }
+        reader = replay(&text, reader, s);
+    }
+}
+
+// Scratch before the first call.
+fn scratch() -> [f32; 200_000] {
+    [0.0 / 0.0; 200_000]
+}
+
+fn main() {
+    let mut s = scratch();
+    replay_all(&mut s);
+}

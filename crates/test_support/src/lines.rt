@@ -1,0 +1,27 @@
+// What a line of a list says of its call beyond single numbers.
+use crate::words::long;
+use crate::words::size;
+use crate::words::word;
+use image::Layout;
+
+// Inner: the layout that a line begins with: its first nine words.
+pub fn layout(text: &[u8]) -> Layout {
+    Layout {
+        w: size(text, 0),
+        h: size(text, 1),
+        rh: size(text, 2),
+        rv: size(text, 3),
+        cw: size(text, 4),
+        ch: size(text, 5),
+        sample_bytes: size(text, 6),
+        maxval: long(text, 7) as u32,
+    }
+}
+
+// Inner: how much of its scratch a line's call may touch: the 64·cw + 8·w floats that it needs, or none where its answer is a refusal.
+pub fn scratch_part(text: &[u8], answer: usize) -> usize {
+    if answer != 0 {
+        return 0;
+    }
+    64 * word(text, 4) + 8 * word(text, 0)
+}

@@ -1,0 +1,93 @@
+use mathlib.Core.Path.{refl}
+use Prim.Native.Nat.{_+_, _-_, _*_, _≤_}
+use native.Mathlib.Omega.{arith}
+use borrow.Author.Needs.{needs}
+use Rattle.laws.proofs.Lists.{Run, run-none, run-end}
+use Rattle.upsample.specs.Pairs.{sums, bothRow}
+use Rattle.upsample.proofs.Axis.{both-even, both-odd}
+use Rattle.upsample.proofs.Inside.{cells-to}
+use Rattle.laws.proofs.Lists.{run-two}
+use Rattle.upsample.proofs.both.inner_pairs.Statement.{statement}
+use Rattle.upsample.proofs.both.inner_pairs.Tie as tie
+
+abbrev Inv-loop : tie.InvT-loop
+Inv-loop plane sample-bytes near far cw out₀ at n k₀ out k = (k ≤ n) × Run out₀ out at (2 * k) (λ x. bothRow cw (sums sample-bytes plane near far) (2 + x))
+
+abbrev μ-loop : tie.MeasureT-loop
+μ-loop plane sample-bytes near far cw out₀ at n k₀ out k = n - k
+
+sub-n : tie.Need-sub-n Inv-loop μ-loop
+sub-n c = omega arith
+
+loop-holds : tie.Need-loop-holds Inv-loop μ-loop
+loop-holds c = (omega arith, run-none _ _ _)
+
+cell-sum-requires : tie.Need-cell-sum-requires Inv-loop μ-loop
+cell-sum-requires c κs = (cells-to (c .before .before .before .before .pre .0) (c .before .loop .k) (omega arith), cells-to (c .before .before .before .before .pre .1 .0) (c .before .loop .k) (omega arith))
+
+add-cell-sum : tie.Need-add-cell-sum Inv-loop μ-loop
+add-cell-sum c = omega arith
+
+cell-sum-requires-2 : tie.Need-cell-sum-requires-2 Inv-loop μ-loop
+cell-sum-requires-2 c κs = (cells-to (c .before .before .before .before .before .pre .0) (c .before .before .loop .k + 1) (omega arith), cells-to (c .before .before .before .before .before .pre .1 .0) (c .before .before .loop .k + 1) (omega arith))
+
+add-cell-sum-2 : tie.Need-add-cell-sum-2 Inv-loop μ-loop
+add-cell-sum-2 c = omega arith
+
+cell-sum-requires-3 : tie.Need-cell-sum-requires-3 Inv-loop μ-loop
+cell-sum-requires-3 c κs = (cells-to (c .before .before .before .before .before .before .pre .0) (c .before .before .before .loop .k + 2) (omega arith), cells-to (c .before .before .before .before .before .before .pre .1 .0) (c .before .before .before .loop .k + 2) (omega arith))
+
+mul-put-pair : tie.Need-mul-put-pair Inv-loop μ-loop
+mul-put-pair c = omega arith
+
+add-put-pair : tie.Need-add-put-pair Inv-loop μ-loop
+add-put-pair c = omega arith
+
+put-pair-requires : tie.Need-put-pair-requires Inv-loop μ-loop
+put-pair-requires c κs = search needs
+
+add-k : tie.Need-add-k Inv-loop μ-loop
+add-k c = omega arith
+
+loop-less : tie.Need-loop-less Inv-loop μ-loop
+loop-less c = omega arith
+
+loop-again : tie.Need-loop-again Inv-loop μ-loop
+loop-again c =
+    let l = c .before .before .before .before .before .before .before .before in
+    let a = l .before .before .before .args in
+    let v = sums (a .sample-bytes) (a .plane .now) (a .near) (a .far) in
+    let k = l .loop .k in (
+      omega arith,
+      run-two (l .loop .inv .1) _ (a .at + 2 * k) (2 * (k + 1)) _ _ (c .before .before .put-pair .ensures) refl (omega arith)
+          (omega (arith, both-even (a .cw) v k (k + 1) (2 + 2 * k) (omega arith) (omega arith), c .before .before .before .before .before .before .cell-sum .ensures .0, c .before .before .before .before .before .cell-sum2 .ensures .0))
+          (omega (arith, both-odd (a .cw) v (k + 1) (k + 2) (2 + (2 * k + 1)) (omega arith) (omega arith), c .before .before .before .before .before .cell-sum2 .ensures .0, c .before .before .before .before .cell-sum3 .ensures .0)),
+    )
+
+same-length : tie.Need-same-length Inv-loop μ-loop
+same-length c = c .before .loop .inv .1 .len
+
+returns : tie.Need-returns Inv-loop μ-loop
+returns c = run-end (c .before .loop .inv .1) _ (omega arith) (omega arith)
+
+pub inner-pairs-spec : {M : Type 1} → statement M
+inner-pairs-spec =
+    tie.close
+    (tie.spec
+    Inv-loop
+    μ-loop
+    sub-n
+    loop-holds
+    cell-sum-requires
+    add-cell-sum
+    cell-sum-requires-2
+    add-cell-sum-2
+    cell-sum-requires-3
+    mul-put-pair
+    add-put-pair
+    put-pair-requires
+    add-k
+    loop-less
+    loop-again
+    same-length
+    returns)

@@ -1,0 +1,49 @@
+// Whether a call is turned down. Nothing is written here.
+ghost use mathlib.Core.Path.{_≡_};
+ghost use Rattle.laws.specs.Refusals.{first};
+ghost use Rattle.image.specs.Samples.{Plane};
+ghost use Rattle.upsample.specs.Triangular.{badTriangular, ratios, triangularTests};
+use image::Layout;
+use laws::Answer;
+
+// Whether the ratios are rh and rv.
+fn ratios_are(layout: Layout, rh: usize, rv: usize) -> bool
+    ensures { λ r. ⌜ r ≡ ratios layout rh rv ⌝ }
+{
+    image::both(layout.rh == rh, layout.rv == rv)
+}
+
+// Refusal 6's test.
+fn bad_triangular(layout: Layout) -> bool
+    ensures { λ r. ⌜ r ≡ badTriangular layout ⌝ }
+{
+    let other = image::either(ratios_are(layout, 1, 2), ratios_are(layout, 2, 2));
+    let known = image::either(ratios_are(layout, 2, 1), other);
+    image::either(!known, image::both(layout.rh == 2, layout.cw <= 2))
+}
+
+// Inner: the lowest of refusals 2 to 7 and 10 that applies; `room` is the length of the output. It writes nothing.
+pub fn triangular_answer(layout: Layout, plane: &[u8], stride: usize, room: usize) -> Answer
+    ensures { λ r. ⌜ r ≡ first (triangularTests layout (record { bytes = now (plane .entry); stride = stride }) room) ⌝ }
+{
+    let answer = layout.answer(false);
+    if image::refused(answer) {
+        return answer;
+    }
+    if bad_triangular(layout) {
+        return Answer::Refused(6);
+    }
+    if image::bad_plane(
+        layout.sample_bytes,
+        layout.cw,
+        layout.ch,
+        stride,
+        plane.len(),
+    ) {
+        return Answer::Refused(7);
+    }
+    if room < layout.w * layout.h {
+        return Answer::Refused(10);
+    }
+    Answer::Accepted
+}

@@ -1,0 +1,163 @@
+// A row at ratio (2, 2): the vertical sums of two rows, across. A cell gives two outputs: 2i weighs in the cell before it, 2i + 1 the one after.
+ghost use mathlib.Core.Path.{_≡_};
+ghost use Prim.Native.Nat.{_+_, _-_, _*_, _/_, _≤_, _<_};
+ghost use lib.ListN.{length, set};
+ghost use Rattle.laws.specs.Lists.{put};
+ghost use Rattle.upsample.specs.Pairs.{RowInside, Doubled, bothRow, sums};
+use crate::axes::both_axes;
+use crate::weights::byte_sum;
+use crate::weights::cell_sum;
+
+// The two outputs of a cell.
+fn put_pair(out: &mut [u16], at: usize, before: u32, middle: u32, after: u32)
+    requires { ⌜ at + 2 ≤ length (now out) ⌝ }
+    requires { ⌜ (before ≤ 262140) × (middle ≤ 262140) × (after ≤ 262140) ⌝ }
+    ensures { λ _. ⌜ now (out .exit) ≡ set (set (now (out .entry)) at ((3 * middle + before + 8) / 16)) (at + 1) ((3 * middle + after + 7) / 16) ⌝ }
+{
+    out[at] = both_axes(middle, before, 8);
+    out[at + 1] = both_axes(middle, after, 7);
+}
+
+// The same in 16 bits, for sums of bytes.
+fn put_bytes(out: &mut [u16], at: usize, before: u16, middle: u16, after: u16)
+    requires { ⌜ at + 2 ≤ length (now out) ⌝ }
+    requires { ⌜ (before ≤ 1020) × (middle ≤ 1020) × (after ≤ 1020) ⌝ }
+    ensures { λ _. ⌜ now (out .exit) ≡ set (set (now (out .entry)) at ((3 * middle + before + 8) / 16)) (at + 1) ((3 * middle + after + 7) / 16) ⌝ }
+{
+    out[at] = (3 * middle + before + 8) >> 4;
+    out[at + 1] = (3 * middle + after + 7) >> 4;
+}
+
+// The outputs of the first cell, which is its own neighbour before.
+fn first_cell(
+    plane: &[u8],
+    sample_bytes: usize,
+    near: usize,
+    far: usize,
+    cw: usize,
+    out: &mut [u16],
+    at: usize,
+)
+    requires { ⌜ RowInside «sample_bytes» cw near (length (now plane)) ⌝ }
+    requires { ⌜ RowInside «sample_bytes» cw far (length (now plane)) ⌝ }
+    requires { ⌜ (2 < cw) × (at + 2 ≤ length (now out)) ⌝ }
+    ensures { λ _. ⌜ now (out .exit) ≡ put (now (out .entry)) at 2 (bothRow cw (sums «sample_bytes» (now (plane .entry)) near far)) ⌝ }
+{
+    let middle = cell_sum(plane, sample_bytes, near, far, 0);
+    let after = cell_sum(plane, sample_bytes, near, far, 1);
+    put_pair(out, at, middle, middle, after);
+}
+
+// The outputs of the cells between the first and the last.
+fn inner_pairs(
+    plane: &[u8],
+    sample_bytes: usize,
+    near: usize,
+    far: usize,
+    cw: usize,
+    out: &mut [u16],
+    at: usize,
+)
+    requires { ⌜ RowInside «sample_bytes» cw near (length (now plane)) ⌝ }
+    requires { ⌜ RowInside «sample_bytes» cw far (length (now plane)) ⌝ }
+    requires { ⌜ (2 < cw) × (at + 2 * (cw - 2) ≤ length (now out)) ⌝ }
+    ensures { λ _. ⌜ now (out .exit) ≡ put (now (out .entry)) at (2 * (cw - 2)) (λ x. bothRow cw (sums «sample_bytes» (now (plane .entry)) near far) (2 + x)) ⌝ }
+{
+    let n = cw - 2;
+    let mut k = 0;
+    while k < n {
+        let before = cell_sum(plane, sample_bytes, near, far, k);
+        let middle = cell_sum(plane, sample_bytes, near, far, k + 1);
+        let after = cell_sum(plane, sample_bytes, near, far, k + 2);
+        put_pair(out, at + 2 * k, before, middle, after);
+        k += 1;
+    }
+}
+
+// The outputs of the cells between the first and the last, for samples of one byte.
+fn inner_bytes(plane: &[u8], near: usize, far: usize, cw: usize, out: &mut [u16], at: usize)
+    requires { ⌜ RowInside 1 cw near (length (now plane)) ⌝ }
+    requires { ⌜ RowInside 1 cw far (length (now plane)) ⌝ }
+    requires { ⌜ (2 < cw) × (at + 2 * (cw - 2) ≤ length (now out)) ⌝ }
+    ensures { λ _. ⌜ now (out .exit) ≡ put (now (out .entry)) at (2 * (cw - 2)) (λ x. bothRow cw (sums 1 (now (plane .entry)) near far) (2 + x)) ⌝ }
+{
+    let n = cw - 2;
+    let mut k = 0;
+    while k < n {
+        let before = byte_sum(plane, near, far, k);
+        let middle = byte_sum(plane, near, far, k + 1);
+        let after = byte_sum(plane, near, far, k + 2);
+        put_bytes(out, at + 2 * k, before, middle, after);
+        k += 1;
+    }
+}
+
+// The same for either size of sample.
+fn inner_cells(
+    plane: &[u8],
+    sample_bytes: usize,
+    near: usize,
+    far: usize,
+    cw: usize,
+    out: &mut [u16],
+    at: usize,
+)
+    requires { ⌜ RowInside «sample_bytes» cw near (length (now plane)) ⌝ }
+    requires { ⌜ RowInside «sample_bytes» cw far (length (now plane)) ⌝ }
+    requires { ⌜ (2 < cw) × (at + 2 * (cw - 2) ≤ length (now out)) ⌝ }
+    ensures { λ _. ⌜ now (out .exit) ≡ put (now (out .entry)) at (2 * (cw - 2)) (λ x. bothRow cw (sums «sample_bytes» (now (plane .entry)) near far) (2 + x)) ⌝ }
+{
+    if sample_bytes == 1 {
+        inner_bytes(plane, near, far, cw, out, at);
+        return;
+    }
+    inner_pairs(plane, 2, near, far, cw, out, at);
+}
+
+// The n outputs of the last cell, which is its own neighbour after: one where the row's width is odd.
+fn last_cell(
+    plane: &[u8],
+    sample_bytes: usize,
+    near: usize,
+    far: usize,
+    cw: usize,
+    n: usize,
+    out: &mut [u16],
+    at: usize,
+)
+    requires { ⌜ RowInside «sample_bytes» cw near (length (now plane)) ⌝ }
+    requires { ⌜ RowInside «sample_bytes» cw far (length (now plane)) ⌝ }
+    requires { ⌜ (2 < cw) × (1 ≤ n) × (n ≤ 2) × (at + n ≤ length (now out)) ⌝ }
+    ensures { λ _. ⌜ now (out .exit) ≡ put (now (out .entry)) at n (λ x. bothRow cw (sums «sample_bytes» (now (plane .entry)) near far) (2 * (cw - 1) + x)) ⌝ }
+{
+    let before = cell_sum(plane, sample_bytes, near, far, cw - 2);
+    let last = cell_sum(plane, sample_bytes, near, far, cw - 1);
+    if n == 1 {
+        out[at] = both_axes(last, before, 8);
+        return;
+    }
+    put_pair(out, at, before, last, last);
+}
+
+// Inner: the w values of the row.
+pub fn both_row(
+    plane: &[u8],
+    sample_bytes: usize,
+    near: usize,
+    far: usize,
+    cw: usize,
+    w: usize,
+    out: &mut [u16],
+    at: usize,
+)
+    requires { ⌜ RowInside «sample_bytes» cw near (length (now plane)) ⌝ }
+    requires { ⌜ RowInside «sample_bytes» cw far (length (now plane)) ⌝ }
+    requires { ⌜ Doubled cw w ⌝ }
+    requires { ⌜ at + w ≤ length (now out) ⌝ }
+    ensures { λ _. ⌜ now (out .exit) ≡ put (now (out .entry)) at w (bothRow cw (sums «sample_bytes» (now (plane .entry)) near far)) ⌝ }
+{
+    first_cell(plane, sample_bytes, near, far, cw, out, at);
+    inner_cells(plane, sample_bytes, near, far, cw, out, at + 2);
+    let last = 2 * (cw - 1);
+    last_cell(plane, sample_bytes, near, far, cw, w - last, out, at + last);
+}
