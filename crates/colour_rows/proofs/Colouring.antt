@@ -17,8 +17,8 @@ use Rattle.image.specs.Scratch.{cellAt}
 use Rattle.kernels.specs.Kernels.{exact255, exactAt, fixed255}
 use Rattle.kernels.specs.Pixels.{exactColour}
 use Rattle.colour_rows.specs.Colours.{limit256, chroma256, wholeChroma, colourBy, rowColour}
-use Rattle.colour_rows.specs.declared.kernel.YcbcrKernel.{YcbcrKernel}
-use Rattle.colour_rows.specs.declared.kernel.YcbcrKernel.the-variants.{Exact, FixedPoint16}
+use Rattle.kernels.specs.declared.kernel.YcbcrKernel.{YcbcrKernel}
+use Rattle.kernels.specs.declared.kernel.YcbcrKernel.the-variants.{Exact, FixedPoint16}
 
 module _ (y : ℕ) (b r : Float) {cb cr : ℕ} where
   -- the exact kernel at maxval 255

@@ -12,8 +12,8 @@ use Rattle.image.specs.Scratch.{cellAt}
 use Rattle.kernels.specs.Kernels.{Colour, fixed255}
 use Rattle.kernels.specs.Pixels.{exactColour}
 use Rattle.kernel_blocks.specs.Stores.{pixels}
-use Rattle.colour_rows.specs.declared.kernel.YcbcrKernel.{YcbcrKernel}
-use Rattle.colour_rows.specs.declared.kernel.YcbcrKernel.the-variants.{Exact, FixedPoint16}
+use Rattle.kernels.specs.declared.kernel.YcbcrKernel.{YcbcrKernel}
+use Rattle.kernels.specs.declared.kernel.YcbcrKernel.the-variants.{Exact, FixedPoint16}
 
 -- "limited to −32,768..32,768" round 128 × 256 at maxval 255; "For maxval other than 255 the fill rounds v × 256 up to 16,776,960"
 unfoldable pub limit256 : ℕ → ℕ

@@ -4,8 +4,8 @@ use Prim.Native.Nat.{ℕ, _*_, _≤_}
 use Rattle.image.specs.declared.layout.Layout.{Layout}
 use Rattle.image.specs.Samples.{Plane}
 use Rattle.colour_rows.specs.Gathered.{LumaRow}
-use Rattle.colour_rows.specs.declared.kernel.YcbcrKernel.{YcbcrKernel}
-use Rattle.colour_rows.specs.declared.kernel.YcbcrKernel.the-variants.{Exact}
+use Rattle.kernels.specs.declared.kernel.YcbcrKernel.{YcbcrKernel}
+use Rattle.kernels.specs.declared.kernel.YcbcrKernel.the-variants.{Exact}
 
 -- a row of luma, and scratch, `space` values long, that holds the two finished rows of chroma
 pub record RowLent (l : Layout) (p : Plane) (row space : ℕ) : Type 0 where

@@ -6,14 +6,14 @@ ghost use Rattle.image.specs.Scratch.{cellAt};
 ghost use Rattle.kernel_blocks.specs.Stores.{blockPixel};
 ghost use Rattle.colour_rows.specs.Colours.{colourBy, rowColour, colourRow};
 ghost use Rattle.colour_rows.specs.Lent.{RowLent, Blocked};
-ghost use Rattle.colour_rows.specs.declared.kernel.YcbcrKernel.the-variants.{Exact, FixedPoint16};
-use crate::kernel::YcbcrKernel;
+ghost use Rattle.kernels.specs.declared.kernel.YcbcrKernel.the-variants.{Exact, FixedPoint16};
 use crate::samples::chroma16;
 use crate::samples::luma16;
 use crate::samples::whole16;
 use crate::samples::wide16;
 use image::Layout;
 use kernel_blocks::Block;
+use kernels::YcbcrKernel;
 
 // Sixteen pixels by the exact kernel at maxval 255, chroma from column x on.
 fn exact16(y: [u16; Block::LEN], s: &[f32], w: usize, x: usize) -> [[u8; Block::LEN]; 3]
@@ -73,7 +73,7 @@ fn blocks3(
 {
     let mut done = 0;
     while done < layout.w {
-        let x = image::least(done, layout.w - Block::LEN);
+        let x = laws::least(done, layout.w - Block::LEN);
         let rows = block_at(layout, kernel, plane, stride, row, s, x);
         kernel_blocks::put_block(out, at + x * 3, 3, rows);
         done = x + Block::LEN;
@@ -98,7 +98,7 @@ fn blocks4(
 {
     let mut done = 0;
     while done < layout.w {
-        let x = image::least(done, layout.w - Block::LEN);
+        let x = laws::least(done, layout.w - Block::LEN);
         let rows = block_at(layout, kernel, plane, stride, row, s, x);
         kernel_blocks::put_words(out, at + x * 4, low, rows);
         done = x + Block::LEN;

@@ -8,13 +8,13 @@ ghost use Rattle.fround.specs.Rounding.{Rounded};
 ghost use Rattle.kernels.specs.Forms.{colourOf};
 ghost use Rattle.colour_rows.specs.Colours.{colourBy, colourRow};
 ghost use Rattle.colour_rows.specs.Lent.{RowLent};
-ghost use Rattle.colour_rows.specs.declared.kernel.YcbcrKernel.the-variants.{Exact, FixedPoint16};
-use crate::kernel::YcbcrKernel;
+ghost use Rattle.kernels.specs.declared.kernel.YcbcrKernel.the-variants.{Exact, FixedPoint16};
 use crate::samples::chroma_at;
 use crate::samples::luma_at;
 use crate::samples::whole_at;
 use image::Layout;
 use kernels::Rgb;
+use kernels::YcbcrKernel;
 
 // A pixel by the exact kernel at maxval 255.
 fn exact_pixel(y: u32, cb: f32, cr: f32) -> Rgb

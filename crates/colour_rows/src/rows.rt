@@ -6,10 +6,10 @@ ghost use lib.ListN.{length};
 ghost use Rattle.colour_rows.specs.Colours.{colourRow};
 ghost use Rattle.colour_rows.specs.Lent.{RowLent, Blocked};
 use crate::blocks::block_row;
-use crate::kernel::YcbcrKernel;
 use crate::pixels::plain_row;
 use image::Layout;
 use kernel_blocks::Block;
+use kernels::YcbcrKernel;
 
 // Whether a row goes by blocks: it is as wide as one, and its kernel has a block.
 fn by_blocks(layout: Layout, kernel: YcbcrKernel) -> bool

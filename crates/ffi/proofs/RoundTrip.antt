@@ -7,7 +7,7 @@ use native.Mathlib.Omega.{arith}
 use lib.Dec.{eqb, ltb}
 use lib.ListN.{length, getD}
 use lib.Ieee.{nan}
-use Rattle.taps.specs.declared.positions.Phase.{Phase}
+use Rattle.taps.specs.declared.phases.Phase.{Phase}
 use Rattle.guided.specs.declared.state.Reader.{Reader}
 use Rattle.guided.specs.Calls.{phaseIn}
 use Rattle.ffi.specs.Types.{asPhase, chromaPhase, strangePhases, asReader, chromaReader}

@@ -4,16 +4,16 @@ use mathlib.Core.Bool.{Bool, true, false, _||_}
 use mathlib.Core.List.{List}
 use Prim.Native.Nat.{ℕ}
 use lib.Dec.{eqb, ltb}
-use Rattle.laws.specs.declared.Answer.{Answer}
+use Rattle.laws.specs.declared.answers.Answer.{Answer}
 use Rattle.image.specs.Samples.{Plane}
 use Rattle.image.specs.Picture.{Planes}
 use Rattle.guided.specs.declared.state.Reply.{Reply}
 use Rattle.kernels.specs.declared.pixel.Pixel.{Pixel}
 use Rattle.kernels.specs.declared.pixel.Pixel.the-variants as P
-use Rattle.colour_rows.specs.declared.kernel.YcbcrKernel.{YcbcrKernel}
-use Rattle.colour_rows.specs.declared.kernel.YcbcrKernel.the-variants.{Exact, FixedPoint16}
-use Rattle.fill.specs.declared.answer.ChromaUpsampling.{ChromaUpsampling}
-use Rattle.fill.specs.declared.answer.ChromaUpsampling.the-variants.{Linear, LumaGuided}
+use Rattle.kernels.specs.declared.kernel.YcbcrKernel.{YcbcrKernel}
+use Rattle.kernels.specs.declared.kernel.YcbcrKernel.the-variants.{Exact, FixedPoint16}
+use Rattle.fill.specs.declared.options.ChromaUpsampling.{ChromaUpsampling}
+use Rattle.fill.specs.declared.options.ChromaUpsampling.the-variants.{Linear, LumaGuided}
 use Rattle.picture.specs.declared.Outcome.{Outcome}
 use Rattle.picture.specs.declared.Outcome.the-variants.{Written, Refused}
 use Rattle.ffi.specs.declared.types.ChromaStrides.{ChromaStrides}

@@ -7,8 +7,8 @@ use crate::types::ChromaLayout;
 use crate::types::ChromaStrides;
 use crate::types::number_of;
 use crate::types::to_layout;
-use colour_rows::YcbcrKernel;
 use fill::ChromaUpsampling;
+use kernels::YcbcrKernel;
 
 fn to_upsampling(n: u32) -> ChromaUpsampling
     ensures { λ r. ⌜ r ≡ asUpsampling n ⌝ }
@@ -44,7 +44,7 @@ pub extern "C" fn chroma_fill(
 ) -> u32
     ensures { λ r. ⌜ Filled upsampling kernel ((now (s .exit) ≡ now (s .entry)) × (now (out .exit) ≡ now (out .entry))) (λ u k a. FillGiven (record { layout = asLayout layout; planes = lentPlanes (now (y .entry)) (now (cb .entry)) (now (cr .entry)) strides; upsampling = u; kernel = k; size = size; scratch = now (s .entry); out = now (out .entry) }) a (now (s .exit)) (now (out .exit))) r ⌝ }
 {
-    if image::either(1 < upsampling, 1 < kernel) {
+    if laws::either(1 < upsampling, 1 < kernel) {
         return 255;
     }
     number_of(fill::fill(

@@ -13,7 +13,7 @@ pub fn reply_to(handed: ChromaReader, reply: Reply) -> ChromaReply
 {
     let answer = reply.answer;
     let refusal = number_of(answer);
-    if image::refused(answer) {
+    if laws::refused(answer) {
         return ChromaReply {
             refusal,
             reader: handed,

@@ -4,8 +4,8 @@ ghost use Rattle.ffi.specs.Types.{asLayout, asPhase, chromaPhase, asRead
 use guided::Geometry;
 use guided::Reader;
 use image::Layout;
-use image::either;
 use laws::Answer;
+use laws::either;
 use taps::Phase;
 
 // A picture's numbers.

@@ -4,7 +4,7 @@ use mathlib.Core.List.{_++_}
 use Prim.Native.Nat.{_*_}
 use lib.ListN.{length}
 use borrow.Author.Tests.{ltb-false}
-use Rattle.laws.specs.declared.Answer.the-variants.{Accepted}
+use Rattle.laws.specs.declared.answers.Answer.the-variants.{Accepted}
 use Rattle.laws.specs.Refusals.{first}
 use Rattle.laws.proofs.Refusals.{accepted-failed, failed-both}
 use Rattle.image.specs.Tests.{layoutTests}

@@ -8,7 +8,7 @@ use native.Mathlib.Nat.{eq-or-lt-of-le, le-of-suc-le-suc}
 use native.Mathlib.Omega.{arith}
 use lib.ListN.{length, getD}
 use lib.Ieee.{Float}
-use Rattle.laws.specs.declared.Answer.{Answer}
+use Rattle.laws.specs.declared.answers.Answer.{Answer}
 use Rattle.laws.specs.Refusals.{accepted}
 use Rattle.laws.proofs.Refusals.{accepted-is}
 use Rattle.laws.proofs.Rows.{row-fits}

@@ -22,8 +22,8 @@ use Rattle.guided.specs.Scratch.{finishedAt}
 use Rattle.guided.proofs.Held.{Has}
 use Rattle.guided_rows.specs.CatchingUp.{guidedStep, guidedRows}
 use Rattle.guided_rows.proofs.GuidedRows.{length-step, rows-finished}
-use Rattle.fill.specs.declared.answer.ChromaUpsampling.{ChromaUpsampling}
-use Rattle.fill.specs.declared.answer.ChromaUpsampling.the-variants.{Linear, LumaGuided}
+use Rattle.fill.specs.declared.options.ChromaUpsampling.{ChromaUpsampling}
+use Rattle.fill.specs.declared.options.ChromaUpsampling.the-variants.{Linear, LumaGuided}
 use Rattle.fill.specs.Fill.{chromaBy, linearPair, linearRows, fillScratch}
 use Rattle.fill.specs.Steps.{fillStep}
 

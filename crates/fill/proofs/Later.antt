@@ -7,7 +7,7 @@ use lib.Dec.{ltb}
 use lib.ListN.{length}
 use borrow.Author.Tests.{ltb-false}
 use Rattle.laws.specs.Refusals.{Test}
-use Rattle.image.specs.Tests.{outsideOf}
+use Rattle.laws.specs.Numbers.{outsideOf}
 use Rattle.image.specs.Picture.{badPlanes}
 use Rattle.image.proofs.Layouts.{neither}
 use Rattle.image.specs.Scratch.{scratchNeed}

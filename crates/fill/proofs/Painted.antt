@@ -18,9 +18,9 @@ use Rattle.guided.specs.Scratch.{finishedAt}
 use Rattle.kernels.specs.Kernels.{Colour}
 use Rattle.kernel_blocks.specs.Stores.{pixels}
 use Rattle.kernel_blocks.proofs.Puts.{length-pixels, pixels-same}
-use Rattle.colour_rows.specs.declared.kernel.YcbcrKernel.{YcbcrKernel}
+use Rattle.kernels.specs.declared.kernel.YcbcrKernel.{YcbcrKernel}
 use Rattle.colour_rows.specs.Colours.{rowColour, colourRow}
-use Rattle.fill.specs.declared.answer.ChromaUpsampling.{ChromaUpsampling}
+use Rattle.fill.specs.declared.options.ChromaUpsampling.{ChromaUpsampling}
 use Rattle.fill.specs.Fill.{fillColour, pixelRows}
 use Rattle.fill.specs.Steps.{fillStep, FillLent}
 use Rattle.fill.proofs.Chroma.{Scratched, chroma-is}

@@ -5,7 +5,7 @@ use mathlib.Core.List.{List, [], _∷_}
 use Prim.Native.Nat.{ℕ, zero, suc, _+_, _*_}
 use lib.Ieee.{Float}
 use Rattle.laws.specs.Refusals.{first, accepted}
-use Rattle.laws.specs.declared.Answer.{Answer}
+use Rattle.laws.specs.declared.answers.Answer.{Answer}
 use Rattle.image.specs.declared.layout.Layout.{Layout}
 use Rattle.image.specs.Picture.{Chroma, Cb, Cr, Picture, Planes, pictureOf}
 use Rattle.linear.specs.Linear.{linearSample, linearRow}
@@ -13,11 +13,11 @@ use Rattle.guided.specs.Guided.{guidedSample}
 use Rattle.guided_rows.specs.CatchingUp.{guidedRows}
 use Rattle.kernels.specs.Kernels.{Colour}
 use Rattle.kernel_blocks.specs.Stores.{pixels}
-use Rattle.colour_rows.specs.declared.kernel.YcbcrKernel.{YcbcrKernel}
+use Rattle.kernels.specs.declared.kernel.YcbcrKernel.{YcbcrKernel}
 use Rattle.colour_rows.specs.Colours.{colourBy}
 use Rattle.fill.specs.Tests.{FillCall, fillTests}
-use Rattle.fill.specs.declared.answer.ChromaUpsampling.{ChromaUpsampling}
-use Rattle.fill.specs.declared.answer.ChromaUpsampling.the-variants.{Linear, LumaGuided}
+use Rattle.fill.specs.declared.options.ChromaUpsampling.{ChromaUpsampling}
+use Rattle.fill.specs.declared.options.ChromaUpsampling.the-variants.{Linear, LumaGuided}
 
 -- the chroma of column x of row y, "linear or guided"
 unfoldable pub chromaBy : ChromaUpsampling → Picture → Chroma → ℕ → ℕ → Float

@@ -8,8 +8,8 @@ use Rattle.image.specs.Picture.{Cb, Cr, Planes, pictureOf}
 use Rattle.image.specs.Scratch.{scratchNeed}
 use Rattle.guided_window.specs.Lent.{Lent}
 use Rattle.guided_rows.specs.CatchingUp.{guidedStep}
-use Rattle.fill.specs.declared.answer.ChromaUpsampling.{ChromaUpsampling}
-use Rattle.fill.specs.declared.answer.ChromaUpsampling.the-variants.{Linear, LumaGuided}
+use Rattle.fill.specs.declared.options.ChromaUpsampling.{ChromaUpsampling}
+use Rattle.fill.specs.declared.options.ChromaUpsampling.the-variants.{Linear, LumaGuided}
 use Rattle.fill.specs.Fill.{linearPair}
 
 -- scratch after row a + n of the rows from a on, from scratch before it: `fillScratch`'s step

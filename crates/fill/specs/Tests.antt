@@ -7,12 +7,13 @@ use lib.ListN.{length}
 use lib.Ieee.{Float}
 use Rattle.laws.specs.Refusals.{Test}
 use Rattle.image.specs.declared.layout.Layout.{Layout}
-use Rattle.image.specs.Tests.{outsideOf, layoutTests}
+use Rattle.laws.specs.Numbers.{outsideOf}
+use Rattle.image.specs.Tests.{layoutTests}
 use Rattle.image.specs.Picture.{Planes, badPlanes}
 use Rattle.image.specs.Scratch.{scratchNeed}
-use Rattle.colour_rows.specs.declared.kernel.YcbcrKernel.{YcbcrKernel}
-use Rattle.colour_rows.specs.declared.kernel.YcbcrKernel.the-variants.{Exact, FixedPoint16}
-use Rattle.fill.specs.declared.answer.ChromaUpsampling.{ChromaUpsampling}
+use Rattle.kernels.specs.declared.kernel.YcbcrKernel.{YcbcrKernel}
+use Rattle.kernels.specs.declared.kernel.YcbcrKernel.the-variants.{Exact, FixedPoint16}
+use Rattle.fill.specs.declared.options.ChromaUpsampling.{ChromaUpsampling}
 
 -- what a fill is handed
 pub record FillCall : Type 0 where

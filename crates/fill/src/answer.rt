@@ -2,15 +2,10 @@
 ghost use mathlib.Core.Path.{_≡_};
 ghost use Rattle.laws.specs.Refusals.{first};
 ghost use Rattle.fill.specs.Tests.{isFixed, fillTests};
-use colour_rows::YcbcrKernel;
+use crate::options::ChromaUpsampling;
 use image::Layout;
+use kernels::YcbcrKernel;
 use laws::Answer;
-
-// How chroma is reconstructed.
-pub enum ChromaUpsampling {
-    Linear,
-    LumaGuided,
-}
 
 fn is_fixed(kernel: YcbcrKernel) -> bool
     ensures { λ r. ⌜ r ≡ isFixed kernel ⌝ }
@@ -39,13 +34,13 @@ pub fn fill_answer(
     ensures { λ r. ⌜ r ≡ first (fillTests (record { layout = layout; planes = record { y = record { bytes = now (y .entry); stride = «y_stride» }; cb = record { bytes = now (cb .entry); stride = «cb_stride» }; cr = record { bytes = now (cr .entry); stride = «cr_stride» } }; upsampling = upsampling; kernel = kernel; size = size; scratch = now (s .entry); out = now (out .entry) })) ⌝ }
 {
     let early = layout.answer(is_fixed(kernel));
-    if image::refused(early) {
+    if laws::refused(early) {
         return early;
     }
     if image::bad_planes(layout, y, y_stride, cb, cb_stride, cr, cr_stride) {
         return Answer::Refused(7);
     }
-    if image::outside(3, 4, size) {
+    if laws::outside(3, 4, size) {
         return Answer::Refused(8);
     }
     if s.len() < image::scratch_need(layout) {

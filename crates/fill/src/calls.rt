@@ -1,10 +1,10 @@
 // Fill to RGB: a whole picture's colour from its planes, chroma linear or guided by luma. The original's fill_ycbcr_interp on one thread.
 ghost use Rattle.fill.specs.Fill.{FillGiven};
-use crate::answer::ChromaUpsampling;
 use crate::answer::fill_answer;
+use crate::options::ChromaUpsampling;
 use crate::rows::fill_rows;
-use colour_rows::YcbcrKernel;
 use image::Layout;
+use kernels::YcbcrKernel;
 use laws::Answer;
 
 // The picture's w by h pixels into out, `size` bytes each, red, green and blue first; a fourth byte keeps what it held. Refusals 2, 3, 4, 5, 7, 8, 9 and 10.
@@ -39,7 +39,7 @@ pub fn fill(
         s,
         out,
     );
-    if image::refused(answer) {
+    if laws::refused(answer) {
         return answer;
     }
     fill_rows(

@@ -1,7 +1,8 @@
 // fill.
 mod answer;
 mod calls;
+mod options;
 mod rows;
 
-pub use answer::ChromaUpsampling;
 pub use calls::fill;
+pub use options::ChromaUpsampling;

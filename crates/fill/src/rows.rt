@@ -10,9 +10,9 @@ ghost use Rattle.guided_window.specs.Lent.{Lent};
 ghost use Rattle.colour_rows.specs.Colours.{colourRow};
 ghost use Rattle.fill.specs.Fill.{fillColour, pixelRows, fillScratch};
 ghost use Rattle.fill.specs.Steps.{fillStep, FillLent};
-use crate::answer::ChromaUpsampling;
-use colour_rows::YcbcrKernel;
+use crate::options::ChromaUpsampling;
 use image::Layout;
+use kernels::YcbcrKernel;
 
 // A row of linear chroma into scratch: Cb's at 0, Cr's at w.
 fn linear_pair(

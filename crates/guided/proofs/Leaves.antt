@@ -9,7 +9,7 @@ use lib.Dec.{ltb}
 use lib.ListN.{length, replicate, length-replicate}
 use lib.Ieee.{nan}
 use borrow.Author.Tests.{le-ltb, lt-leb}
-use Rattle.laws.specs.declared.Answer.the-variants.{Accepted}
+use Rattle.laws.specs.declared.answers.Answer.the-variants.{Accepted}
 use Rattle.laws.specs.Refusals.{first, accepted}
 use Rattle.laws.proofs.Refusals.{accepted-failed, accepted-is, failed-accepted, passed-early}
 use Rattle.image.specs.declared.layout.Layout.{Layout}

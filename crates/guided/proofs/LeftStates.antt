@@ -18,11 +18,12 @@ use Rattle.image.specs.Tests.{layoutTests}
 use Rattle.image.proofs.Layouts.{sound}
 use Rattle.fround.specs.Rounding.{sameFloat}
 use Rattle.fround.proofs.Laws.{same-float}
-use Rattle.taps.specs.declared.positions.Phase.{Phase}
+use Rattle.taps.specs.declared.phases.Phase.{Phase}
 use Rattle.taps.specs.Taps.{fractionOf, phaseOf, pickPhase}
 use Rattle.guided.specs.declared.geometry.Geometry.{Geometry}
 use Rattle.guided.specs.declared.state.Reader.{Reader}
-use Rattle.guided.specs.Calls.{phaseAt, phasesOf, geometryOf, layoutOf, freshH, freshF, doneH, doneF, readerAt, opened, sought, rowed, samePhase, phaseIn, badPhases, badCounters, badState}
+use Rattle.taps.specs.Taps.{phaseAt, phasesOf}
+use Rattle.guided.specs.Calls.{geometryOf, layoutOf, freshH, freshF, doneH, doneF, readerAt, opened, sought, rowed, samePhase, phaseIn, badPhases, badCounters, badState}
 use Rattle.guided.proofs.Acceptance.{state-tests, fine, both}
 
 -- ---- what open, seek and row leave passes

@@ -7,7 +7,7 @@ use lib.Dec.{T, ltb, ltb→lt, lit<}
 use lib.ListN.{length, getD, replicate}
 use lib.Ieee.{nan, add, sub, sum, neg, mul, div, round, size, span, climb, units, odd, lt, ofInt}
 use lib.Count.{trailingZeros}
-use Rattle.laws.specs.declared.Answer.the-variants.{Accepted, Refused}
+use Rattle.laws.specs.declared.answers.Answer.the-variants.{Accepted, Refused}
 use Rattle.laws.specs.Floats.{f32}
 use Rattle.laws.specs.Lists.{table}
 use Rattle.laws.specs.Refusals.{first, accepted}

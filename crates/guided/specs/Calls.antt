@@ -6,7 +6,7 @@ use Prim.Native.Nat.{ℕ, _+_, _-_, _*_, _/_, _<_, min, max}
 use lib.Dec.{leb, ltb, eqb}
 use lib.ListN.{length, getD}
 use lib.Ieee.{Float, nan}
-use Rattle.laws.specs.declared.Answer.{Answer}
+use Rattle.laws.specs.declared.answers.Answer.{Answer}
 use Rattle.laws.specs.Floats.{f32}
 use Rattle.laws.specs.Lists.{put}
 use Rattle.laws.specs.Refusals.{Test, first, accepted}
@@ -15,8 +15,8 @@ use Rattle.image.specs.Tests.{layoutTests}
 use Rattle.image.specs.Samples.{Plane}
 use Rattle.image.specs.Picture.{Chroma, Cb, Cr, Picture, Planes, chromaPlane, pictureOf, badPlanes}
 use Rattle.fround.specs.Rounding.{sameFloat}
-use Rattle.taps.specs.declared.positions.Phase.{Phase}
-use Rattle.taps.specs.Taps.{tapOf, phaseOf, pickPhase}
+use Rattle.taps.specs.declared.phases.Phase.{Phase}
+use Rattle.taps.specs.Taps.{tapOf, phaseAt, phasesOf}
 use Rattle.image.specs.Scratch.{scratchNeed, cellAt}
 use Rattle.guided.specs.declared.geometry.Geometry.{Geometry}
 use Rattle.guided.specs.declared.state.Reader.{Reader}
@@ -24,13 +24,6 @@ use Rattle.guided.specs.declared.state.Reply.{Reply}
 use Rattle.guided.specs.Scratch.{rowSteps, finishedAt}
 
 -- ---- states
-
--- "The geometry keeps the phase fractions of its ratio, four at most": those past the ratio are not left, 0
-unfoldable pub phaseAt : ℕ → ℕ → Phase
-phaseAt r k = pickPhase (leb r k) (record { left = false; f = f32 0 }) (phaseOf r k)
-
-unfoldable pub phasesOf : ℕ → List Phase
-phasesOf r = phaseAt r 0 ∷ phaseAt r 1 ∷ phaseAt r 2 ∷ phaseAt r 3 ∷ []
 
 -- a layout as geometry, and back
 unfoldable pub geometryOf : Layout → Geometry

@@ -9,7 +9,7 @@ use Rattle.image.specs.declared.layout.Layout.{Layout}
 use Rattle.image.specs.Picture.{Chroma, Picture}
 use Rattle.fround.specs.Rounding.{fmin, fmax}
 use Rattle.taps.specs.declared.positions.Tap.{Tap}
-use Rattle.taps.specs.declared.positions.Phase.{Phase}
+use Rattle.taps.specs.declared.phases.Phase.{Phase}
 use Rattle.taps.specs.Taps.{lerpOf, tapOf, phaseOf}
 
 -- f 0 + .. + f (n - 1)

@@ -104,7 +104,7 @@ pub fn cell_run(
 {
     let mut done = 0;
     while done < n {
-        let i = image::least(done, n - Lanes::PIXELS);
+        let i = laws::least(done, n - Lanes::PIXELS);
         put_block(s, dst + i, cell_block(plane, top + 2 * i, stride, m));
         done = i + Lanes::PIXELS;
     }

@@ -59,8 +59,8 @@ fn cell_luma(layout: Layout, plane: &[u8], stride: usize, j: usize, i: usize) ->
     let rv = layout.rv;
     let x = i * rh;
     let y = j * rv;
-    let nx = image::least(rh, layout.w - x);
-    let ny = image::least(rv, layout.h - y);
+    let nx = laws::least(rh, layout.w - x);
+    let ny = laws::least(rv, layout.h - y);
     mean_of(cell_sum(layout, plane, stride, x, y, nx, ny), nx * ny)
 }
 
@@ -111,7 +111,7 @@ fn luma_head(
     if n < Lanes::PIXELS {
         return 0;
     }
-    let m = image::least(rv, layout.h - y);
+    let m = laws::least(rv, layout.h - y);
     cell_run(plane, y * stride, stride, m, n, s, dst);
     n
 }

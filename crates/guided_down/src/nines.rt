@@ -106,7 +106,7 @@ pub fn byte_run(
     }
     let mut done = 0;
     while done < n {
-        let i = image::least(done, n - Cells::BLOCK);
+        let i = laws::least(done, n - Cells::BLOCK);
         let block = byte_block(plane, greatest, u + i, m + i, d + i);
         put_floats(s, dst + i, block);
         done = i + Cells::BLOCK;

@@ -120,7 +120,7 @@ fn slope_cells(s: &mut [f32], t: Stats, eps: f32, n: usize, dst: usize)
     }
     let mut done = 0;
     while done < n {
-        let i = image::least(done, n - 8);
+        let i = laws::least(done, n - 8);
         let v = slope_eight(s, t, eps, i);
         store_eight(s, dst + i, v);
         done = i + 8;

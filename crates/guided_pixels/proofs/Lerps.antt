@@ -6,7 +6,7 @@ use lib.Ieee.{Float}
 use Rattle.image.specs.declared.layout.Layout.{Layout}
 use Rattle.image.specs.Tests.{Sound}
 use Rattle.image.specs.Samples.{Plane}
-use Rattle.taps.specs.declared.positions.Phase.{Phase}
+use Rattle.taps.specs.declared.phases.Phase.{Phase}
 use Rattle.taps.specs.Taps.{phaseOf}
 use Rattle.guided.specs.Guided.{acrossTo}
 use Rattle.guided.proofs.Taken.{own-column}

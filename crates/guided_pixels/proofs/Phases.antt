@@ -13,10 +13,10 @@ use Rattle.laws.specs.Floats.{f32}
 use Rattle.laws.proofs.Rows.{next-row, row-fits}
 use Rattle.image.specs.declared.layout.Layout.{Layout}
 use Rattle.image.specs.Tests.{Sound}
-use Rattle.taps.specs.declared.positions.Phase.{Phase}
+use Rattle.taps.specs.declared.phases.Phase.{Phase}
 use Rattle.taps.specs.Taps.{lerpOf, phaseOf}
 use Rattle.guided.specs.Guided.{acrossTo}
-use Rattle.guided.specs.Calls.{phaseAt, phasesOf}
+use Rattle.taps.specs.Taps.{phaseAt, phasesOf}
 use Rattle.image.proofs.Layouts.{begins}
 use Rattle.laws.proofs.Counts.{none-plus, part-rest}
 use Rattle.guided_pixels.specs.Across.{phased}

@@ -2,7 +2,7 @@
 use mathlib.Core.Bool.{cond}
 use Prim.Native.Nat.{ℕ, _+_, _-_, min}
 use lib.Ieee.{Float}
-use Rattle.taps.specs.declared.positions.Phase.{Phase}
+use Rattle.taps.specs.declared.phases.Phase.{Phase}
 use Rattle.taps.specs.Taps.{lerpOf, fractionOf}
 use Rattle.guided_pixels.specs.declared.pairs.Pair.{Pair}
 

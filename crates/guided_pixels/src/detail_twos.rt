@@ -80,7 +80,7 @@ pub fn detail_twos(
     }
     let mut done = 0;
     while done < n {
-        let i = image::least(done, n - Lanes::CELLS);
+        let i = laws::least(done, n - Lanes::CELLS);
         let block = detail_block(layout, plane, stride, y, s, src, i);
         put_block(s, dst + 2 + 2 * i, block);
         done = i + Lanes::CELLS;

@@ -3,7 +3,7 @@ ghost use mathlib.Core.Path.{_≡_};
 ghost use Prim.Native.Nat.{_+_, _*_, _≤_, _<_};
 ghost use lib.ListN.{length};
 ghost use Rattle.image.specs.Scratch.{scratchNeed};
-ghost use Rattle.guided.specs.Calls.{phasesOf};
+ghost use Rattle.taps.specs.Taps.{phasesOf};
 ghost use Rattle.guided_across.specs.Luma.{Cells};
 ghost use Rattle.guided_pixels.specs.Pixels.{detailRun, detailLine};
 use crate::columns::column_at;
@@ -58,7 +58,7 @@ fn detail_each(
     requires { ⌜ (dst + layout .w ≤ src) × (src + layout .cw ≤ length (now s)) ⌝ }
     ensures { λ _. ⌜ now (s .exit) ≡ detailRun layout (record { bytes = now (plane .entry); stride = stride }) y src dst (layout .rh) (n * layout .rh) (now (s .entry)) ⌝ }
 {
-    let phases = reader_state::phases_of(layout.rh);
+    let phases = taps::phases_of(layout.rh);
     let mut i = 0;
     while i < n {
         detail_cell(layout, plane, stride, y, phases, s, src, dst, i + 1);

@@ -7,7 +7,7 @@ ghost use lib.ListN.{length, getD};
 ghost use Rattle.image.specs.Tests.{Sound};
 ghost use Rattle.image.specs.Scratch.{cellAt};
 ghost use Rattle.guided.specs.Guided.{acrossTo};
-ghost use Rattle.guided.specs.Calls.{phasesOf};
+ghost use Rattle.taps.specs.Taps.{phasesOf};
 ghost use Rattle.guided_pixels.specs.Across.{phased, pairOf};
 use image::Layout;
 use taps::Phase;

@@ -62,7 +62,7 @@ pub fn value_twos(layout: Layout, s: &mut [f32], t: Bands, dst: usize, n: usize)
     }
     let mut done = 0;
     while done < n {
-        let i = image::least(done, n - Lanes::CELLS);
+        let i = laws::least(done, n - Lanes::CELLS);
         let block = value_block(layout, s, t, i);
         put_block(s, dst + 2 + 2 * i, block);
         done = i + Lanes::CELLS;

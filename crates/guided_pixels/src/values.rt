@@ -4,7 +4,7 @@ ghost use Prim.Native.Nat.{_+_, _*_, _≤_, _<_};
 ghost use lib.ListN.{length};
 ghost use Rattle.image.specs.Tests.{Sound};
 ghost use Rattle.image.specs.Scratch.{scratchNeed};
-ghost use Rattle.guided.specs.Calls.{phasesOf};
+ghost use Rattle.taps.specs.Taps.{phasesOf};
 ghost use Rattle.guided_window.specs.Lent.{chromaOf};
 ghost use Rattle.guided_pixels.specs.Values.{BandsInside, valueAt, valueRun, valueRow};
 use crate::bands::Bands;
@@ -45,7 +45,7 @@ fn value_each(layout: Layout, s: &mut [f32], t: Bands, dst: usize, n: usize)
     requires { ⌜ (n + 2 ≤ layout .cw) × (layout .rh + n * layout .rh ≤ layout .w) × (dst ≤ layout .w) ⌝ }
     ensures { λ _. ⌜ now (s .exit) ≡ valueRun layout t dst (layout .rh) (n * layout .rh) (now (s .entry)) ⌝ }
 {
-    let phases = reader_state::phases_of(layout.rh);
+    let phases = taps::phases_of(layout.rh);
     let mut i = 0;
     while i < n {
         value_cell(layout, phases, s, t, dst, i + 1);

@@ -23,7 +23,7 @@ fn bad_pair(layout: Layout, y: &[u8], y_stride: usize, c: &[u8], c_stride: usize
     let size = layout.sample_bytes;
     let bad_y = image::bad_plane(size, layout.w, layout.h, y_stride, y.len());
     let bad_c = image::bad_plane(size, layout.cw, layout.ch, c_stride, c.len());
-    image::either(bad_y, bad_c)
+    laws::either(bad_y, bad_c)
 }
 
 // The lowest refusal of `guided_plane` that applies; `space` and `room` are the lengths of scratch and output. It writes nothing.
@@ -39,7 +39,7 @@ fn plane_answer(
     ensures { λ r. ⌜ r ≡ first (guidedTests layout (record { bytes = now (y .entry); stride = «y_stride» }) (record { bytes = now (c .entry); stride = «c_stride» }) space room) ⌝ }
 {
     let early = layout.answer(false);
-    if image::refused(early) {
+    if laws::refused(early) {
         return early;
     }
     if bad_pair(layout, y, y_stride, c, c_stride) {
@@ -123,7 +123,7 @@ pub fn guided_plane(
     ensures { λ r. ⌜ GuidedGiven layout (record { bytes = now (y .entry); stride = «y_stride» }) (record { bytes = now (c .entry); stride = «c_stride» }) (now (s .entry)) (now (out .entry)) r (now (s .exit)) (now (out .exit)) ⌝ }
 {
     let answer = plane_answer(layout, y, y_stride, c, c_stride, s.len(), out.len());
-    if image::refused(answer) {
+    if laws::refused(answer) {
         return answer;
     }
     plane_rows(layout, y, y_stride, c, c_stride, s, out);

@@ -79,7 +79,7 @@ pub fn catch_up(
     let mut h_next = h;
     let mut j = f;
     while j < to {
-        let end = image::least(j + 2, ch);
+        let end = laws::least(j + 2, ch);
         across_rows(
             layout,
             y,

@@ -5,11 +5,8 @@ use mathlib.Core.List.{List, [], _∷_}
 use Prim.Native.Nat.{ℕ, _+_, _-_, _*_, _/_, _≤_, _<_}
 use lib.Dec.{ltb, eqb}
 use Rattle.laws.specs.Refusals.{Test}
+use Rattle.laws.specs.Numbers.{outsideOf}
 use Rattle.image.specs.declared.layout.Layout.{Layout}
-
--- x lies outside lo .. hi
-abbrev pub outsideOf : ℕ → ℕ → ℕ → Bool
-outsideOf lo hi x = ltb x lo || ltb hi x
 
 -- 2: "width or height 0 or over 8,192"
 unfoldable pub badSize : Layout → Bool

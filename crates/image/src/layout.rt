@@ -1,10 +1,11 @@
 // Sizes, ratios, sample bytes and maxval, and the tests on them. Each test is answered for every number.
 ghost use mathlib.Core.Path.{_≡_};
-ghost use Prim.Native.Nat.{min};
-ghost use mathlib.Core.Bool.{_&&_, _||_, not};
-ghost use Rattle.laws.specs.Refusals.{first, accepted};
-ghost use Rattle.image.specs.Tests.{outsideOf, mostOf, divCeil, badSize, badRatio, badSamples, badChroma, layoutTests};
+ghost use Rattle.laws.specs.Refusals.{first};
+ghost use Rattle.image.specs.Tests.{mostOf, divCeil, badSize, badRatio, badSamples, badChroma, layoutTests};
 use laws::Answer;
+use laws::both;
+use laws::either;
+use laws::outside;
 
 // The numbers of a picture: w by h pixels, rh by rv of them to a cell, cw by ch cells, and how a sample is stored.
 pub struct Layout {
@@ -24,34 +25,6 @@ impl Layout {
 
     // The largest ratio.
     pub const RATIO: usize = 4;
-}
-
-// Inner: a or b, with no branches that meet in the caller.
-pub fn either(a: bool, b: bool) -> bool
-    ensures { λ r. ⌜ r ≡ (a || b) ⌝ }
-{
-    if a { true } else { b }
-}
-
-// Inner: a and b, likewise.
-pub fn both(a: bool, b: bool) -> bool
-    ensures { λ r. ⌜ r ≡ (a && b) ⌝ }
-{
-    if a { b } else { false }
-}
-
-// Inner: whether x lies outside lo..=hi.
-pub fn outside(lo: usize, hi: usize, x: usize) -> bool
-    ensures { λ r. ⌜ r ≡ outsideOf lo hi x ⌝ }
-{
-    either(x < lo, hi < x)
-}
-
-// Inner: the smaller of two numbers.
-pub fn least(a: usize, b: usize) -> usize
-    ensures { λ r. ⌜ r ≡ min a b ⌝ }
-{
-    if a < b { a } else { b }
 }
 
 // Inner: the quotient n / r rounded up; 0 for a divisor of 0.
@@ -131,15 +104,5 @@ impl Layout {
             return Answer::Refused(5);
         }
         Answer::Accepted
-    }
-}
-
-// Inner: whether an answer is a refusal.
-pub fn refused(answer: Answer) -> bool
-    ensures { λ r. ⌜ r ≡ not (accepted answer) ⌝ }
-{
-    match answer {
-        Answer::Accepted => false,
-        Answer::Refused(_) => true,
     }
 }

@@ -29,5 +29,5 @@ pub fn bad_planes(
     let bad_y = crate::samples::bad_plane(size, layout.w, layout.h, y_stride, y.len());
     let bad_cb = crate::samples::bad_plane(size, layout.cw, layout.ch, cb_stride, cb.len());
     let bad_cr = crate::samples::bad_plane(size, layout.cw, layout.ch, cr_stride, cr.len());
-    crate::layout::either(bad_y, crate::layout::either(bad_cb, bad_cr))
+    laws::either(bad_y, laws::either(bad_cb, bad_cr))
 }

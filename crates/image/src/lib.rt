@@ -4,12 +4,7 @@ mod lent;
 mod samples;
 
 pub use layout::Layout;
-pub use layout::both;
 pub use layout::div_ceil;
-pub use layout::either;
-pub use layout::least;
-pub use layout::outside;
-pub use layout::refused;
 pub use lent::bad_planes;
 pub use lent::scratch_need;
 pub use samples::bad_plane;

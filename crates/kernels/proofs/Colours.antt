@@ -8,7 +8,7 @@ use lib.Dec.{ltb}
 use borrow.Author.Tests.{ltb-false}
 use Rattle.laws.specs.Refusals.{Test, first}
 use Rattle.laws.proofs.Refusals.{Failed, accepted-failed}
-use Rattle.image.specs.Tests.{outsideOf}
+use Rattle.laws.specs.Numbers.{outsideOf}
 use Rattle.image.proofs.Layouts.{neither}
 use Rattle.kernels.specs.Kernels.{redOffset, blueOffset, exact255, exactAt, fixedRed, fixedBlue, fixed255, rgb}
 use Rattle.kernels.specs.Pixels.{exactTests, fixedTests}

@@ -3,10 +3,10 @@ use mathlib.Core.Bool.{Bool, true, false, _||_}
 use mathlib.Core.List.{List, [], _∷_}
 use Prim.Native.Nat.{ℕ}
 use lib.Dec.{ltb, eqb}
-use Rattle.laws.specs.declared.Answer.{Answer}
-use Rattle.laws.specs.declared.Answer.the-variants.{Accepted, Refused}
+use Rattle.laws.specs.declared.answers.Answer.{Answer}
+use Rattle.laws.specs.declared.answers.Answer.the-variants.{Accepted, Refused}
 use Rattle.laws.specs.Refusals.{Test, first}
-use Rattle.image.specs.Tests.{outsideOf}
+use Rattle.laws.specs.Numbers.{outsideOf}
 use Rattle.kernels.specs.declared.pixel.Pixel.{Pixel}
 use Rattle.kernels.specs.declared.pixel.Pixel.the-variants as P
 use Rattle.kernels.specs.Kernels.{Colour, exact255, exactAt, fixed255}

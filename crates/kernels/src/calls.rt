@@ -6,8 +6,8 @@ use crate::exact::ycbcr_frac_to_rgb8_8bit;
 use crate::exact::ycbcr_frac_to_rgb8_at;
 use crate::fixed::ycbcr_to_rgb8_fixed;
 use crate::pixel::Pixel;
-use image::either;
-use image::outside;
+use laws::either;
+use laws::outside;
 
 // Refusal 13's test for the exact kernel.
 fn bad_exact(y: u32, cb256: u32, cr256: u32, maxval: u32) -> bool

@@ -3,6 +3,7 @@ mod bytes;
 mod calls;
 mod exact;
 mod fixed;
+mod kernel;
 mod offsets;
 mod pixel;
 
@@ -12,5 +13,6 @@ pub use calls::ycbcr_to_rgb8_fixed16;
 pub use exact::ycbcr_frac_to_rgb8_8bit;
 pub use exact::ycbcr_frac_to_rgb8_at;
 pub use fixed::ycbcr_to_rgb8_fixed;
+pub use kernel::YcbcrKernel;
 pub use offsets::Bias;
 pub use pixel::Pixel;

@@ -6,8 +6,8 @@ use mathlib.Core.List.{List, [], _∷_, _++_}
 use Prim.Native.Nat.{ℕ, _≤_}
 use native.Mathlib.Omega.{arith}
 use lib.Dec.{T}
-use Rattle.laws.specs.declared.Answer.{Answer}
-use Rattle.laws.specs.declared.Answer.the-variants.{Accepted, Refused}
+use Rattle.laws.specs.declared.answers.Answer.{Answer}
+use Rattle.laws.specs.declared.answers.Answer.the-variants.{Accepted, Refused}
 use Rattle.laws.specs.Refusals.{Test, first, pickAnswer, accepted, Ascending, Applies}
 
 -- every test of the list failed

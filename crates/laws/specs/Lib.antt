@@ -3,3 +3,4 @@ pub mod Refusals
 pub mod Differences
 pub mod Rounding
 pub mod Floats
+pub mod Numbers

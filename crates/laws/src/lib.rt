@@ -1,7 +1,12 @@
-// What the other crates' contracts and proofs are made of: specs/ has the vocabulary, proofs/ its laws. No function.
+// What the other crates' contracts and proofs are made of: specs/ has the vocabulary, proofs/ its laws.
+//
+// The answer of a call stands here with the small tests that refusals are put together from, so that a crate above the public one needs no inner crate.
+mod answers;
+mod numbers;
 
-// What a call answers that gives nothing besides: accepted, or turned down with a number of document 01's table.
-pub enum Answer {
-    Accepted,
-    Refused(u8),
-}
+pub use answers::Answer;
+pub use answers::refused;
+pub use numbers::both;
+pub use numbers::either;
+pub use numbers::least;
+pub use numbers::outside;

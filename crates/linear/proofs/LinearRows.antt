@@ -12,7 +12,7 @@ use lib.Ieee.{Float, nan}
 use Rattle.laws.specs.Lists.{put}
 use Rattle.laws.proofs.Lists.{put-same, put-inside, length-put}
 use Rattle.image.specs.declared.layout.Layout.{Layout}
-use Rattle.laws.specs.declared.Answer.the-variants.{Accepted}
+use Rattle.laws.specs.declared.answers.Answer.the-variants.{Accepted}
 use Rattle.laws.specs.Refusals.{Test, first}
 use Rattle.laws.proofs.Refusals.{accepted-failed, failed-both}
 use Rattle.image.specs.Tests.{layoutTests, Sound}

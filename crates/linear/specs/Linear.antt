@@ -9,7 +9,7 @@ use lib.Ieee.{Float}
 use Rattle.laws.specs.Floats.{f32}
 use Rattle.laws.specs.Lists.{put, rows}
 use Rattle.laws.specs.Refusals.{Test, first, accepted}
-use Rattle.laws.specs.declared.Answer.{Answer}
+use Rattle.laws.specs.declared.answers.Answer.{Answer}
 use Rattle.image.specs.declared.layout.Layout.{Layout}
 use Rattle.image.specs.Tests.{layoutTests, Sound}
 use Rattle.image.specs.Samples.{Plane, sampleAt}

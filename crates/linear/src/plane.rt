@@ -37,7 +37,7 @@ pub fn linear_answer(
     ensures { λ r. ⌜ r ≡ first (linearTests layout (record { bytes = now (plane .entry); stride = stride }) space room) ⌝ }
 {
     let early = layout.answer(false);
-    if image::refused(early) {
+    if laws::refused(early) {
         return early;
     }
     if image::bad_plane(
@@ -87,7 +87,7 @@ pub fn linear_plane(
     ensures { λ r. ⌜ LinearGiven layout (record { bytes = now (plane .entry); stride = stride }) (now (s .entry)) (now (out .entry)) r (now (s .exit)) (now (out .exit)) ⌝ }
 {
     let answer = linear_answer(layout, plane, stride, s.len(), out.len());
-    if image::refused(answer) {
+    if laws::refused(answer) {
         return answer;
     }
     linear_rows(layout, plane, stride, s, out);

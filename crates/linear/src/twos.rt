@@ -40,7 +40,7 @@ pub fn across_twos(s: &mut [f32], src: usize, n: usize, dst: usize)
 {
     let mut done = 0;
     while done < n {
-        let i = image::least(done, n - Lanes::CELLS);
+        let i = laws::least(done, n - Lanes::CELLS);
         let v = twos_block(s, src, i);
         put_block(s, dst + 2 * i, v);
         done = i + Lanes::CELLS;

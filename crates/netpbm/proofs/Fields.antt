@@ -7,7 +7,7 @@ use native.Mathlib.Omega.{arith}
 use lib.Dec.{ltb, eqb}
 use lib.ListN.{length}
 use borrow.Author.Tests.{ltb-false, not-false}
-use Rattle.laws.specs.declared.Answer.the-variants.{Accepted}
+use Rattle.laws.specs.declared.answers.Answer.the-variants.{Accepted}
 use Rattle.laws.specs.Refusals.{Test, first}
 use Rattle.laws.proofs.Refusals.{accepted-failed}
 use Rattle.netpbm.specs.declared.pgm.Field.{Field}

@@ -7,12 +7,13 @@ use native.Mathlib.Omega.{arith}
 use lib.Dec.{ltb, eqb}
 use lib.ListN.{length}
 use borrow.Author.Tests.{le-ltb, lt-ltb, ltb-false, eqb-false}
-use Rattle.laws.specs.declared.Answer.{Answer}
-use Rattle.laws.specs.declared.Answer.the-variants.{Accepted, Refused as Turned}
+use Rattle.laws.specs.declared.answers.Answer.{Answer}
+use Rattle.laws.specs.declared.answers.Answer.the-variants.{Accepted, Refused as Turned}
 use Rattle.laws.specs.Refusals.{Test, first, accepted}
 use Rattle.laws.proofs.Refusals.{accepted-is, accepted-failed, refused-early, passed-early, refused-here, passed-over}
 use Rattle.image.specs.declared.layout.Layout.{Layout}
-use Rattle.image.specs.Tests.{outsideOf, badSize}
+use Rattle.laws.specs.Numbers.{outsideOf}
+use Rattle.image.specs.Tests.{badSize}
 use Rattle.image.proofs.Layouts.{neither}
 use Rattle.netpbm.specs.declared.pgm.Image.{Image}
 use Rattle.netpbm.specs.declared.reading.Reading.{Reading}

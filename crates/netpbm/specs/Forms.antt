@@ -1,8 +1,8 @@
 -- What the inner functions hold of three images. Definitions only.
 use mathlib.Core.Bool.{Bool}
 use mathlib.Core.List.{[], _∷_}
-use Rattle.laws.specs.declared.Answer.{Answer}
-use Rattle.laws.specs.declared.Answer.the-variants.{Accepted, Refused}
+use Rattle.laws.specs.declared.answers.Answer.{Answer}
+use Rattle.laws.specs.declared.answers.Answer.the-variants.{Accepted, Refused}
 use Rattle.laws.specs.Refusals.{first}
 use Rattle.image.specs.declared.layout.Layout.{Layout}
 use Rattle.image.specs.Tests.{badSize}

@@ -4,8 +4,8 @@ use mathlib.Core.List.{List, [], _∷_, _++_}
 use Prim.Native.Nat.{ℕ, zero, suc}
 use lib.Dec.{ltb, eqb}
 use lib.ListN.{length}
-use Rattle.laws.specs.declared.Answer.{Answer}
-use Rattle.laws.specs.declared.Answer.the-variants.{Accepted, Refused as Turned}
+use Rattle.laws.specs.declared.answers.Answer.{Answer}
+use Rattle.laws.specs.declared.answers.Answer.the-variants.{Accepted, Refused as Turned}
 use Rattle.laws.specs.Refusals.{Test, first}
 use Rattle.image.specs.declared.layout.Layout.{Layout}
 use Rattle.image.specs.Tests.{divCeil, badSize}

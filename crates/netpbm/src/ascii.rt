@@ -6,9 +6,9 @@ ghost use Rattle.netpbm.specs.Ascii.{isBlank, isDigit};
 pub fn is_blank(b: u8) -> bool
     ensures { λ r. ⌜ r ≡ isBlank b ⌝ }
 {
-    image::either(
-        image::either(b == b' ', b == b'\t'),
-        image::either(b == b'\r', b == b'\n'),
+    laws::either(
+        laws::either(b == b' ', b == b'\t'),
+        laws::either(b == b'\r', b == b'\n'),
     )
 }
 
@@ -16,5 +16,5 @@ pub fn is_blank(b: u8) -> bool
 pub fn is_digit(b: u8) -> bool
     ensures { λ r. ⌜ r ≡ isDigit b ⌝ }
 {
-    image::both(b'0' <= b, b <= b'9')
+    laws::both(b'0' <= b, b <= b'9')
 }

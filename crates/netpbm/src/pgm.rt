@@ -42,7 +42,7 @@ fn field_at(input: &[u8], at: usize) -> Field
     ensures { λ r. ⌜ r ≡ fieldHeld (now (input .entry)) at ⌝ }
 {
     let start = skip_blanks(input, at);
-    let good = image::both(blank_at(input, at), digit_at(input, start));
+    let good = laws::both(blank_at(input, at), digit_at(input, start));
     let n = number_at(input, start);
     Field {
         good,
@@ -110,7 +110,7 @@ pub fn image_after(input: &[u8], before: Image) -> Image
     ensures { λ r. ⌜ r ≡ imageBehind (now (input .entry)) before ⌝ }
 {
     let answer = before.answer;
-    if image::refused(answer) {
+    if laws::refused(answer) {
         return before;
     }
     image_at(input, before.end)

@@ -24,7 +24,7 @@ impl Reading {
 fn whole_answer(images: Answer, left: bool, layout: Layout) -> Answer
     ensures { λ r. ⌜ r ≡ answerHeld images left layout ⌝ }
 {
-    if image::refused(images) {
+    if laws::refused(images) {
         return images;
     }
     if left {

@@ -51,7 +51,7 @@ pub fn magic_at(input: &[u8], at: usize) -> bool
     if input.len() - at < 2 {
         return false;
     }
-    image::both(input[at] == magic[0], input[at + 1] == magic[1])
+    laws::both(input[at] == magic[0], input[at + 1] == magic[1])
 }
 
 // Inner: where the whitespace at `at` ends.
@@ -79,7 +79,7 @@ pub fn number_at(input: &[u8], at: usize) -> Number
     let mut value = 0;
     let mut end = at;
     while digit_at(input, end) {
-        value = image::least(value * 10 + digit_value(input, end), Number::MOST);
+        value = laws::least(value * 10 + digit_value(input, end), Number::MOST);
         end += 1;
     }
     Number { value, end }

@@ -10,7 +10,7 @@ fn fits_both(n: usize, a: usize, b: usize, r: usize) -> bool
     ensures { λ t. ⌜ t ≡ fitsBoth n a b r ⌝ }
 {
     let cells = image::div_ceil(n, r);
-    image::both(a == cells, b == cells)
+    laws::both(a == cells, b == cells)
 }
 
 // The smallest ratio that fits both chroma images; 0 where none does.
@@ -49,5 +49,5 @@ pub fn layout_of(y: Image, cb: Image, cr: Image) -> Layout
 pub fn no_ratio(layout: Layout) -> bool
     ensures { λ r. ⌜ r ≡ noRatio layout ⌝ }
 {
-    image::either(layout.rh == 0, layout.rv == 0)
+    laws::either(layout.rh == 0, layout.rv == 0)
 }

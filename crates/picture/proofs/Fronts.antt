@@ -9,8 +9,8 @@ use Rattle.laws.specs.Lists.{put, table}
 use Rattle.laws.proofs.Lists.{length-put, put-after, take-put, length-table, table-at}
 use Rattle.image.specs.declared.layout.Layout.{Layout}
 use Rattle.image.specs.Picture.{Picture, pictureOf}
-use Rattle.colour_rows.specs.declared.kernel.YcbcrKernel.the-variants.{Exact}
-use Rattle.fill.specs.declared.answer.ChromaUpsampling.the-variants.{LumaGuided}
+use Rattle.kernels.specs.declared.kernel.YcbcrKernel.the-variants.{Exact}
+use Rattle.fill.specs.declared.options.ChromaUpsampling.the-variants.{LumaGuided}
 use Rattle.fill.specs.Fill.{fillColour, pixelRows}
 use Rattle.netpbm.specs.declared.lines.Line.{Line}
 use Rattle.netpbm.specs.Texts.{lineOf}

@@ -9,8 +9,8 @@ use lib.ListN.{length, drop, take, length-drop}
 use lib.Seq.{take-all}
 use lib.Ieee.{Float}
 use borrow.Author.Tests.{le-ltb, lt-ltb}
-use Rattle.laws.specs.declared.Answer.{Answer}
-use Rattle.laws.specs.declared.Answer.the-variants.{Accepted, Refused as Turned}
+use Rattle.laws.specs.declared.answers.Answer.{Answer}
+use Rattle.laws.specs.declared.answers.Answer.the-variants.{Accepted, Refused as Turned}
 use Rattle.laws.specs.Refusals.{first, accepted}
 use Rattle.laws.proofs.Refusals.{accepted-failed, failed-accepted, passed-early, refused-early, refused-here, passed-over}
 use Rattle.image.specs.declared.layout.Layout.{Layout}
@@ -18,8 +18,8 @@ use Rattle.image.specs.Picture.{Planes, shortPlane, badPlanes, Picture, picture
 use Rattle.image.specs.Tests.{badPlane, layoutTests, Sound}
 use Rattle.image.proofs.Layouts.{sound}
 use Rattle.image.specs.Scratch.{scratchNeed}
-use Rattle.colour_rows.specs.declared.kernel.YcbcrKernel.the-variants.{Exact}
-use Rattle.fill.specs.declared.answer.ChromaUpsampling.the-variants.{LumaGuided}
+use Rattle.kernels.specs.declared.kernel.YcbcrKernel.the-variants.{Exact}
+use Rattle.fill.specs.declared.options.ChromaUpsampling.the-variants.{LumaGuided}
 use Rattle.fill.specs.Tests.{fillTests}
 use Rattle.fill.specs.Fill.{FillGiven, fillColour, fillScratch, pixelRows}
 use Rattle.netpbm.specs.declared.reading.Reading.the-variants.{Read, Refused}

@@ -7,8 +7,8 @@ use lib.Dec.{ltb}
 use lib.ListN.{length, length-append}
 use lib.Ieee.{Float}
 use borrow.Author.Tests.{le-ltb, ltb-false}
-use Rattle.laws.specs.declared.Answer.{Answer}
-use Rattle.laws.specs.declared.Answer.the-variants.{Accepted, Refused as Turned}
+use Rattle.laws.specs.declared.answers.Answer.{Answer}
+use Rattle.laws.specs.declared.answers.Answer.the-variants.{Accepted, Refused as Turned}
 use Rattle.laws.specs.Refusals.{first, accepted}
 use Rattle.laws.proofs.Refusals.{accepted-failed, failed-accepted, failed-both, passed-early, refused-early}
 use Rattle.image.specs.Scratch.{scratchNeed}

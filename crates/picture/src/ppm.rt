@@ -9,9 +9,9 @@ ghost use Rattle.netpbm.specs.Reading.{readingOf};
 ghost use Rattle.netpbm.specs.Lines.{ppmHeader};
 ghost use Rattle.netpbm.specs.Texts.{lineOf};
 ghost use Rattle.picture.specs.Picture.{planesOf, inputPicture, ppmLength, ppmOver};
-use colour_rows::YcbcrKernel;
 use fill::ChromaUpsampling;
 use image::Layout;
+use kernels::YcbcrKernel;
 use netpbm::Line;
 use netpbm::Reading;
 

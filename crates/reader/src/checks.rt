@@ -33,7 +33,7 @@ pub fn row_answer(
     if s.len() < image::scratch_need(layout) {
         return Answer::Refused(9);
     }
-    if image::either(out_cb.len() < layout.w, out_cr.len() < layout.w) {
+    if laws::either(out_cb.len() < layout.w, out_cr.len() < layout.w) {
         return Answer::Refused(10);
     }
     if layout.h <= row {

@@ -40,7 +40,7 @@ pub fn open(
     ensures { λ r. ⌜ OpenGiven (record { layout = layout; planes = record { y = record { bytes = now (y .entry); stride = «y_stride» }; cb = record { bytes = now (cb .entry); stride = «cb_stride» }; cr = record { bytes = now (cr .entry); stride = «cr_stride» } }; scratch = now (s .entry); reader = reader }) r ⌝ }
 {
     let answer = layout.answer(false);
-    if image::refused(answer) {
+    if laws::refused(answer) {
         return Reply { answer, reader };
     }
     if image::bad_planes(layout, y, y_stride, cb, cb_stride, cr, cr_stride) {

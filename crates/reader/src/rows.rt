@@ -37,7 +37,7 @@ pub fn row(
         out_cb,
         out_cr,
     );
-    if image::refused(answer) {
+    if laws::refused(answer) {
         return Reply { answer, reader };
     }
     let layout = reader_state::layout_of(reader);

@@ -3,7 +3,6 @@ mod phases;
 mod state;
 
 pub use phases::geometry_of;
-pub use phases::phases_of;
 pub use state::Counters;
 pub use state::bad_state;
 pub use state::done_counters;

@@ -1,44 +1,18 @@
 // The phases of a geometry: made from a layout, and compared bit for bit.
 ghost use mathlib.Core.Path.{_≡_};
 ghost use Prim.Native.Nat.{_≤_, _<_};
-ghost use Rattle.guided.specs.Calls.{phaseAt, phasesOf, geometryOf, samePhase, badPhases};
+ghost use Rattle.taps.specs.Taps.{phaseAt};
+ghost use Rattle.guided.specs.Calls.{geometryOf, samePhase, badPhases};
 use guided::Geometry;
 use image::Layout;
 use taps::Phase;
-
-// Phase k of a geometry at ratio r.
-fn phase_at(r: usize, k: usize) -> Phase
-    requires { ⌜ (r ≤ 4) × (k < 4) ⌝ }
-    ensures { λ p. ⌜ p ≡ phaseAt r k ⌝ }
-{
-    if r <= k {
-        return Phase {
-            left: false,
-            f: 0.0,
-        };
-    }
-    taps::phase_of(r, k)
-}
-
-// Inner: the four phases of a ratio.
-pub fn phases_of(r: usize) -> [Phase; 4]
-    requires { ⌜ r ≤ 4 ⌝ }
-    ensures { λ p. ⌜ p ≡ phasesOf r ⌝ }
-{
-    [
-        phase_at(r, 0),
-        phase_at(r, 1),
-        phase_at(r, 2),
-        phase_at(r, 3),
-    ]
-}
 
 // Inner: the geometry of a layout.
 pub fn geometry_of(layout: Layout) -> Geometry
     requires { ⌜ layout .rh ≤ 4 ⌝ }
     ensures { λ g. ⌜ g ≡ geometryOf layout ⌝ }
 {
-    let phases = phases_of(layout.rh);
+    let phases = taps::phases_of(layout.rh);
     Geometry {
         w: layout.w,
         h: layout.h,
@@ -54,7 +28,7 @@ pub fn geometry_of(layout: Layout) -> Geometry
 fn same_phase(a: Phase, b: Phase) -> bool
     ensures { λ r. ⌜ r ≡ samePhase a b ⌝ }
 {
-    image::both(a.left == b.left, fround::same_float(a.f, b.f))
+    laws::both(a.left == b.left, fround::same_float(a.f, b.f))
 }
 
 // Whether p is phase k of ratio r.
@@ -62,7 +36,7 @@ fn phase_is(p: Phase, r: usize, k: usize) -> bool
     requires { ⌜ (r ≤ 4) × (k < 4) ⌝ }
     ensures { λ b. ⌜ b ≡ samePhase p (phaseAt r k) ⌝ }
 {
-    same_phase(p, phase_at(r, k))
+    same_phase(p, taps::phase_at(r, k))
 }
 
 // Inner: whether a phase is another than those that open leaves, the unused ones too.
@@ -72,7 +46,7 @@ pub fn bad_phases(g: Geometry) -> bool
 {
     let r = g.rh;
     let p = g.phases;
-    let last = image::both(phase_is(p[2], r, 2), phase_is(p[3], r, 3));
-    let more = image::both(phase_is(p[1], r, 1), last);
-    !image::both(phase_is(p[0], r, 0), more)
+    let last = laws::both(phase_is(p[2], r, 2), phase_is(p[3], r, 3));
+    let more = laws::both(phase_is(p[1], r, 1), last);
+    !laws::both(phase_is(p[0], r, 0), more)
 }

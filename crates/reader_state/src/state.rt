@@ -80,7 +80,7 @@ pub fn done_counters(layout: Layout, y: usize) -> Counters
 {
     let last = last_of(layout, y);
     Counters {
-        h_next: image::least(last + 2, layout.ch),
+        h_next: laws::least(last + 2, layout.ch),
         f_next: last + 1,
     }
 }
@@ -88,7 +88,7 @@ pub fn done_counters(layout: Layout, y: usize) -> Counters
 fn counters_are(reader: Reader, c: Counters) -> bool
     ensures { λ r. ⌜ r ≡ (eqb (reader .«h_next») (c .«h_next») && eqb (reader .«f_next») (c .«f_next»)) ⌝ }
 {
-    image::both(reader.h_next == c.h_next, reader.f_next == c.f_next)
+    laws::both(reader.h_next == c.h_next, reader.f_next == c.f_next)
 }
 
 // Whether the counters are neither open's or seek's nor row's at the state's place.
@@ -100,14 +100,14 @@ fn bad_counters(reader: Reader) -> bool
     let layout = layout_of(reader);
     let fresh = fresh_counters(layout, reader.place);
     let done = done_counters(layout, reader.place);
-    !image::either(counters_are(reader, fresh), counters_are(reader, done))
+    !laws::either(counters_are(reader, fresh), counters_are(reader, done))
 }
 
 // Inner: refusal 1's test: whether open, seek and row never leave this state.
 pub fn bad_state(reader: Reader) -> bool
     ensures { λ r. ⌜ r ≡ badState reader ⌝ }
 {
-    if image::refused(layout_of(reader).answer(false)) {
+    if laws::refused(layout_of(reader).answer(false)) {
         return true;
     }
     let g = reader.geometry;

@@ -1,5 +1,4 @@
 // The public crate: document 01's calls and their types, and nothing else.
-pub use colour_rows::YcbcrKernel;
 pub use fill::ChromaUpsampling;
 pub use fill::fill;
 pub use guided::Geometry;
@@ -8,6 +7,7 @@ pub use guided::Reply;
 pub use guided_plane::guided_plane;
 pub use image::Layout;
 pub use kernels::Pixel;
+pub use kernels::YcbcrKernel;
 pub use kernels::ycbcr_frac_to_rgb8;
 pub use kernels::ycbcr_to_rgb8_fixed16;
 pub use laws::Answer;

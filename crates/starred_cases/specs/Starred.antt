@@ -10,9 +10,9 @@ use Rattle.laws.specs.Lists.{table}
 use Rattle.image.specs.declared.layout.Layout.{Layout}
 use Rattle.fround.specs.Rounding.{roundClamped}
 use Rattle.upsample.specs.Triangular.{triangularSample}
-use Rattle.taps.specs.declared.positions.Phase.{Phase}
+use Rattle.taps.specs.declared.phases.Phase.{Phase}
 use Rattle.linear.specs.Linear.{linearSample}
-use Rattle.guided.specs.Calls.{phasesOf}
+use Rattle.taps.specs.Taps.{phasesOf}
 use Rattle.kernels.specs.Kernels.{Colour, fixed255}
 use Rattle.kernels.specs.Pixels.{exactColour}
 

@@ -1,12 +1,13 @@
 -- 'Geometry' of document 01's chroma row: where an output sits among the cells, its tap, a pixel's phase, and lerp. Definitions only.
 use mathlib.Core.Path.{_≡_}
 use mathlib.Core.Bool.{Bool, true, false}
+use mathlib.Core.List.{List, [], _∷_}
 use Prim.Native.Nat.{ℕ, _+_, _-_, _*_, _/_, _%_, _<_}
 use lib.Dec.{ltb, leb, eqb}
 use lib.Ieee.{Float, binary32, add, sub, mul, div}
 use Rattle.laws.specs.Floats.{f32}
 use Rattle.taps.specs.declared.positions.Tap.{Tap}
-use Rattle.taps.specs.declared.positions.Phase.{Phase}
+use Rattle.taps.specs.declared.phases.Phase.{Phase}
 
 -- "lerp(a,b,f) = a + f·(b−a), three roundings"
 abbrev pub lerpOf : Float → Float → Float → Float
@@ -65,3 +66,10 @@ unfoldable pub phaseOf : ℕ → ℕ → Phase
 phaseOf r k =
     pickPhase (ltb (2 * k + 1) r) (record { left = true; f = fractionOf (2 * k + 1 + r) (2 * r) })
     (record { left = false; f = fractionOf (2 * k + 1 - r) (2 * r) })
+
+-- "The geometry keeps the phase fractions of its ratio, four at most": those past the ratio are not left, 0
+unfoldable pub phaseAt : ℕ → ℕ → Phase
+phaseAt r k = pickPhase (leb r k) (record { left = false; f = f32 0 }) (phaseOf r k)
+
+unfoldable pub phasesOf : ℕ → List Phase
+phasesOf r = phaseAt r 0 ∷ phaseAt r 1 ∷ phaseAt r 2 ∷ phaseAt r 3 ∷ []

@@ -1,18 +1,12 @@
 // Where an output sits among the chroma cells, and how far between two of them.
 ghost use mathlib.Core.Path.{_≡_};
 ghost use Prim.Native.Nat.{_*_, _≤_, _<_};
-ghost use Rattle.taps.specs.Taps.{lerpOf, fractionOf, onCell, spotAt, tapOn, phaseOf, TapGiven};
+ghost use Rattle.taps.specs.Taps.{lerpOf, fractionOf, onCell, spotAt, tapOn, TapGiven};
 
 // Two cells and how far between them.
 pub struct Tap {
     pub i0: usize,
     pub i1: usize,
-    pub f: f32,
-}
-
-// How a pixel of a cell goes across: from the left neighbour to its own cell, or from its own to the right one, and how far.
-pub struct Phase {
-    pub left: bool,
     pub f: f32,
 }
 
@@ -70,22 +64,4 @@ pub fn tap_at(r: usize, len: usize, o: usize) -> Tap
         return on_cell(0);
     }
     spot_at(n - r, 2 * r, len)
-}
-
-// Inner: the phase of pixel k of a cell at ratio r.
-pub fn phase_of(r: usize, k: usize) -> Phase
-    requires { ⌜ (r ≤ 4) × (k < 4) ⌝ }
-    ensures { λ p. ⌜ p ≡ phaseOf r k ⌝ }
-{
-    let n = 2 * k + 1;
-    if n < r {
-        return Phase {
-            left: true,
-            f: fraction(n + r, 2 * r),
-        };
-    }
-    Phase {
-        left: false,
-        f: fraction(n - r, 2 * r),
-    }
 }

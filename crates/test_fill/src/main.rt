@@ -3,9 +3,9 @@
 // w h rh rv cw ch sample_bytes maxval(2) y_stride cb_stride cr_stride y_len cb_len cr_len seed y_shape cb_shape cr_shape
 // kernel size space(2) room. A pixel's: y(2) cb(2) cr(2) maxval(2), sixteen of 0.
 ghost use Prim.Native.Nat.{_<_};
-use colour_rows::YcbcrKernel;
 use fill::ChromaUpsampling;
 use kernels::Pixel;
+use kernels::YcbcrKernel;
 use libc::STDIN_FILENO;
 
 // Scratch as no call leaves it.
@@ -96,7 +96,7 @@ fn fill_lent(text: &[u8], y: &[u8], cb: &[u8], cr: &[u8], s: &mut [f32], out: &m
 fn fill_marked(text: &[u8], y: &[u8], cb: &[u8], cr: &[u8]) {
     let mut s = marked();
     let mut out = unwritten();
-    let space = image::least(test_support::long(text, 21), 600_000);
+    let space = laws::least(test_support::long(text, 21), 600_000);
     let room = test_support::word(text, 23);
     fill_lent(text, y, cb, cr, &mut s[..space], &mut out[..room]);
 }

@@ -23,7 +23,7 @@ fn copied(source: &[u8], from: usize, to: usize, room: &mut [u8]) -> usize
     if to < from {
         return 0;
     }
-    let n = image::least(to - from, room.len());
+    let n = laws::least(to - from, room.len());
     let mut i = 0;
     while i < n {
         room[i] = test_support::byte(source, from + i);
@@ -36,7 +36,7 @@ fn copied(source: &[u8], from: usize, to: usize, room: &mut [u8]) -> usize
 fn grown(count: usize, seed: usize, shape: usize, room: &mut [u8]) -> usize
     ensures { λ r. ⌜ r ≤ length (now (room .exit)) ⌝ }
 {
-    let n = image::least(count, room.len());
+    let n = laws::least(count, room.len());
     test_support::grow(&mut room[..n], seed, shape);
     n
 }
@@ -101,8 +101,8 @@ fn called(input: &[u8], s: &mut [f32], out: &mut [u8]) {
 // The call of an input's last line, lent as much as that says, or all that there is.
 fn call(text: &[u8], input: &[u8], s: &mut [f32]) {
     let mut out = unwritten();
-    let space = image::least(test_support::word(text, 0), s.len());
-    let room = image::least(test_support::long(text, 1), 147_472);
+    let space = laws::least(test_support::word(text, 0), s.len());
+    let room = laws::least(test_support::long(text, 1), 147_472);
     called(input, &mut s[..space], &mut out[..room]);
 }
 

@@ -68,7 +68,7 @@ fn write_call(text: &[u8], plane: &[u8], s: &mut [f32], out: &mut [u16]) {
 // A call into scratch and out that no call has touched.
 fn replay(text: &[u8]) {
     let plane_len = test_support::word(text, 10);
-    let space = image::least(test_support::long(text, 11), 200_000);
+    let space = laws::least(test_support::long(text, 11), 200_000);
     let room = test_support::word(text, 13);
     let plane = test_support::grown(plane_len, test_support::word(text, 14), 0);
     let mut s = marked();

@@ -231,7 +231,7 @@ fn replayed(text: &[u8], reader: Reader, s: &mut [f32]) -> Reader {
 
 // The same, lent the front of scratch.
 fn replay(text: &[u8], reader: Reader, s: &mut [f32]) -> Reader {
-    let space = image::least(test_support::long(text, 19), s.len());
+    let space = laws::least(test_support::long(text, 19), s.len());
     replayed(text, reader, &mut s[..space])
 }
 

@@ -10,16 +10,16 @@ use laws::Answer;
 fn ratios_are(layout: Layout, rh: usize, rv: usize) -> bool
     ensures { λ r. ⌜ r ≡ ratios layout rh rv ⌝ }
 {
-    image::both(layout.rh == rh, layout.rv == rv)
+    laws::both(layout.rh == rh, layout.rv == rv)
 }
 
 // Refusal 6's test.
 fn bad_triangular(layout: Layout) -> bool
     ensures { λ r. ⌜ r ≡ badTriangular layout ⌝ }
 {
-    let other = image::either(ratios_are(layout, 1, 2), ratios_are(layout, 2, 2));
-    let known = image::either(ratios_are(layout, 2, 1), other);
-    image::either(!known, image::both(layout.rh == 2, layout.cw <= 2))
+    let other = laws::either(ratios_are(layout, 1, 2), ratios_are(layout, 2, 2));
+    let known = laws::either(ratios_are(layout, 2, 1), other);
+    laws::either(!known, laws::both(layout.rh == 2, layout.cw <= 2))
 }
 
 // Inner: the lowest of refusals 2 to 7 and 10 that applies; `room` is the length of the output. It writes nothing.
@@ -27,7 +27,7 @@ pub fn triangular_answer(layout: Layout, plane: &[u8], stride: usize, room: usiz
     ensures { λ r. ⌜ r ≡ first (triangularTests layout (record { bytes = now (plane .entry); stride = stride }) room) ⌝ }
 {
     let answer = layout.answer(false);
-    if image::refused(answer) {
+    if laws::refused(answer) {
         return answer;
     }
     if bad_triangular(layout) {

@@ -3,7 +3,7 @@
 ghost use mathlib.Core.Path.{_≡_};
 ghost use Prim.Native.Nat.{_*_, _<_};
 ghost use lib.ListN.{length};
-ghost use Rattle.laws.specs.declared.Answer.the-variants.{Accepted};
+ghost use Rattle.laws.specs.declared.answers.Answer.the-variants.{Accepted};
 ghost use Rattle.laws.specs.Lists.{put};
 ghost use Rattle.laws.specs.Refusals.{first};
 ghost use Rattle.image.specs.Samples.{Plane, sampleAt};
@@ -52,7 +52,7 @@ pub fn triangular_plane(layout: Layout, plane: &[u8], stride: usize, out: &mut [
     ensures { λ r. ⌜ TriangularGiven layout (record { bytes = now (plane .entry); stride = stride }) (now (out .entry)) r (now (out .exit)) ⌝ }
 {
     let answer = crate::answer::triangular_answer(layout, plane, stride, out.len());
-    if image::refused(answer) {
+    if laws::refused(answer) {
         return answer;
     }
     triangular(layout, plane, stride, out);

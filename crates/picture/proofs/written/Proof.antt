@@ -2,7 +2,7 @@ use mathlib.Core.Path.{refl, sym, _∙_, ap}
 use native.Mathlib.Omega.{arith}
 use borrow.Author.Needs.{needs}
 use Rattle.image.specs.declared.layout.Layout.{Layout}
-use Rattle.fill.specs.declared.answer.ChromaUpsampling.the-variants.{LumaGuided}
+use Rattle.fill.specs.declared.options.ChromaUpsampling.the-variants.{LumaGuided}
 use Rattle.fill.specs.Fill.{fillScratch}
 use Rattle.netpbm.specs.Lines.{ppmHeader}
 use Rattle.netpbm.proofs.Acceptance.{taken}

@@ -1,7 +1,7 @@
 use mathlib.Core.Path.{refl, _∙_}
 use Prim.Native.Nat.{_+_}
 use borrow.Author.Needs.{needs}
-use Rattle.colour_rows.specs.declared.kernel.YcbcrKernel.the-variants.{Exact, FixedPoint16}
+use Rattle.kernels.specs.declared.kernel.YcbcrKernel.the-variants.{Exact, FixedPoint16}
 use Rattle.colour_rows.proofs.Colouring.{in-row}
 use Rattle.colour_rows.proofs.blocks.block_at.Statement.{statement}
 use Rattle.colour_rows.proofs.blocks.block_at.Tie as tie

@@ -7,10 +7,11 @@ use lib.Dec.{ltb}
 use lib.ListN.{length}
 use borrow.Author.Tests.{not-true, not-false, lt-ltb, le-ltb}
 use borrow.Author.Needs.{needs}
-use Rattle.laws.specs.declared.Answer.{Answer}
+use Rattle.laws.specs.declared.answers.Answer.{Answer}
 use Rattle.laws.specs.Refusals.{first, accepted}
 use Rattle.laws.proofs.Refusals.{refused-early, passed-early}
-use Rattle.image.specs.Tests.{outsideOf, layoutTests, Sound}
+use Rattle.laws.specs.Numbers.{outsideOf}
+use Rattle.image.specs.Tests.{layoutTests, Sound}
 use Rattle.image.specs.Picture.{badPlanes}
 use Rattle.image.proofs.Layouts.{sound-answer, area}
 use Rattle.image.specs.Scratch.{scratchNeed}

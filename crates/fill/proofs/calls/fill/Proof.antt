@@ -3,7 +3,7 @@ use Prim.Native.Nat.{ℕ, _-_}
 use native.Mathlib.Omega.{arith}
 use borrow.Author.Tests.{not-true, not-false}
 use borrow.Author.Needs.{needs}
-use Rattle.laws.specs.declared.Answer.the-variants.{Accepted}
+use Rattle.laws.specs.declared.answers.Answer.the-variants.{Accepted}
 use Rattle.laws.specs.Refusals.{accepted}
 use Rattle.laws.proofs.Refusals.{accepted-is}
 use Rattle.image.specs.Picture.{pictureOf}

@@ -4,7 +4,7 @@ use mathlib.Core.Bool.{true, false}
 use mathlib.Core.List.{List, [], _∷_}
 use lib.Dec.{ltb}
 use borrow.Author.Tests.{not-true, not-false}
-use Rattle.laws.specs.declared.Answer.{Answer}
+use Rattle.laws.specs.declared.answers.Answer.{Answer}
 use Rattle.laws.specs.Refusals.{Test, first, accepted}
 use Rattle.laws.proofs.Refusals.{refused-early, passed-early}
 use Rattle.image.specs.Tests.{layoutTests, Sound}

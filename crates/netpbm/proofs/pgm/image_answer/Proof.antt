@@ -7,7 +7,7 @@ use native.Mathlib.Omega.{arith}
 use lib.ListN.{length, drop}
 use borrow.Author.Needs.{needs}
 use borrow.Author.Tests.{lt-ltb, le-ltb, eq-eqb, ne-eqb, not-false}
-use Rattle.laws.specs.declared.Answer.{Answer}
+use Rattle.laws.specs.declared.answers.Answer.{Answer}
 use Rattle.laws.specs.Refusals.{Test, first}
 use Rattle.laws.proofs.Refusals.{refused-here, passed-over, failed-accepted}
 use Rattle.netpbm.specs.Images.{imageTests}

@@ -1,4 +1,4 @@
-// The colour that fill gives a pixel, and a row of it pixel by pixel.
+// The kernels by name.
 
 // Which of document 01's kernels makes the colour.
 pub enum YcbcrKernel {

@@ -1,8 +1,8 @@
-use Rattle.guided.specs.Calls.{phasesOf}
+use Rattle.taps.specs.Taps.{phasesOf}
 use mathlib.Core.Path.{refl}
 use borrow.Author.Needs.{needs}
-use Rattle.reader_state.proofs.phases.phases_of.Statement.{statement}
-use Rattle.reader_state.proofs.phases.phases_of.Tie as tie
+use Rattle.taps.proofs.phases.phases_of.Statement.{statement}
+use Rattle.taps.proofs.phases.phases_of.Tie as tie
 
 phase-at-requires : tie.Need-phase-at-requires
 phase-at-requires c κs = search needs

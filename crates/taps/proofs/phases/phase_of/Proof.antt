@@ -3,8 +3,8 @@ use borrow.Author.Tests.{lt-ltb, le-ltb}
 use mathlib.Core.Path.{refl}
 use Prim.Native.Nat.{_+_, _*_}
 use borrow.Author.Needs.{needs}
-use Rattle.taps.proofs.positions.phase_of.Statement.{statement}
-use Rattle.taps.proofs.positions.phase_of.Tie as tie
+use Rattle.taps.proofs.phases.phase_of.Statement.{statement}
+use Rattle.taps.proofs.phases.phase_of.Tie as tie
 
 mul-n : tie.Need-mul-n
 mul-n c = search needs

@@ -1,10 +1,10 @@
-use Rattle.guided.specs.Calls.{phaseAt}
+use Rattle.taps.specs.Taps.{phaseAt}
 use lib.Ieee.{ofBits, ofInt}
 use mathlib.Core.Path.{refl}
 use borrow.Author.Tests.{le-leb, lt-leb}
 use borrow.Author.Needs.{needs}
-use Rattle.reader_state.proofs.phases.phase_at.Statement.{statement}
-use Rattle.reader_state.proofs.phases.phase_at.Tie as tie
+use Rattle.taps.proofs.phases.phase_at.Statement.{statement}
+use Rattle.taps.proofs.phases.phase_at.Tie as tie
 
 returns : tie.Need-returns
 unfolding phaseAt ofBits ofInt

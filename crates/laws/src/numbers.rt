@@ -1,0 +1,33 @@
+// Small tests and choices, as functions: a caller then has no branches that meet, which the prover would have to join.
+ghost use mathlib.Core.Path.{_≡_};
+ghost use mathlib.Core.Bool.{_&&_, _||_};
+ghost use Prim.Native.Nat.{min};
+ghost use Rattle.laws.specs.Numbers.{outsideOf};
+
+// Inner: a or b.
+pub fn either(a: bool, b: bool) -> bool
+    ensures { λ r. ⌜ r ≡ (a || b) ⌝ }
+{
+    if a { true } else { b }
+}
+
+// Inner: a and b.
+pub fn both(a: bool, b: bool) -> bool
+    ensures { λ r. ⌜ r ≡ (a && b) ⌝ }
+{
+    if a { b } else { false }
+}
+
+// Inner: whether x lies outside lo..=hi.
+pub fn outside(lo: usize, hi: usize, x: usize) -> bool
+    ensures { λ r. ⌜ r ≡ outsideOf lo hi x ⌝ }
+{
+    either(x < lo, hi < x)
+}
+
+// Inner: the smaller of two numbers.
+pub fn least(a: usize, b: usize) -> usize
+    ensures { λ r. ⌜ r ≡ min a b ⌝ }
+{
+    if a < b { a } else { b }
+}
