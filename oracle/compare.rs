@@ -1,10 +1,10 @@
 //! Random pictures and call lists, the crates' sources beside the original.
 //! Usage: compare PICTURES LISTS PIXELS FILLS; it ends with status 1 where anything differs.
 use oracle::{Bytes, Chroma, GuidedReader, Numbers};
-use sources::guided::{Geometry, Reader};
-use sources::image::Layout;
-use sources::laws::Answer;
-use sources::taps::Phase;
+// The one path into what is compared: the public crate, which through-c.rs has under the same name.
+use sources::reconstruction::{
+    self as ours, Answer, ChromaUpsampling, Geometry, Layout, Phase, Pixel, Reader, YcbcrKernel,
+};
 
 /// Marsaglia's 64-bit xorshift with the shifts 13, 7, 17.
 struct Random(u64);
@@ -97,15 +97,15 @@ fn planes(p: &Picture, q: &oracle::Picture) -> [usize; 3] {
     let mut s = vec![f32::NAN; scratch_need(l)];
     let fresh = || vec![42_405u16; l.w * l.h + 3];
     let mut out = fresh();
-    let a = sources::resample::linear_plane(l, &p.cb.data, p.cb.stride, &mut s, &mut out);
+    let a = ours::linear_plane(l, &p.cb.data, p.cb.stride, &mut s, &mut out);
     let linear = a == Answer::Accepted && agrees(&out, &oracle::linear_plane(q, Chroma::Cb));
     out = fresh();
-    let a = sources::planes::guided_plane(
+    let a = ours::guided_plane(
         l, &p.y.data, p.y.stride, &p.cb.data, p.cb.stride, &mut s, &mut out,
     );
     let guided = a == Answer::Accepted && agrees(&out, &oracle::guided_plane(q, Chroma::Cb));
     out = fresh();
-    let a = sources::upsample::triangular_plane(l, &p.cb.data, p.cb.stride, &mut out);
+    let a = ours::triangular_plane(l, &p.cb.data, p.cb.stride, &mut out);
     let triangular = match oracle::triangular_plane(q, Chroma::Cb) {
         Some(want) => a == Answer::Accepted && agrees(&out, &want),
         None => a == Answer::Refused(6) && agrees(&out, &[]),
@@ -136,7 +136,7 @@ impl Course {
     }
 
     fn open(&mut self, p: &Picture) {
-        let a = sources::opening::open(
+        let a = ours::open(
             p.layout, &p.y.data, p.y.stride, &p.cb.data, p.cb.stride, &p.cr.data, p.cr.stride,
             &self.scratch, self.state,
         );
@@ -147,7 +147,7 @@ impl Course {
     }
 
     fn seek(&mut self, p: &Picture, y: usize) {
-        let a = sources::seeking::seek(self.state, y);
+        let a = ours::seek(self.state, y);
         if y < p.layout.h {
             let sought = self.beside.seek(y).is_ok();
             self.expect(sought && a.answer == Answer::Accepted);
@@ -162,7 +162,7 @@ impl Course {
     fn row(&mut self, p: &Picture, y: usize) {
         let l = p.layout;
         let (mut cb, mut cr) = (vec![-7.0f32; l.w + 2], vec![-9.0f32; l.w + 1]);
-        let a = sources::reader::row(
+        let a = ours::row(
             self.state, &p.y.data, p.y.stride, &p.cb.data, p.cb.stride, &p.cr.data, p.cr.stride,
             y, &mut self.scratch, &mut cb, &mut cr,
         );
@@ -219,7 +219,7 @@ fn list(r: &mut Random, t: usize) -> Course {
 /// n pixels by each kernel; how many differ: exact at 255, exact at another
 /// maxval, fixed.
 fn pixels(r: &mut Random, n: usize) -> [usize; 3] {
-    use sources::convert::{ycbcr_frac_to_rgb8, ycbcr_to_rgb8_fixed16, Pixel};
+    use ours::{ycbcr_frac_to_rgb8, ycbcr_to_rgb8_fixed16};
     let other = |p: Pixel, [r, g, b]: [u8; 3]| (p != Pixel::Rgb(r, g, b)) as usize;
     let mut differ = [0; 3];
     for i in 0..n {
@@ -244,8 +244,6 @@ fn pixels(r: &mut Random, n: usize) -> [usize; 3] {
 
 /// One picture filled by one of the eight ways that its maxval has; whether it differs.
 fn fill(r: &mut Random, t: usize) -> usize {
-    use sources::colour_pixels::YcbcrKernel;
-    use sources::fill::ChromaUpsampling;
     let mut p = picture(r, t);
     // Maxval 255, half the time, has both kernels.
     if r.below(2) == 0 {
@@ -266,7 +264,7 @@ fn fill(r: &mut Random, t: usize) -> usize {
         true => (YcbcrKernel::FixedPoint16, oracle::Kernel::Fixed),
         false => (YcbcrKernel::Exact, oracle::Kernel::Exact),
     };
-    let a = sources::fill::fill(
+    let a = ours::fill(
         l, &p.y.data, p.y.stride, &p.cb.data, p.cb.stride, &p.cr.data, p.cr.stride,
         up, kernel, size, &mut s, &mut out,
     );
@@ -277,12 +275,11 @@ fn fill(r: &mut Random, t: usize) -> usize {
 
 /// The fixed kernel at every pair of whole chroma, at Y 0 and 255.
 fn pairs() -> usize {
-    use sources::convert::{ycbcr_to_rgb8_fixed16, Pixel};
     let mut differ = 0;
     for n in 0..131_072u32 {
         let (y, cb, cr) = (255 * (n >> 16), n >> 8 & 255, n & 255);
         let [r, g, b] = oracle::ycbcr_to_rgb8_fixed16(y, cb, cr);
-        differ += (ycbcr_to_rgb8_fixed16(y, cb, cr) != Pixel::Rgb(r, g, b)) as usize;
+        differ += (ours::ycbcr_to_rgb8_fixed16(y, cb, cr) != Pixel::Rgb(r, g, b)) as usize;
     }
     differ
 }

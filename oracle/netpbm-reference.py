@@ -1,8 +1,9 @@
 #!/usr/bin/env python3
 """Document 01's paragraph on the picture program's input, read plainly, to compare `netpbm::read` with.
 
-Reads standard input and prints `refused N`, or one line for each thing that was read:
+Reads standard input and prints `refused N`, or a line of what was read:
 the sides, the ratios, the chroma sides, and where the rows of Y, Cb and Cr begin.
+Usage: oracle/netpbm-reference.py < PICTURE
 """
 import re
 import sys
@@ -72,5 +73,15 @@ def answer(data):
         return f'refused {reason.args[0]}'
 
 
+def main():
+    if '-h' in sys.argv or '--help' in sys.argv:
+        print(__doc__.strip())
+    elif sys.argv[1:]:
+        print('oracle/netpbm-reference.py: it takes no word; --help says how to call it', file=sys.stderr)
+        sys.exit(2)
+    else:
+        print(answer(sys.stdin.buffer.read()))
+
+
 if __name__ == '__main__':
-    print(answer(sys.stdin.buffer.read()))
+    main()

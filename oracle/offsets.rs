@@ -1,7 +1,8 @@
 //! Every chroma in 256ths through the block of sixteen pixels of the crates' sources, beside
 //! document 01's formulas in whole numbers: red and blue at all 65,537, green at all pairs of them.
 //! It ends with status 1 where anything differs.
-use sources::blocks::rgb_block;
+// The one path into the crates' sources; oracle/offsets names its crate.
+use sources::kernel_blocks::rgb_block;
 
 const CENTRE: i64 = 32_768;
 

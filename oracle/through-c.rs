@@ -1,6 +1,6 @@
-//! The calls that compare.rs makes, under the same names, through include/chroma.h: the static
-//! library beside the original. Every slice that a call writes is lent out of a longer one, and
-//! what stands round it must be as it was afterwards.
+//! The calls that compare.rs makes, under the public crate's name, through include/chroma.h: the
+//! static library beside the original. Every slice that a call writes is lent out of a longer one,
+//! and what stands round it must be as it was afterwards.
 
 #[allow(dead_code)]
 #[path = "../bindings/rust/src/raw.rs"]
@@ -20,35 +20,24 @@ fn guarded<T: Copy + PartialEq, R>(slice: &mut [T], canary: T, f: impl FnOnce(&m
     given
 }
 
-/// The same of floats, which may be not-a-numbers: their bits are compared.
+/// The same of floats.
 fn guarded_floats<R>(slice: &mut [f32], f: impl FnOnce(&mut [f32]) -> R) -> R {
-    let n = slice.len();
-    let mut longer = vec![-7.5e9f32; n + 2 * ROUND];
-    longer[ROUND..ROUND + n].copy_from_slice(slice);
-    let given = f(&mut longer[ROUND..ROUND + n]);
-    let round = longer[..ROUND].iter().chain(&longer[ROUND + n..]);
-    assert!(round.copied().all(|v| v == -7.5e9), "written outside what was lent");
-    slice.copy_from_slice(&longer[ROUND..ROUND + n]);
-    given
+    guarded(slice, -7.5e9, f)
 }
 
-pub mod laws {
+pub mod reconstruction {
+    use crate::raw::{
+        chroma_exact_pixel, chroma_fill, chroma_fixed_pixel, chroma_guided_plane, chroma_linear_plane,
+        chroma_open, chroma_row, chroma_seek, chroma_triangular_plane, ChromaLayout, ChromaPhase,
+        ChromaPixel, ChromaReader, ChromaReply, ChromaStrides,
+    };
+    use crate::{guarded, guarded_floats};
+
     #[derive(Clone, Copy, Debug, PartialEq)]
     pub enum Answer {
         Accepted,
         Refused(u8),
     }
-
-    pub(crate) fn answer(refusal: u32) -> Answer {
-        match refusal {
-            0 => Answer::Accepted,
-            n => Answer::Refused(n as u8),
-        }
-    }
-}
-
-pub mod image {
-    use crate::raw::ChromaLayout;
 
     #[derive(Clone, Copy, Debug, PartialEq)]
     pub struct Layout {
@@ -62,80 +51,11 @@ pub mod image {
         pub maxval: u32,
     }
 
-    pub(crate) fn raw(l: Layout) -> ChromaLayout {
-        let Layout { w, h, rh, rv, cw, ch, sample_bytes, maxval } = l;
-        ChromaLayout { w, h, rh, rv, cw, ch, sample_bytes, maxval }
-    }
-}
-
-pub mod taps {
     #[derive(Clone, Copy, Debug, PartialEq)]
     pub struct Phase {
         pub left: bool,
         pub f: f32,
     }
-}
-
-pub mod resample {
-    use crate::image::{raw, Layout};
-    use crate::laws::{answer, Answer};
-    use crate::raw::chroma_linear_plane;
-
-    pub fn linear_plane(layout: Layout, plane: &[u8], stride: usize, s: &mut [f32], out: &mut [u16]) -> Answer {
-        crate::guarded_floats(s, |s| {
-            crate::guarded(out, 4_660, |out| {
-                // SAFETY: each pointer and length are one slice's.
-                answer(unsafe {
-                    chroma_linear_plane(
-                        raw(layout), plane.as_ptr(), plane.len(), stride,
-                        s.as_mut_ptr(), s.len(), out.as_mut_ptr(), out.len(),
-                    )
-                })
-            })
-        })
-    }
-}
-
-pub mod upsample {
-    use crate::image::{raw, Layout};
-    use crate::laws::{answer, Answer};
-    use crate::raw::chroma_triangular_plane;
-
-    pub fn triangular_plane(layout: Layout, plane: &[u8], stride: usize, out: &mut [u16]) -> Answer {
-        crate::guarded(out, 4_660, |out| {
-            // SAFETY: each pointer and length are one slice's.
-            answer(unsafe {
-                chroma_triangular_plane(raw(layout), plane.as_ptr(), plane.len(), stride, out.as_mut_ptr(), out.len())
-            })
-        })
-    }
-}
-
-pub mod planes {
-    use crate::image::{raw, Layout};
-    use crate::laws::{answer, Answer};
-    use crate::raw::chroma_guided_plane;
-
-    pub fn guided_plane(
-        layout: Layout, y: &[u8], y_stride: usize, c: &[u8], c_stride: usize, s: &mut [f32], out: &mut [u16],
-    ) -> Answer {
-        crate::guarded_floats(s, |s| {
-            crate::guarded(out, 4_660, |out| {
-                // SAFETY: each pointer and length are one slice's.
-                answer(unsafe {
-                    chroma_guided_plane(
-                        raw(layout), y.as_ptr(), y.len(), y_stride, c.as_ptr(), c.len(), c_stride,
-                        s.as_mut_ptr(), s.len(), out.as_mut_ptr(), out.len(),
-                    )
-                })
-            })
-        })
-    }
-}
-
-pub mod guided {
-    use crate::laws::Answer;
-    use crate::taps::Phase;
 
     #[derive(Clone, Copy, Debug, PartialEq)]
     pub struct Geometry {
@@ -162,16 +82,39 @@ pub mod guided {
         pub answer: Answer,
         pub reader: Reader,
     }
-}
 
-/// The state as C has it.
-mod states {
-    use crate::guided::{Geometry, Reader, Reply};
-    use crate::laws::answer;
-    use crate::raw::{ChromaPhase, ChromaReader, ChromaReply};
-    use crate::taps::Phase;
+    #[derive(Clone, Copy, Debug, PartialEq)]
+    pub enum Pixel {
+        Rgb(u8, u8, u8),
+        Refused(u8),
+    }
 
-    pub(crate) fn raw(r: Reader) -> ChromaReader {
+    #[derive(Clone, Copy)]
+    pub enum ChromaUpsampling {
+        Linear = 0,
+        LumaGuided = 1,
+    }
+
+    #[derive(Clone, Copy)]
+    pub enum YcbcrKernel {
+        Exact = 0,
+        FixedPoint16 = 1,
+    }
+
+    fn answer(refusal: u32) -> Answer {
+        match refusal {
+            0 => Answer::Accepted,
+            n => Answer::Refused(n as u8),
+        }
+    }
+
+    fn raw_layout(l: Layout) -> ChromaLayout {
+        let Layout { w, h, rh, rv, cw, ch, sample_bytes, maxval } = l;
+        ChromaLayout { w, h, rh, rv, cw, ch, sample_bytes, maxval }
+    }
+
+    /// The state as C has it.
+    fn raw_reader(r: Reader) -> ChromaReader {
         let g = r.geometry;
         ChromaReader {
             w: g.w,
@@ -189,7 +132,7 @@ mod states {
         }
     }
 
-    pub(crate) fn reply(r: ChromaReply) -> Reply {
+    fn reply(r: ChromaReply) -> Reply {
         let s = r.reader;
         let phases = s.phases.map(|p| {
             assert!(p.left < 2, "a phase that is neither");
@@ -206,24 +149,54 @@ mod states {
         };
         Reply { answer: answer(r.refusal), reader }
     }
-}
 
-pub mod seeking {
-    use crate::guided::{Reader, Reply};
-    use crate::raw::chroma_seek;
-    use crate::states::{raw, reply};
-
-    pub fn seek(reader: Reader, y: usize) -> Reply {
-        // SAFETY: no pointer is passed.
-        reply(unsafe { chroma_seek(raw(reader), y) })
+    fn pixel(p: ChromaPixel) -> Pixel {
+        match p.refusal {
+            0 => Pixel::Rgb(p.r, p.g, p.b),
+            n => Pixel::Refused(n as u8),
+        }
     }
-}
 
-pub mod opening {
-    use crate::guided::{Reader, Reply};
-    use crate::image::{self, Layout};
-    use crate::raw::{chroma_open, ChromaStrides};
-    use crate::states::{raw, reply};
+    pub fn linear_plane(layout: Layout, plane: &[u8], stride: usize, s: &mut [f32], out: &mut [u16]) -> Answer {
+        guarded_floats(s, |s| {
+            guarded(out, 4_660, |out| {
+                // SAFETY: each pointer and length are one slice's.
+                answer(unsafe {
+                    chroma_linear_plane(
+                        raw_layout(layout), plane.as_ptr(), plane.len(), stride,
+                        s.as_mut_ptr(), s.len(), out.as_mut_ptr(), out.len(),
+                    )
+                })
+            })
+        })
+    }
+
+    pub fn triangular_plane(layout: Layout, plane: &[u8], stride: usize, out: &mut [u16]) -> Answer {
+        guarded(out, 4_660, |out| {
+            // SAFETY: each pointer and length are one slice's.
+            answer(unsafe {
+                chroma_triangular_plane(
+                    raw_layout(layout), plane.as_ptr(), plane.len(), stride, out.as_mut_ptr(), out.len(),
+                )
+            })
+        })
+    }
+
+    pub fn guided_plane(
+        layout: Layout, y: &[u8], y_stride: usize, c: &[u8], c_stride: usize, s: &mut [f32], out: &mut [u16],
+    ) -> Answer {
+        guarded_floats(s, |s| {
+            guarded(out, 4_660, |out| {
+                // SAFETY: each pointer and length are one slice's.
+                answer(unsafe {
+                    chroma_guided_plane(
+                        raw_layout(layout), y.as_ptr(), y.len(), y_stride, c.as_ptr(), c.len(), c_stride,
+                        s.as_mut_ptr(), s.len(), out.as_mut_ptr(), out.len(),
+                    )
+                })
+            })
+        })
+    }
 
     #[allow(clippy::too_many_arguments)]
     pub fn open(
@@ -234,17 +207,16 @@ pub mod opening {
         // SAFETY: each pointer and length are one slice's, and nothing is written.
         reply(unsafe {
             chroma_open(
-                image::raw(layout), y.as_ptr(), y.len(), cb.as_ptr(), cb.len(), cr.as_ptr(), cr.len(), strides,
-                s.as_ptr(), s.len(), raw(reader),
+                raw_layout(layout), y.as_ptr(), y.len(), cb.as_ptr(), cb.len(), cr.as_ptr(), cr.len(), strides,
+                s.as_ptr(), s.len(), raw_reader(reader),
             )
         })
     }
-}
 
-pub mod reader {
-    use crate::guided::{Reader, Reply};
-    use crate::raw::{chroma_row, ChromaStrides};
-    use crate::states::{raw, reply};
+    pub fn seek(reader: Reader, y: usize) -> Reply {
+        // SAFETY: no pointer is passed.
+        reply(unsafe { chroma_seek(raw_reader(reader), y) })
+    }
 
     #[allow(clippy::too_many_arguments)]
     pub fn row(
@@ -252,13 +224,13 @@ pub mod reader {
         row: usize, s: &mut [f32], out_cb: &mut [f32], out_cr: &mut [f32],
     ) -> Reply {
         let strides = ChromaStrides { y: y_stride, cb: cb_stride, cr: cr_stride };
-        crate::guarded_floats(s, |s| {
-            crate::guarded_floats(out_cb, |b| {
-                crate::guarded_floats(out_cr, |r| {
+        guarded_floats(s, |s| {
+            guarded_floats(out_cb, |b| {
+                guarded_floats(out_cr, |r| {
                     // SAFETY: each pointer and length are one slice's; the copies overlap nothing.
                     reply(unsafe {
                         chroma_row(
-                            raw(reader), y.as_ptr(), y.len(), cb.as_ptr(), cb.len(), cr.as_ptr(), cr.len(),
+                            raw_reader(reader), y.as_ptr(), y.len(), cb.as_ptr(), cb.len(), cr.as_ptr(), cr.len(),
                             strides, row, s.as_mut_ptr(), s.len(),
                             b.as_mut_ptr(), b.len(), r.as_mut_ptr(), r.len(),
                         )
@@ -266,23 +238,6 @@ pub mod reader {
                 })
             })
         })
-    }
-}
-
-pub mod convert {
-    use crate::raw::{chroma_exact_pixel, chroma_fixed_pixel, ChromaPixel};
-
-    #[derive(Clone, Copy, Debug, PartialEq)]
-    pub enum Pixel {
-        Rgb(u8, u8, u8),
-        Refused(u8),
-    }
-
-    fn pixel(p: ChromaPixel) -> Pixel {
-        match p.refusal {
-            0 => Pixel::Rgb(p.r, p.g, p.b),
-            n => Pixel::Refused(n as u8),
-        }
     }
 
     pub fn ycbcr_frac_to_rgb8(y: u32, cb256: u32, cr256: u32, maxval: u32) -> Pixel {
@@ -294,27 +249,6 @@ pub mod convert {
         // SAFETY: no pointer is passed.
         pixel(unsafe { chroma_fixed_pixel(y, cb, cr) })
     }
-}
-
-pub mod colour_pixels {
-    #[derive(Clone, Copy)]
-    pub enum YcbcrKernel {
-        Exact = 0,
-        FixedPoint16 = 1,
-    }
-}
-
-pub mod fill {
-    use crate::colour_pixels::YcbcrKernel;
-    use crate::image::{raw, Layout};
-    use crate::laws::{answer, Answer};
-    use crate::raw::{chroma_fill, ChromaStrides};
-
-    #[derive(Clone, Copy)]
-    pub enum ChromaUpsampling {
-        Linear = 0,
-        LumaGuided = 1,
-    }
 
     #[allow(clippy::too_many_arguments)]
     pub fn fill(
@@ -322,13 +256,13 @@ pub mod fill {
         upsampling: ChromaUpsampling, kernel: YcbcrKernel, size: usize, s: &mut [f32], out: &mut [u8],
     ) -> Answer {
         let strides = ChromaStrides { y: y_stride, cb: cb_stride, cr: cr_stride };
-        crate::guarded_floats(s, |s| {
-            crate::guarded(out, 165, |out| {
+        guarded_floats(s, |s| {
+            guarded(out, 165, |out| {
                 // SAFETY: each pointer and length are one slice's; the copies overlap nothing.
                 answer(unsafe {
                     chroma_fill(
-                        raw(layout), y.as_ptr(), y.len(), cb.as_ptr(), cb.len(), cr.as_ptr(), cr.len(), strides,
-                        upsampling as u32, kernel as u32, size,
+                        raw_layout(layout), y.as_ptr(), y.len(), cb.as_ptr(), cb.len(), cr.as_ptr(), cr.len(),
+                        strides, upsampling as u32, kernel as u32, size,
                         s.as_mut_ptr(), s.len(), out.as_mut_ptr(), out.len(),
                     )
                 })
