@@ -7,6 +7,7 @@ ghost use Rattle.kernel_blocks.specs.Stores.{blockPixel};
 ghost use Rattle.colour_rows.specs.Colours.{colourBy, rowColour, colourRow};
 ghost use Rattle.colour_rows.specs.Lent.{RowLent, Blocked};
 ghost use Rattle.kernels.specs.declared.kernel.YcbcrKernel.the-variants.{Exact, FixedPoint16};
+ghost use Rattle.image.specs.Samples.{planeOf};
 use crate::samples::chroma16;
 use crate::samples::luma16;
 use crate::samples::whole16;
@@ -45,9 +46,9 @@ fn block_at(
     s: &[f32],
     x: usize,
 ) -> [[u8; Block::LEN]; 3]
-    requires { ⌜ RowLent layout (record { bytes = now plane; stride = stride }) row (length (now s)) ⌝ }
+    requires { ⌜ RowLent layout (planeOf (now plane) stride) row (length (now s)) ⌝ }
     requires { ⌜ Blocked kernel layout × (x + 16 ≤ layout .w) ⌝ }
-    ensures { λ r. ⌜ ((k : ℕ) → k < 16 → blockPixel r k ≡ rowColour kernel layout (record { bytes = now (plane .entry); stride = stride }) row (now (s .entry)) (x + k)) ⌝ }
+    ensures { λ r. ⌜ ((k : ℕ) → k < 16 → blockPixel r k ≡ rowColour kernel layout (planeOf (now (plane .entry)) stride) row (now (s .entry)) (x + k)) ⌝ }
 {
     let y = luma16(layout, plane, stride, row, x);
     match kernel {
@@ -67,9 +68,9 @@ fn blocks3(
     out: &mut [u8],
     at: usize,
 )
-    requires { ⌜ RowLent layout (record { bytes = now plane; stride = stride }) row (length (now s)) ⌝ }
+    requires { ⌜ RowLent layout (planeOf (now plane) stride) row (length (now s)) ⌝ }
     requires { ⌜ Blocked kernel layout × (at + layout .w * 3 ≤ length (now out)) ⌝ }
-    ensures { λ _. ⌜ now (out .exit) ≡ colourRow kernel layout (record { bytes = now (plane .entry); stride = stride }) row (now (s .entry)) at 3 (now (out .entry)) ⌝ }
+    ensures { λ _. ⌜ now (out .exit) ≡ colourRow kernel layout (planeOf (now (plane .entry)) stride) row (now (s .entry)) at 3 (now (out .entry)) ⌝ }
 {
     let mut done = 0;
     while done < layout.w {
@@ -92,9 +93,9 @@ fn blocks4(
     at: usize,
     low: u32,
 )
-    requires { ⌜ RowLent layout (record { bytes = now plane; stride = stride }) row (length (now s)) ⌝ }
+    requires { ⌜ RowLent layout (planeOf (now plane) stride) row (length (now s)) ⌝ }
     requires { ⌜ Blocked kernel layout × (at + layout .w * 4 ≤ length (now out)) × (low ≡ 16777215) ⌝ }
-    ensures { λ _. ⌜ now (out .exit) ≡ colourRow kernel layout (record { bytes = now (plane .entry); stride = stride }) row (now (s .entry)) at 4 (now (out .entry)) ⌝ }
+    ensures { λ _. ⌜ now (out .exit) ≡ colourRow kernel layout (planeOf (now (plane .entry)) stride) row (now (s .entry)) at 4 (now (out .entry)) ⌝ }
 {
     let mut done = 0;
     while done < layout.w {
@@ -117,9 +118,9 @@ pub fn block_row(
     out: &mut [u8],
     at: usize,
 )
-    requires { ⌜ RowLent layout (record { bytes = now plane; stride = stride }) row (length (now s)) ⌝ }
+    requires { ⌜ RowLent layout (planeOf (now plane) stride) row (length (now s)) ⌝ }
     requires { ⌜ Blocked kernel layout × (3 ≤ size) × (size ≤ 4) × (at + layout .w * size ≤ length (now out)) ⌝ }
-    ensures { λ _. ⌜ now (out .exit) ≡ colourRow kernel layout (record { bytes = now (plane .entry); stride = stride }) row (now (s .entry)) at size (now (out .entry)) ⌝ }
+    ensures { λ _. ⌜ now (out .exit) ≡ colourRow kernel layout (planeOf (now (plane .entry)) stride) row (now (s .entry)) at size (now (out .entry)) ⌝ }
 {
     if size == 3 {
         blocks3(layout, kernel, plane, stride, row, s, out, at);

@@ -9,6 +9,7 @@ ghost use Rattle.kernels.specs.Forms.{colourOf};
 ghost use Rattle.colour_rows.specs.Colours.{colourBy, colourRow};
 ghost use Rattle.colour_rows.specs.Lent.{RowLent};
 ghost use Rattle.kernels.specs.declared.kernel.YcbcrKernel.the-variants.{Exact, FixedPoint16};
+ghost use Rattle.image.specs.Samples.{planeOf};
 use crate::samples::chroma_at;
 use crate::samples::luma_at;
 use crate::samples::whole_at;
@@ -75,9 +76,9 @@ pub fn plain_row(
     out: &mut [u8],
     at: usize,
 )
-    requires { ⌜ RowLent layout (record { bytes = now plane; stride = stride }) row (length (now s)) ⌝ }
+    requires { ⌜ RowLent layout (planeOf (now plane) stride) row (length (now s)) ⌝ }
     requires { ⌜ (3 ≤ size) × (at + layout .w * size ≤ length (now out)) ⌝ }
-    ensures { λ _. ⌜ now (out .exit) ≡ colourRow kernel layout (record { bytes = now (plane .entry); stride = stride }) row (now (s .entry)) at size (now (out .entry)) ⌝ }
+    ensures { λ _. ⌜ now (out .exit) ≡ colourRow kernel layout (planeOf (now (plane .entry)) stride) row (now (s .entry)) at size (now (out .entry)) ⌝ }
 {
     let w = layout.w;
     let mut x = 0;

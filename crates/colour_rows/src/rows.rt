@@ -5,6 +5,7 @@ ghost use Prim.Native.Nat.{_+_, _*_, _≤_};
 ghost use lib.ListN.{length};
 ghost use Rattle.colour_rows.specs.Colours.{colourRow};
 ghost use Rattle.colour_rows.specs.Lent.{RowLent, Blocked};
+ghost use Rattle.image.specs.Samples.{planeOf};
 use crate::blocks::block_row;
 use crate::pixels::plain_row;
 use image::Layout;
@@ -36,9 +37,9 @@ pub fn colour_row(
     out: &mut [u8],
     at: usize,
 )
-    requires { ⌜ RowLent layout (record { bytes = now plane; stride = stride }) row (length (now s)) ⌝ }
+    requires { ⌜ RowLent layout (planeOf (now plane) stride) row (length (now s)) ⌝ }
     requires { ⌜ (3 ≤ size) × (size ≤ 4) × (at + layout .w * size ≤ length (now out)) ⌝ }
-    ensures { λ _. ⌜ now (out .exit) ≡ colourRow kernel layout (record { bytes = now (plane .entry); stride = stride }) row (now (s .entry)) at size (now (out .entry)) ⌝ }
+    ensures { λ _. ⌜ now (out .exit) ≡ colourRow kernel layout (planeOf (now (plane .entry)) stride) row (now (s .entry)) at size (now (out .entry)) ⌝ }
 {
     if by_blocks(layout, kernel) {
         block_row(layout, kernel, size, plane, stride, row, s, out, at);

@@ -4,7 +4,7 @@ ghost use Prim.Native.Nat.{ℕ, _+_, _*_, _≤_, _<_};
 ghost use lib.ListN.{length, getD};
 ghost use lib.Ieee.{nan};
 ghost use Rattle.laws.specs.Floats.{f32, _⊗_};
-ghost use Rattle.image.specs.Samples.{sampleOf, sampleAt};
+ghost use Rattle.image.specs.Samples.{sampleOf, sampleAt, planeOf};
 ghost use Rattle.fround.specs.Rounding.{roundClamped, Rounded};
 ghost use Rattle.image.specs.Scratch.{cellAt};
 ghost use Rattle.kernel_blocks.specs.Floating.{Centred};
@@ -20,8 +20,8 @@ fn wide(x: u16) -> u32
 
 // Inner: luma of column x of a row.
 pub fn luma_at(layout: Layout, plane: &[u8], stride: usize, row: usize, x: usize) -> u32
-    requires { ⌜ LumaRow layout (record { bytes = now plane; stride = stride }) row × (x < layout .w) ⌝ }
-    ensures { λ r. ⌜ (r ≡ sampleAt (layout .«sample_bytes») (record { bytes = now (plane .entry); stride = stride }) x row) × (r ≤ 65535) ⌝ }
+    requires { ⌜ LumaRow layout (planeOf (now plane) stride) row × (x < layout .w) ⌝ }
+    ensures { λ r. ⌜ (r ≡ sampleAt (layout .«sample_bytes») (planeOf (now (plane .entry)) stride) x row) × (r ≤ 65535) ⌝ }
 {
     let bytes = layout.sample_bytes;
     wide(image::sample(plane, bytes, row * stride + x * bytes))
@@ -73,8 +73,8 @@ pub fn luma16(
     row: usize,
     x: usize,
 ) -> [u16; Block::LEN]
-    requires { ⌜ LumaRow layout (record { bytes = now plane; stride = stride }) row × (x + 16 ≤ layout .w) ⌝ }
-    ensures { λ r. ⌜ Sixteen r (λ k. sampleAt (layout .«sample_bytes») (record { bytes = now (plane .entry); stride = stride }) (x + k) row) ⌝ }
+    requires { ⌜ LumaRow layout (planeOf (now plane) stride) row × (x + 16 ≤ layout .w) ⌝ }
+    ensures { λ r. ⌜ Sixteen r (λ k. sampleAt (layout .«sample_bytes») (planeOf (now (plane .entry)) stride) (x + k) row) ⌝ }
 {
     if layout.sample_bytes == 1 {
         return bytes16(plane, row * stride + x);

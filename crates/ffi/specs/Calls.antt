@@ -5,8 +5,6 @@ use mathlib.Core.List.{List}
 use Prim.Native.Nat.{ℕ}
 use lib.Dec.{eqb, ltb}
 use Rattle.laws.specs.declared.answers.Answer.{Answer}
-use Rattle.image.specs.Samples.{Plane}
-use Rattle.image.specs.Picture.{Planes}
 use Rattle.guided.specs.declared.state.Reply.{Reply}
 use Rattle.kernels.specs.declared.pixel.Pixel.{Pixel}
 use Rattle.kernels.specs.declared.pixel.Pixel.the-variants as P
@@ -16,7 +14,6 @@ use Rattle.fill.specs.declared.options.ChromaUpsampling.{ChromaUpsampling}
 use Rattle.fill.specs.declared.options.ChromaUpsampling.the-variants.{Linear, LumaGuided}
 use Rattle.picture.specs.declared.Outcome.{Outcome}
 use Rattle.picture.specs.declared.Outcome.the-variants.{Written, Refused}
-use Rattle.ffi.specs.declared.types.ChromaStrides.{ChromaStrides}
 use Rattle.ffi.specs.declared.types.ChromaReader.{ChromaReader}
 use Rattle.ffi.specs.declared.types.ChromaReply.{ChromaReply}
 use Rattle.ffi.specs.declared.types.ChromaPixel.{ChromaPixel}
@@ -44,15 +41,6 @@ pub record Replied (handed : ChromaReader) (Given : Reply → Type 0) (r : Chrom
 pub record Checked (handed : ChromaReader) (Kept : Type 0) (Given : Reply → Type 0) (r : ChromaReply) : Type 0 where
   pub strange : strangePhases handed ≡ true → (r ≡ record { refusal = 1; reader = handed }) × Kept
   pub plain : strangePhases handed ≡ false → Replied handed Given r
-
--- ---- planes
-
--- a plane that a call is lent, and the three of a picture
-abbrev pub lentPlane : List ℕ → ℕ → Plane
-lentPlane bytes stride = record { bytes = bytes; stride = stride }
-
-abbrev pub lentPlanes : List ℕ → List ℕ → List ℕ → ChromaStrides → Planes
-lentPlanes y cb cr strides = record { y = lentPlane y (strides .y); cb = lentPlane cb (strides .cb); cr = lentPlane cr (strides .cr) }
 
 -- ---- fill
 

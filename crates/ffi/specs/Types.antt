@@ -8,10 +8,12 @@ use lib.Ieee.{nan}
 use Rattle.laws.specs.declared.answers.Answer.{Answer}
 use Rattle.laws.specs.declared.answers.Answer.the-variants.{Accepted, Refused}
 use Rattle.image.specs.declared.layout.Layout.{Layout}
+use Rattle.image.specs.declared.strides.Strides.{Strides}
 use Rattle.taps.specs.declared.phases.Phase.{Phase}
 use Rattle.guided.specs.declared.state.Reader.{Reader}
 use Rattle.guided.specs.Calls.{phaseIn}
 use Rattle.ffi.specs.declared.types.ChromaLayout.{ChromaLayout}
+use Rattle.ffi.specs.declared.types.ChromaStrides.{ChromaStrides}
 use Rattle.ffi.specs.declared.types.ChromaPhase.{ChromaPhase}
 use Rattle.ffi.specs.declared.types.ChromaReader.{ChromaReader}
 
@@ -22,6 +24,9 @@ numberOf (Refused n) = n
 
 unfoldable pub asLayout : ChromaLayout → Layout
 asLayout l = record { w = l .w; h = l .h; rh = l .rh; rv = l .rv; cw = l .cw; ch = l .ch; «sample_bytes» = l .«sample_bytes»; maxval = l .maxval }
+
+unfoldable pub asStrides : ChromaStrides → Strides
+asStrides s = record { y = s .y; cb = s .cb; cr = s .cr }
 
 -- ---- the reader's state
 

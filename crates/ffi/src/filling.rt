@@ -1,12 +1,14 @@
 // Fill to RGB, for C.
 ghost use mathlib.Core.Path.{_≡_};
 ghost use Rattle.fill.specs.Fill.{FillGiven};
-ghost use Rattle.ffi.specs.Types.{asLayout};
-ghost use Rattle.ffi.specs.Calls.{Filled, lentPlanes, asUpsampling, asKernel};
+ghost use Rattle.ffi.specs.Types.{asStrides, asLayout};
+ghost use Rattle.ffi.specs.Calls.{Filled, asUpsampling, asKernel};
+ghost use Rattle.image.specs.Picture.{planesOf};
 use crate::types::ChromaLayout;
 use crate::types::ChromaStrides;
 use crate::types::number_of;
 use crate::types::to_layout;
+use crate::types::to_strides;
 use fill::ChromaUpsampling;
 use kernels::YcbcrKernel;
 
@@ -42,7 +44,7 @@ pub extern "C" fn chroma_fill(
     s: &mut [f32],
     out: &mut [u8],
 ) -> u32
-    ensures { λ r. ⌜ Filled upsampling kernel ((now (s .exit) ≡ now (s .entry)) × (now (out .exit) ≡ now (out .entry))) (λ u k a. FillGiven (record { layout = asLayout layout; planes = lentPlanes (now (y .entry)) (now (cb .entry)) (now (cr .entry)) strides; upsampling = u; kernel = k; size = size; scratch = now (s .entry); out = now (out .entry) }) a (now (s .exit)) (now (out .exit))) r ⌝ }
+    ensures { λ r. ⌜ Filled upsampling kernel ((now (s .exit) ≡ now (s .entry)) × (now (out .exit) ≡ now (out .entry))) (λ u k a. FillGiven (record { layout = asLayout layout; planes = planesOf (now (y .entry)) (now (cb .entry)) (now (cr .entry)) (asStrides strides); upsampling = u; kernel = k; size = size; scratch = now (s .entry); out = now (out .entry) }) a (now (s .exit)) (now (out .exit))) r ⌝ }
 {
     if laws::either(1 < upsampling, 1 < kernel) {
         return 255;
@@ -50,11 +52,9 @@ pub extern "C" fn chroma_fill(
     number_of(fill::fill(
         to_layout(layout),
         y,
-        strides.y,
         cb,
-        strides.cb,
         cr,
-        strides.cr,
+        to_strides(strides),
         to_upsampling(upsampling),
         to_kernel(kernel),
         size,

@@ -3,7 +3,8 @@ ghost use Rattle.linear.specs.Linear.{LinearGiven};
 ghost use Rattle.upsample.specs.Triangular.{TriangularGiven};
 ghost use Rattle.guided_plane.specs.Plane.{GuidedGiven};
 ghost use Rattle.ffi.specs.Types.{asLayout};
-ghost use Rattle.ffi.specs.Calls.{Answered, lentPlane};
+ghost use Rattle.ffi.specs.Calls.{Answered};
+ghost use Rattle.image.specs.Samples.{planeOf};
 use crate::types::ChromaLayout;
 use crate::types::number_of;
 use crate::types::to_layout;
@@ -17,7 +18,7 @@ pub extern "C" fn chroma_linear_plane(
     s: &mut [f32],
     out: &mut [u16],
 ) -> u32
-    ensures { λ r. ⌜ Answered (λ a. LinearGiven (asLayout layout) (lentPlane (now (plane .entry)) stride) (now (s .entry)) (now (out .entry)) a (now (s .exit)) (now (out .exit))) r ⌝ }
+    ensures { λ r. ⌜ Answered (λ a. LinearGiven (asLayout layout) (planeOf (now (plane .entry)) stride) (now (s .entry)) (now (out .entry)) a (now (s .exit)) (now (out .exit))) r ⌝ }
 {
     number_of(linear::linear_plane(to_layout(layout), plane, stride, s, out))
 }
@@ -33,7 +34,7 @@ pub extern "C" fn chroma_guided_plane(
     s: &mut [f32],
     out: &mut [u16],
 ) -> u32
-    ensures { λ r. ⌜ Answered (λ a. GuidedGiven (asLayout layout) (lentPlane (now (y .entry)) «y_stride») (lentPlane (now (plane .entry)) stride) (now (s .entry)) (now (out .entry)) a (now (s .exit)) (now (out .exit))) r ⌝ }
+    ensures { λ r. ⌜ Answered (λ a. GuidedGiven (asLayout layout) (planeOf (now (y .entry)) «y_stride») (planeOf (now (plane .entry)) stride) (now (s .entry)) (now (out .entry)) a (now (s .exit)) (now (out .exit))) r ⌝ }
 {
     number_of(guided_plane::guided_plane(to_layout(layout), y, y_stride, plane, stride, s, out))
 }
@@ -46,7 +47,7 @@ pub extern "C" fn chroma_triangular_plane(
     stride: usize,
     out: &mut [u16],
 ) -> u32
-    ensures { λ r. ⌜ Answered (λ a. TriangularGiven (asLayout layout) (lentPlane (now (plane .entry)) stride) (now (out .entry)) a (now (out .exit))) r ⌝ }
+    ensures { λ r. ⌜ Answered (λ a. TriangularGiven (asLayout layout) (planeOf (now (plane .entry)) stride) (now (out .entry)) a (now (out .exit))) r ⌝ }
 {
     number_of(upsample::triangular_plane(to_layout(layout), plane, stride, out))
 }

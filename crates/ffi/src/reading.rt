@@ -1,8 +1,9 @@
 // The reader's calls for C: open, seek and row.
 ghost use mathlib.Core.Path.{_≡_};
 ghost use Rattle.guided.specs.Calls.{OpenGiven, SeekGiven, RowGiven};
-ghost use Rattle.ffi.specs.Types.{asLayout, asReader};
-ghost use Rattle.ffi.specs.Calls.{Replied, Checked, lentPlanes};
+ghost use Rattle.ffi.specs.Types.{asStrides, asLayout, asReader};
+ghost use Rattle.ffi.specs.Calls.{Replied, Checked};
+ghost use Rattle.image.specs.Picture.{planesOf};
 use crate::replies::reply_to;
 use crate::types::ChromaLayout;
 use crate::types::ChromaReader;
@@ -11,6 +12,7 @@ use crate::types::ChromaStrides;
 use crate::types::strange_phases;
 use crate::types::to_layout;
 use crate::types::to_reader;
+use crate::types::to_strides;
 
 // `open`: a picture's reader at row 0. The state that it is handed may hold anything.
 #[no_mangle]
@@ -23,16 +25,14 @@ pub extern "C" fn chroma_open(
     s: &[f32],
     reader: ChromaReader,
 ) -> ChromaReply
-    ensures { λ r. ⌜ Replied reader (OpenGiven (record { layout = asLayout layout; planes = lentPlanes (now (y .entry)) (now (cb .entry)) (now (cr .entry)) strides; scratch = now (s .entry); reader = asReader reader })) r ⌝ }
+    ensures { λ r. ⌜ Replied reader (OpenGiven (record { layout = asLayout layout; planes = planesOf (now (y .entry)) (now (cb .entry)) (now (cr .entry)) (asStrides strides); scratch = now (s .entry); reader = asReader reader })) r ⌝ }
 {
     let reply = reader::open(
         to_layout(layout),
         y,
-        strides.y,
         cb,
-        strides.cb,
         cr,
-        strides.cr,
+        to_strides(strides),
         s,
         to_reader(reader),
     );
@@ -64,7 +64,7 @@ pub extern "C" fn chroma_row(
     out_cb: &mut [f32],
     out_cr: &mut [f32],
 ) -> ChromaReply
-    ensures { λ r. ⌜ Checked reader ((now (s .exit) ≡ now (s .entry)) × (now («out_cb» .exit) ≡ now («out_cb» .entry)) × (now («out_cr» .exit) ≡ now («out_cr» .entry))) (λ p. RowGiven (record { y = row; planes = lentPlanes (now (y .entry)) (now (cb .entry)) (now (cr .entry)) strides; reader = asReader reader; scratch = now (s .entry); outCb = now («out_cb» .entry); outCr = now («out_cr» .entry) }) p (now (s .exit)) (now («out_cb» .exit)) (now («out_cr» .exit))) r ⌝ }
+    ensures { λ r. ⌜ Checked reader ((now (s .exit) ≡ now (s .entry)) × (now («out_cb» .exit) ≡ now («out_cb» .entry)) × (now («out_cr» .exit) ≡ now («out_cr» .entry))) (λ p. RowGiven (record { y = row; planes = planesOf (now (y .entry)) (now (cb .entry)) (now (cr .entry)) (asStrides strides); reader = asReader reader; scratch = now (s .entry); outCb = now («out_cb» .entry); outCr = now («out_cr» .entry) }) p (now (s .exit)) (now («out_cb» .exit)) (now («out_cr» .exit))) r ⌝ }
 {
     if strange_phases(reader) {
         return ChromaReply { refusal: 1, reader };
@@ -72,11 +72,9 @@ pub extern "C" fn chroma_row(
     let reply = reader::row(
         to_reader(reader),
         y,
-        strides.y,
         cb,
-        strides.cb,
         cr,
-        strides.cr,
+        to_strides(strides),
         row,
         s,
         out_cb,

@@ -1,9 +1,10 @@
 // What crosses the boundary to C, and its translation: structs with C's layout, whose numbers stand for the Rattle calls' bools and enums.
 ghost use mathlib.Core.Path.{_≡_};
-ghost use Rattle.ffi.specs.Types.{asLayout, asPhase, chromaPhase, asReader, chromaReader, strangePhases, numberOf};
+ghost use Rattle.ffi.specs.Types.{asStrides, asLayout, asPhase, chromaPhase, asReader, chromaReader, strangePhases, numberOf};
 use guided::Geometry;
 use guided::Reader;
 use image::Layout;
+use image::Strides;
 use laws::Answer;
 use laws::either;
 use taps::Phase;
@@ -89,6 +90,17 @@ pub fn to_layout(l: ChromaLayout) -> Layout
         ch: l.ch,
         sample_bytes: l.sample_bytes,
         maxval: l.maxval,
+    }
+}
+
+// Inner: the strides that C's stand for.
+pub fn to_strides(strides: ChromaStrides) -> Strides
+    ensures { λ r. ⌜ r ≡ asStrides strides ⌝ }
+{
+    Strides {
+        y: strides.y,
+        cb: strides.cb,
+        cr: strides.cr,
     }
 }
 

@@ -2,8 +2,10 @@
 ghost use mathlib.Core.Path.{_≡_};
 ghost use Rattle.laws.specs.Refusals.{first};
 ghost use Rattle.fill.specs.Tests.{isFixed, fillTests};
+ghost use Rattle.image.specs.Picture.{planesOf};
 use crate::options::ChromaUpsampling;
 use image::Layout;
+use image::Strides;
 use kernels::YcbcrKernel;
 use laws::Answer;
 
@@ -20,24 +22,22 @@ fn is_fixed(kernel: YcbcrKernel) -> bool
 pub fn fill_answer(
     layout: Layout,
     y: &[u8],
-    y_stride: usize,
     cb: &[u8],
-    cb_stride: usize,
     cr: &[u8],
-    cr_stride: usize,
+    strides: Strides,
     upsampling: ChromaUpsampling,
     kernel: YcbcrKernel,
     size: usize,
     s: &[f32],
     out: &[u8],
 ) -> Answer
-    ensures { λ r. ⌜ r ≡ first (fillTests (record { layout = layout; planes = record { y = record { bytes = now (y .entry); stride = «y_stride» }; cb = record { bytes = now (cb .entry); stride = «cb_stride» }; cr = record { bytes = now (cr .entry); stride = «cr_stride» } }; upsampling = upsampling; kernel = kernel; size = size; scratch = now (s .entry); out = now (out .entry) })) ⌝ }
+    ensures { λ r. ⌜ r ≡ first (fillTests (record { layout = layout; planes = planesOf (now (y .entry)) (now (cb .entry)) (now (cr .entry)) strides; upsampling = upsampling; kernel = kernel; size = size; scratch = now (s .entry); out = now (out .entry) })) ⌝ }
 {
     let early = layout.answer(is_fixed(kernel));
     if laws::refused(early) {
         return early;
     }
-    if image::bad_planes(layout, y, y_stride, cb, cb_stride, cr, cr_stride) {
+    if image::bad_planes(layout, y, cb, cr, strides) {
         return Answer::Refused(7);
     }
     if laws::outside(3, 4, size) {

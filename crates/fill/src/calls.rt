@@ -1,9 +1,11 @@
 // Fill to RGB: a whole picture's colour from its planes, chroma linear or guided by luma. The original's fill_ycbcr_interp on one thread.
 ghost use Rattle.fill.specs.Fill.{FillGiven};
+ghost use Rattle.image.specs.Picture.{planesOf};
 use crate::answer::fill_answer;
 use crate::options::ChromaUpsampling;
 use crate::rows::fill_rows;
 use image::Layout;
+use image::Strides;
 use kernels::YcbcrKernel;
 use laws::Answer;
 
@@ -12,44 +14,27 @@ use laws::Answer;
 pub fn fill(
     layout: Layout,
     y: &[u8],
-    y_stride: usize,
     cb: &[u8],
-    cb_stride: usize,
     cr: &[u8],
-    cr_stride: usize,
+    strides: Strides,
     upsampling: ChromaUpsampling,
     kernel: YcbcrKernel,
     size: usize,
     s: &mut [f32],
     out: &mut [u8],
 ) -> Answer
-    ensures { λ r. ⌜ FillGiven (record { layout = layout; planes = record { y = record { bytes = now (y .entry); stride = «y_stride» }; cb = record { bytes = now (cb .entry); stride = «cb_stride» }; cr = record { bytes = now (cr .entry); stride = «cr_stride» } }; upsampling = upsampling; kernel = kernel; size = size; scratch = now (s .entry); out = now (out .entry) }) r (now (s .exit)) (now (out .exit)) ⌝ }
+    ensures { λ r. ⌜ FillGiven (record { layout = layout; planes = planesOf (now (y .entry)) (now (cb .entry)) (now (cr .entry)) strides; upsampling = upsampling; kernel = kernel; size = size; scratch = now (s .entry); out = now (out .entry) }) r (now (s .exit)) (now (out .exit)) ⌝ }
 {
-    let answer = fill_answer(
-        layout,
-        y,
-        y_stride,
-        cb,
-        cb_stride,
-        cr,
-        cr_stride,
-        upsampling,
-        kernel,
-        size,
-        s,
-        out,
-    );
+    let answer = fill_answer(layout, y, cb, cr, strides, upsampling, kernel, size, s, out);
     if laws::refused(answer) {
         return answer;
     }
     fill_rows(
         layout,
         y,
-        y_stride,
         cb,
-        cb_stride,
         cr,
-        cr_stride,
+        strides,
         upsampling,
         kernel,
         size,

@@ -3,72 +3,52 @@ ghost use mathlib.Core.Path.{_≡_};
 ghost use mathlib.Core.Bool.{true};
 ghost use Prim.Native.Nat.{_+_, _-_, _*_, _≤_, _<_};
 ghost use lib.ListN.{length};
-ghost use Rattle.image.specs.Picture.{pictureOf};
+ghost use Rattle.image.specs.Picture.{pictureOf, planesOf};
 ghost use Rattle.linear.specs.Linear.{linearRow, Ready};
 ghost use Rattle.image.specs.Scratch.{scratchNeed};
 ghost use Rattle.guided_window.specs.Lent.{Lent};
 ghost use Rattle.colour_rows.specs.Colours.{colourRow};
 ghost use Rattle.fill.specs.Fill.{fillColour, pixelRows, fillScratch};
 ghost use Rattle.fill.specs.Steps.{fillStep, FillLent};
+ghost use Rattle.image.specs.Samples.{planeOf};
 use crate::options::ChromaUpsampling;
 use image::Layout;
+use image::Strides;
 use kernels::YcbcrKernel;
 
 // A row of linear chroma into scratch: Cb's at 0, Cr's at w.
-fn linear_pair(
-    layout: Layout,
-    cb: &[u8],
-    cb_stride: usize,
-    cr: &[u8],
-    cr_stride: usize,
-    row: usize,
-    s: &mut [f32],
-)
-    requires { ⌜ Ready layout (record { bytes = now cb; stride = «cb_stride» }) (length (now s)) ⌝ }
-    requires { ⌜ Ready layout (record { bytes = now cr; stride = «cr_stride» }) (length (now s)) ⌝ }
+fn linear_pair(layout: Layout, cb: &[u8], cr: &[u8], strides: Strides, row: usize, s: &mut [f32])
+    requires { ⌜ Ready layout (planeOf (now cb) (strides .cb)) (length (now s)) ⌝ }
+    requires { ⌜ Ready layout (planeOf (now cr) (strides .cr)) (length (now s)) ⌝ }
     requires { ⌜ row < layout .h ⌝ }
-    ensures { λ _. ⌜ now (s .exit) ≡ linearRow layout (record { bytes = now (cr .entry); stride = «cr_stride» }) (layout .w) row (linearRow layout (record { bytes = now (cb .entry); stride = «cb_stride» }) 0 row (now (s .entry))) ⌝ }
+    ensures { λ _. ⌜ now (s .exit) ≡ linearRow layout (planeOf (now (cr .entry)) (strides .cr)) (layout .w) row (linearRow layout (planeOf (now (cb .entry)) (strides .cb)) 0 row (now (s .entry))) ⌝ }
 {
-    linear::linear_row(layout, cb, cb_stride, row, s, 0);
-    linear::linear_row(layout, cr, cr_stride, row, s, layout.w);
+    linear::linear_row(layout, cb, strides.cb, row, s, 0);
+    linear::linear_row(layout, cr, strides.cr, row, s, layout.w);
 }
 
 // Row first + n of chroma into scratch, the rows from first on having been made before it.
 fn chroma_row(
     layout: Layout,
     y: &[u8],
-    y_stride: usize,
     cb: &[u8],
-    cb_stride: usize,
     cr: &[u8],
-    cr_stride: usize,
+    strides: Strides,
     upsampling: ChromaUpsampling,
     first: usize,
     n: usize,
     s: &mut [f32],
 )
-    requires { ⌜ Lent layout (record { y = record { bytes = now y; stride = «y_stride» }; cb = record { bytes = now cb; stride = «cb_stride» }; cr = record { bytes = now cr; stride = «cr_stride» } }) true ⌝ }
+    requires { ⌜ Lent layout (planesOf (now y) (now cb) (now cr) strides) true ⌝ }
     requires { ⌜ (first + n < layout .h) × (scratchNeed layout ≤ length (now s)) ⌝ }
-    ensures { λ _. ⌜ now (s .exit) ≡ fillStep upsampling layout (record { y = record { bytes = now (y .entry); stride = «y_stride» }; cb = record { bytes = now (cb .entry); stride = «cb_stride» }; cr = record { bytes = now (cr .entry); stride = «cr_stride» } }) first n (now (s .entry)) ⌝ }
+    ensures { λ _. ⌜ now (s .exit) ≡ fillStep upsampling layout (planesOf (now (y .entry)) (now (cb .entry)) (now (cr .entry)) strides) first n (now (s .entry)) ⌝ }
 {
     match upsampling {
         ChromaUpsampling::Linear => {
-            linear_pair(layout, cb, cb_stride, cr, cr_stride, first + n, s);
+            linear_pair(layout, cb, cr, strides, first + n, s);
         }
         ChromaUpsampling::LumaGuided => {
-            guided_rows::guided_step(
-                layout,
-                y,
-                y_stride,
-                cb,
-                cb_stride,
-                cr,
-                cr_stride,
-                true,
-                first,
-                n,
-                s,
-            );
+            guided_rows::guided_step(layout, y, cb, cr, strides, true, first, n, s);
         }
     }
 }
@@ -77,11 +57,9 @@ fn chroma_row(
 fn fill_row(
     layout: Layout,
     y: &[u8],
-    y_stride: usize,
     cb: &[u8],
-    cb_stride: usize,
     cr: &[u8],
-    cr_stride: usize,
+    strides: Strides,
     upsampling: ChromaUpsampling,
     kernel: YcbcrKernel,
     size: usize,
@@ -90,38 +68,24 @@ fn fill_row(
     s: &mut [f32],
     out: &mut [u8],
 )
-    requires { ⌜ FillLent layout (record { y = record { bytes = now y; stride = «y_stride» }; cb = record { bytes = now cb; stride = «cb_stride» }; cr = record { bytes = now cr; stride = «cr_stride» } }) size (length (now s)) (length (now out)) ⌝ }
+    requires { ⌜ FillLent layout (planesOf (now y) (now cb) (now cr) strides) size (length (now s)) (length (now out)) ⌝ }
     requires { ⌜ first + n < layout .h ⌝ }
-    ensures { λ _. ⌜ now (s .exit) ≡ fillStep upsampling layout (record { y = record { bytes = now (y .entry); stride = «y_stride» }; cb = record { bytes = now (cb .entry); stride = «cb_stride» }; cr = record { bytes = now (cr .entry); stride = «cr_stride» } }) first n (now (s .entry)) ⌝ }
-    ensures { λ _. ⌜ now (out .exit) ≡ colourRow kernel layout (record { bytes = now (y .entry); stride = «y_stride» }) (first + n) (fillStep upsampling layout (record { y = record { bytes = now (y .entry); stride = «y_stride» }; cb = record { bytes = now (cb .entry); stride = «cb_stride» }; cr = record { bytes = now (cr .entry); stride = «cr_stride» } }) first n (now (s .entry))) ((first + n) * (layout .w * size)) size (now (out .entry)) ⌝ }
+    ensures { λ _. ⌜ now (s .exit) ≡ fillStep upsampling layout (planesOf (now (y .entry)) (now (cb .entry)) (now (cr .entry)) strides) first n (now (s .entry)) ⌝ }
+    ensures { λ _. ⌜ now (out .exit) ≡ colourRow kernel layout (planeOf (now (y .entry)) (strides .y)) (first + n) (fillStep upsampling layout (planesOf (now (y .entry)) (now (cb .entry)) (now (cr .entry)) strides) first n (now (s .entry))) ((first + n) * (layout .w * size)) size (now (out .entry)) ⌝ }
 {
     let row = first + n;
     let at = row * (layout.w * size);
-    chroma_row(
-        layout,
-        y,
-        y_stride,
-        cb,
-        cb_stride,
-        cr,
-        cr_stride,
-        upsampling,
-        first,
-        n,
-        s,
-    );
-    colour_rows::colour_row(layout, kernel, size, y, y_stride, row, s, out, at);
+    chroma_row(layout, y, cb, cr, strides, upsampling, first, n, s);
+    colour_rows::colour_row(layout, kernel, size, y, strides.y, row, s, out, at);
 }
 
 // Inner: rows a, .. b - 1 of the picture, whatever scratch holds.
 pub fn fill_rows(
     layout: Layout,
     y: &[u8],
-    y_stride: usize,
     cb: &[u8],
-    cb_stride: usize,
     cr: &[u8],
-    cr_stride: usize,
+    strides: Strides,
     upsampling: ChromaUpsampling,
     kernel: YcbcrKernel,
     size: usize,
@@ -130,10 +94,10 @@ pub fn fill_rows(
     s: &mut [f32],
     out: &mut [u8],
 )
-    requires { ⌜ FillLent layout (record { y = record { bytes = now y; stride = «y_stride» }; cb = record { bytes = now cb; stride = «cb_stride» }; cr = record { bytes = now cr; stride = «cr_stride» } }) size (length (now s)) (length (now out)) ⌝ }
+    requires { ⌜ FillLent layout (planesOf (now y) (now cb) (now cr) strides) size (length (now s)) (length (now out)) ⌝ }
     requires { ⌜ (a ≤ b) × (b ≤ layout .h) ⌝ }
-    ensures { λ _. ⌜ now (out .exit) ≡ pixelRows (layout .w) size (fillColour upsampling kernel (pictureOf layout (record { y = record { bytes = now (y .entry); stride = «y_stride» }; cb = record { bytes = now (cb .entry); stride = «cb_stride» }; cr = record { bytes = now (cr .entry); stride = «cr_stride» } }))) a (b - a) (now (out .entry)) ⌝ }
-    ensures { λ _. ⌜ now (s .exit) ≡ fillScratch upsampling layout (record { y = record { bytes = now (y .entry); stride = «y_stride» }; cb = record { bytes = now (cb .entry); stride = «cb_stride» }; cr = record { bytes = now (cr .entry); stride = «cr_stride» } }) a (b - a) (now (s .entry)) ⌝ }
+    ensures { λ _. ⌜ now (out .exit) ≡ pixelRows (layout .w) size (fillColour upsampling kernel (pictureOf layout (planesOf (now (y .entry)) (now (cb .entry)) (now (cr .entry)) strides))) a (b - a) (now (out .entry)) ⌝ }
+    ensures { λ _. ⌜ now (s .exit) ≡ fillScratch upsampling layout (planesOf (now (y .entry)) (now (cb .entry)) (now (cr .entry)) strides) a (b - a) (now (s .entry)) ⌝ }
 {
     let rows = b - a;
     let mut n = 0;
@@ -141,11 +105,9 @@ pub fn fill_rows(
         fill_row(
             layout,
             y,
-            y_stride,
             cb,
-            cb_stride,
             cr,
-            cr_stride,
+            strides,
             upsampling,
             kernel,
             size,

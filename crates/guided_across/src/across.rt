@@ -3,8 +3,8 @@ ghost use mathlib.Core.Path.{_≡_};
 ghost use Prim.Native.Nat.{_≤_, _<_};
 ghost use lib.ListN.{length};
 ghost use Rattle.image.specs.Tests.{Sound};
-ghost use Rattle.image.specs.Samples.{sampleAt};
-ghost use Rattle.image.specs.Picture.{Planes, pictureOf};
+ghost use Rattle.image.specs.Samples.{sampleAt, planeOf};
+ghost use Rattle.image.specs.Picture.{Planes, pictureOf, planesOf};
 ghost use Rattle.image.specs.Scratch.{scratchNeed};
 ghost use Rattle.guided.specs.Scratch.{horizontal};
 ghost use Rattle.guided_across.specs.Luma.{Cells};
@@ -17,6 +17,7 @@ use crate::sums::sum_row;
 use guided_window::first_of;
 use guided_window::slot_at;
 use image::Layout;
+use image::Strides;
 
 // Three row buffers one behind the other: of cells, of their sums, and of the sums of products.
 pub struct Slots {
@@ -39,9 +40,9 @@ fn slots_at(layout: Layout, n: usize, j: usize) -> Slots
 
 // Luma's rows of chroma row j: the cells, their sums, and the sums of their squares.
 fn luma_part(layout: Layout, plane: &[u8], stride: usize, j: usize, s: &mut [f32])
-    requires { ⌜ Cells layout (record { bytes = now plane; stride = stride }) ⌝ }
+    requires { ⌜ Cells layout (planeOf (now plane) stride) ⌝ }
     requires { ⌜ (j < layout .ch) × (scratchNeed layout ≤ length (now s)) ⌝ }
-    ensures { λ _. ⌜ now (s .exit) ≡ lumaPart layout (sampleAt (layout .«sample_bytes») (record { bytes = now (plane .entry); stride = stride })) j (now (s .entry)) ⌝ }
+    ensures { λ _. ⌜ now (s .exit) ≡ lumaPart layout (sampleAt (layout .«sample_bytes») (planeOf (now (plane .entry)) stride)) j (now (s .entry)) ⌝ }
 {
     let t = slots_at(layout, 0, j);
     let y = t.at;
@@ -53,9 +54,9 @@ fn luma_part(layout: Layout, plane: &[u8], stride: usize, j: usize, s: &mut [f32
 
 // A component's rows of chroma row j: the samples, their sums, and the sums of their products with the luma that scratch holds.
 fn chroma_part(layout: Layout, plane: &[u8], stride: usize, cr: bool, j: usize, s: &mut [f32])
-    requires { ⌜ ChromaCells layout (record { bytes = now plane; stride = stride }) ⌝ }
+    requires { ⌜ ChromaCells layout (planeOf (now plane) stride) ⌝ }
     requires { ⌜ (j < layout .ch) × (scratchNeed layout ≤ length (now s)) ⌝ }
-    ensures { λ _. ⌜ now (s .exit) ≡ chromaPart layout (sampleAt (layout .«sample_bytes») (record { bytes = now (plane .entry); stride = stride })) (chromaOf cr) j (now (s .entry)) ⌝ }
+    ensures { λ _. ⌜ now (s .exit) ≡ chromaPart layout (sampleAt (layout .«sample_bytes») (planeOf (now (plane .entry)) stride)) (chromaOf cr) j (now (s .entry)) ⌝ }
 {
     let y = slot_at(layout, 0, j);
     let t = slots_at(layout, first_of(cr), j);
@@ -70,23 +71,21 @@ fn chroma_part(layout: Layout, plane: &[u8], stride: usize, cr: bool, j: usize, 
 pub fn horizontal(
     layout: Layout,
     y: &[u8],
-    y_stride: usize,
     cb: &[u8],
-    cb_stride: usize,
     cr: &[u8],
-    cr_stride: usize,
+    strides: Strides,
     both: bool,
     j: usize,
     s: &mut [f32],
 )
-    requires { ⌜ Lent layout (record { y = record { bytes = now y; stride = «y_stride» }; cb = record { bytes = now cb; stride = «cb_stride» }; cr = record { bytes = now cr; stride = «cr_stride» } }) both ⌝ }
+    requires { ⌜ Lent layout (planesOf (now y) (now cb) (now cr) strides) both ⌝ }
     requires { ⌜ (j < layout .ch) × (scratchNeed layout ≤ length (now s)) ⌝ }
-    ensures { λ _. ⌜ now (s .exit) ≡ horizontal (pictureOf layout (record { y = record { bytes = now (y .entry); stride = «y_stride» }; cb = record { bytes = now (cb .entry); stride = «cb_stride» }; cr = record { bytes = now (cr .entry); stride = «cr_stride» } })) (components both) j (now (s .entry)) ⌝ }
+    ensures { λ _. ⌜ now (s .exit) ≡ horizontal (pictureOf layout (planesOf (now (y .entry)) (now (cb .entry)) (now (cr .entry)) strides)) (components both) j (now (s .entry)) ⌝ }
 {
-    luma_part(layout, y, y_stride, j, s);
-    chroma_part(layout, cb, cb_stride, false, j, s);
+    luma_part(layout, y, strides.y, j, s);
+    chroma_part(layout, cb, strides.cb, false, j, s);
     if !both {
         return;
     }
-    chroma_part(layout, cr, cr_stride, true, j, s);
+    chroma_part(layout, cr, strides.cr, true, j, s);
 }

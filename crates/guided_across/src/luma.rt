@@ -2,7 +2,7 @@
 ghost use mathlib.Core.Path.{_≡_};
 ghost use Prim.Native.Nat.{_+_, _*_, _≤_, _<_};
 ghost use lib.ListN.{length};
-ghost use Rattle.image.specs.Samples.{sampleAt};
+ghost use Rattle.image.specs.Samples.{sampleAt, planeOf};
 ghost use Rattle.guided.specs.Guided.{lumaOf};
 ghost use Rattle.guided_across.specs.Luma.{Cells, rowSum, cellSum, lumaRun, lumaRow};
 use crate::byte_cells::cell_run;
@@ -12,9 +12,9 @@ use lanes::Lanes;
 
 // The sum of the n samples of row y from column x on.
 fn row_sum(layout: Layout, plane: &[u8], stride: usize, x: usize, y: usize, n: usize) -> u32
-    requires { ⌜ Cells layout (record { bytes = now plane; stride = stride }) ⌝ }
+    requires { ⌜ Cells layout (planeOf (now plane) stride) ⌝ }
     requires { ⌜ (x + n ≤ layout .w) × (y < layout .h) × (n ≤ 4) ⌝ }
-    ensures { λ r. ⌜ (r ≡ rowSum layout (record { bytes = now (plane .entry); stride = stride }) x y n) × (r ≤ 65535 * n) ⌝ }
+    ensures { λ r. ⌜ (r ≡ rowSum layout (planeOf (now (plane .entry)) stride) x y n) × (r ≤ 65535 * n) ⌝ }
 {
     let bytes = layout.sample_bytes;
     let mut t: u32 = 0;
@@ -36,9 +36,9 @@ fn cell_sum(
     n: usize,
     m: usize,
 ) -> u32
-    requires { ⌜ Cells layout (record { bytes = now plane; stride = stride }) ⌝ }
+    requires { ⌜ Cells layout (planeOf (now plane) stride) ⌝ }
     requires { ⌜ (x + n ≤ layout .w) × (y + m ≤ layout .h) × (n ≤ 4) × (m ≤ 4) ⌝ }
-    ensures { λ r. ⌜ (r ≡ cellSum layout (record { bytes = now (plane .entry); stride = stride }) x y n m) × (r ≤ 262140 * m) ⌝ }
+    ensures { λ r. ⌜ (r ≡ cellSum layout (planeOf (now (plane .entry)) stride) x y n m) × (r ≤ 262140 * m) ⌝ }
 {
     let mut t: u32 = 0;
     let mut i = 0;
@@ -51,9 +51,9 @@ fn cell_sum(
 
 // The luma of cell i of chroma row j, by the pixels that it has inside the picture.
 fn cell_luma(layout: Layout, plane: &[u8], stride: usize, j: usize, i: usize) -> f32
-    requires { ⌜ Cells layout (record { bytes = now plane; stride = stride }) ⌝ }
+    requires { ⌜ Cells layout (planeOf (now plane) stride) ⌝ }
     requires { ⌜ (j < layout .ch) × (i < layout .cw) ⌝ }
-    ensures { λ r. ⌜ r ≡ lumaOf layout (sampleAt (layout .«sample_bytes») (record { bytes = now (plane .entry); stride = stride })) j i ⌝ }
+    ensures { λ r. ⌜ r ≡ lumaOf layout (sampleAt (layout .«sample_bytes») (planeOf (now (plane .entry)) stride)) j i ⌝ }
 {
     let rh = layout.rh;
     let rv = layout.rv;
@@ -75,9 +75,9 @@ fn luma_cells(
     from: usize,
     n: usize,
 )
-    requires { ⌜ Cells layout (record { bytes = now plane; stride = stride }) ⌝ }
+    requires { ⌜ Cells layout (planeOf (now plane) stride) ⌝ }
     requires { ⌜ (j < layout .ch) × (from + n ≤ layout .cw) × (dst + from + n ≤ length (now s)) ⌝ }
-    ensures { λ _. ⌜ now (s .exit) ≡ lumaRun layout (record { bytes = now (plane .entry); stride = stride }) j dst from n (now (s .entry)) ⌝ }
+    ensures { λ _. ⌜ now (s .exit) ≡ lumaRun layout (planeOf (now (plane .entry)) stride) j dst from n (now (s .entry)) ⌝ }
 {
     let mut i = 0;
     while i < n {
@@ -95,9 +95,9 @@ fn luma_head(
     s: &mut [f32],
     dst: usize,
 ) -> usize
-    requires { ⌜ Cells layout (record { bytes = now plane; stride = stride }) ⌝ }
+    requires { ⌜ Cells layout (planeOf (now plane) stride) ⌝ }
     requires { ⌜ (j < layout .ch) × (dst + layout .cw ≤ length (now s)) ⌝ }
-    ensures { λ r. ⌜ (r ≤ layout .cw) × (now (s .exit) ≡ lumaRun layout (record { bytes = now (plane .entry); stride = stride }) j dst 0 r (now (s .entry))) ⌝ }
+    ensures { λ r. ⌜ (r ≤ layout .cw) × (now (s .exit) ≡ lumaRun layout (planeOf (now (plane .entry)) stride) j dst 0 r (now (s .entry))) ⌝ }
 {
     let rv = layout.rv;
     let y = j * rv;
@@ -118,9 +118,9 @@ fn luma_head(
 
 // Inner: the luma of the cells of chroma row j, to s from dst on.
 pub fn luma_row(layout: Layout, plane: &[u8], stride: usize, j: usize, s: &mut [f32], dst: usize)
-    requires { ⌜ Cells layout (record { bytes = now plane; stride = stride }) ⌝ }
+    requires { ⌜ Cells layout (planeOf (now plane) stride) ⌝ }
     requires { ⌜ (j < layout .ch) × (dst + layout .cw ≤ length (now s)) ⌝ }
-    ensures { λ _. ⌜ now (s .exit) ≡ lumaRow layout (record { bytes = now (plane .entry); stride = stride }) j dst (now (s .entry)) ⌝ }
+    ensures { λ _. ⌜ now (s .exit) ≡ lumaRow layout (planeOf (now (plane .entry)) stride) j dst (now (s .entry)) ⌝ }
 {
     let n = luma_head(layout, plane, stride, j, s, dst);
     luma_cells(layout, plane, stride, j, s, dst, n, layout.cw - n);

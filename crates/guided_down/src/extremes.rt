@@ -2,7 +2,7 @@
 ghost use mathlib.Core.Path.{_≡_};
 ghost use Prim.Native.Nat.{_+_, _-_, _≤_, _<_};
 ghost use lib.ListN.{length};
-ghost use Rattle.image.specs.Samples.{Plane, sampleAt};
+ghost use Rattle.image.specs.Samples.{Plane, sampleAt, planeOf};
 ghost use Rattle.guided.specs.Events.{threeN};
 ghost use Rattle.guided_window.specs.Lent.{ChromaCells};
 ghost use Rattle.guided_down.specs.Extremes.{extremeRun, extremeRow, wholeExtreme};
@@ -15,8 +15,8 @@ use image::Layout;
 
 // Of the three cells across round cell i of row r.
 fn across(layout: Layout, plane: &[u8], stride: usize, greatest: bool, r: usize, i: usize) -> u16
-    requires { ⌜ ChromaCells layout (record { bytes = now plane; stride = stride }) × (i < layout .cw) × (r < layout .ch) ⌝ }
-    ensures { λ v. ⌜ v ≡ threeN (wholeOp greatest) (layout .cw) (λ q. sampleAt (layout .«sample_bytes») (record { bytes = now (plane .entry); stride = stride }) q r) i ⌝ }
+    requires { ⌜ ChromaCells layout (planeOf (now plane) stride) × (i < layout .cw) × (r < layout .ch) ⌝ }
+    ensures { λ v. ⌜ v ≡ threeN (wholeOp greatest) (layout .cw) (λ q. sampleAt (layout .«sample_bytes») (planeOf (now (plane .entry)) stride) q r) i ⌝ }
 {
     let w = layout.cw;
     let h = layout.ch;
@@ -35,8 +35,8 @@ fn extreme_at(
     j: usize,
     i: usize,
 ) -> u16
-    requires { ⌜ ChromaCells layout (record { bytes = now plane; stride = stride }) × (i < layout .cw) × (j < layout .ch) ⌝ }
-    ensures { λ v. ⌜ v ≡ wholeExtreme layout greatest (sampleAt (layout .«sample_bytes») (record { bytes = now (plane .entry); stride = stride })) j i ⌝ }
+    requires { ⌜ ChromaCells layout (planeOf (now plane) stride) × (i < layout .cw) × (j < layout .ch) ⌝ }
+    ensures { λ v. ⌜ v ≡ wholeExtreme layout greatest (sampleAt (layout .«sample_bytes») (planeOf (now (plane .entry)) stride)) j i ⌝ }
 {
     let a = across(layout, plane, stride, greatest, guided_window::prev(j), i);
     let b = across(layout, plane, stride, greatest, j, i);
@@ -57,9 +57,9 @@ fn extreme_run(
     from: usize,
     n: usize,
 )
-    requires { ⌜ ChromaCells layout (record { bytes = now plane; stride = stride }) × (j < layout .ch) ⌝ }
+    requires { ⌜ ChromaCells layout (planeOf (now plane) stride) × (j < layout .ch) ⌝ }
     requires { ⌜ (from + n ≤ layout .cw) × (dst + layout .cw ≤ length (now s)) ⌝ }
-    ensures { λ _. ⌜ now (s .exit) ≡ extremeRun layout (record { bytes = now (plane .entry); stride = stride }) greatest j dst from n (now (s .entry)) ⌝ }
+    ensures { λ _. ⌜ now (s .exit) ≡ extremeRun layout (planeOf (now (plane .entry)) stride) greatest j dst from n (now (s .entry)) ⌝ }
 {
     let mut i = 0;
     while i < n {
@@ -78,8 +78,8 @@ fn extreme_inner(
     s: &mut [f32],
     dst: usize,
 )
-    requires { ⌜ ChromaCells layout (record { bytes = now plane; stride = stride }) × (j < layout .ch) × (2 ≤ layout .cw) × (dst + layout .cw ≤ length (now s)) ⌝ }
-    ensures { λ _. ⌜ now (s .exit) ≡ extremeRun layout (record { bytes = now (plane .entry); stride = stride }) greatest j dst 1 (layout .cw - 2) (now (s .entry)) ⌝ }
+    requires { ⌜ ChromaCells layout (planeOf (now plane) stride) × (j < layout .ch) × (2 ≤ layout .cw) × (dst + layout .cw ≤ length (now s)) ⌝ }
+    ensures { λ _. ⌜ now (s .exit) ≡ extremeRun layout (planeOf (now (plane .entry)) stride) greatest j dst 1 (layout .cw - 2) (now (s .entry)) ⌝ }
 {
     let n = layout.cw - 2;
     let u = guided_window::prev(j) * stride;
@@ -102,8 +102,8 @@ pub fn extreme_row(
     s: &mut [f32],
     dst: usize,
 )
-    requires { ⌜ ChromaCells layout (record { bytes = now plane; stride = stride }) × (j < layout .ch) × (dst + layout .cw ≤ length (now s)) ⌝ }
-    ensures { λ _. ⌜ now (s .exit) ≡ extremeRow layout (record { bytes = now (plane .entry); stride = stride }) greatest j dst (now (s .entry)) ⌝ }
+    requires { ⌜ ChromaCells layout (planeOf (now plane) stride) × (j < layout .ch) × (dst + layout .cw ≤ length (now s)) ⌝ }
+    ensures { λ _. ⌜ now (s .exit) ≡ extremeRow layout (planeOf (now (plane .entry)) stride) greatest j dst (now (s .entry)) ⌝ }
 {
     let n = layout.cw;
     if n < 2 {

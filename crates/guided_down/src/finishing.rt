@@ -1,10 +1,11 @@
 // A chroma row down, from the sums of the rows round it and from its plane: the original's GuidedRows::finish.
 ghost use mathlib.Core.Path.{_≡_};
 ghost use mathlib.Core.Bool.{true};
-ghost use Prim.Native.Nat.{_≤_, _<_};
+ghost use mathlib.Core.List.{List};
+ghost use Prim.Native.Nat.{ℕ, _≤_, _<_};
 ghost use lib.ListN.{length};
-ghost use Rattle.image.specs.Samples.{Plane};
-ghost use Rattle.image.specs.Picture.{Planes, pictureOf};
+ghost use Rattle.image.specs.Samples.{planeOf};
+ghost use Rattle.image.specs.Picture.{pictureOf, planesOf};
 ghost use Rattle.image.specs.Scratch.{scratchNeed};
 ghost use Rattle.guided.specs.Scratch.{finish};
 ghost use Rattle.guided_window.specs.Lent.{chromaOf, ChromaCells, components};
@@ -12,11 +13,12 @@ ghost use Rattle.guided_down.specs.Down.{downRow};
 use crate::extremes::extreme_row;
 use guided_window::slot_at;
 use image::Layout;
+use image::Strides;
 
 // A component's slopes of chroma row j, and its least and greatest samples round each cell.
 fn down_row(layout: Layout, plane: &[u8], stride: usize, cr: bool, j: usize, s: &mut [f32])
-    requires { ⌜ ChromaCells layout (record { bytes = now plane; stride = stride }) × (j < layout .ch) × (scratchNeed layout ≤ length (now s)) ⌝ }
-    ensures { λ _. ⌜ now (s .exit) ≡ downRow layout (record { bytes = now (plane .entry); stride = stride }) (chromaOf cr) j (now (s .entry)) ⌝ }
+    requires { ⌜ ChromaCells layout (planeOf (now plane) stride) × (j < layout .ch) × (scratchNeed layout ≤ length (now s)) ⌝ }
+    ensures { λ _. ⌜ now (s .exit) ≡ downRow layout (planeOf (now (plane .entry)) stride) (chromaOf cr) j (now (s .entry)) ⌝ }
 {
     let n = guided_window::first_of(cr);
     let least = slot_at(layout, n + 4, j);
@@ -30,20 +32,19 @@ fn down_row(layout: Layout, plane: &[u8], stride: usize, cr: bool, j: usize, s: 
 pub fn finish(
     layout: Layout,
     cb: &[u8],
-    cb_stride: usize,
     cr: &[u8],
-    cr_stride: usize,
+    strides: Strides,
     both: bool,
     j: usize,
     s: &mut [f32],
 )
-    requires { ⌜ ChromaCells layout (record { bytes = now cb; stride = «cb_stride» }) × (both ≡ true → ChromaCells layout (record { bytes = now cr; stride = «cr_stride» })) ⌝ }
+    requires { ⌜ ChromaCells layout (planeOf (now cb) (strides .cb)) × (both ≡ true → ChromaCells layout (planeOf (now cr) (strides .cr))) ⌝ }
     requires { ⌜ (j < layout .ch) × (scratchNeed layout ≤ length (now s)) ⌝ }
-    ensures { λ _. ⌜ ((y : Plane) → now (s .exit) ≡ finish (pictureOf layout (record { y = y; cb = record { bytes = now (cb .entry); stride = «cb_stride» }; cr = record { bytes = now (cr .entry); stride = «cr_stride» } })) (components both) j (now (s .entry))) ⌝ }
+    ensures { λ _. ⌜ ((y : List ℕ) → now (s .exit) ≡ finish (pictureOf layout (planesOf y (now (cb .entry)) (now (cr .entry)) strides)) (components both) j (now (s .entry))) ⌝ }
 {
-    down_row(layout, cb, cb_stride, false, j, s);
+    down_row(layout, cb, strides.cb, false, j, s);
     if !both {
         return;
     }
-    down_row(layout, cr, cr_stride, true, j, s);
+    down_row(layout, cr, strides.cr, true, j, s);
 }

@@ -4,6 +4,7 @@ ghost use Prim.Native.Nat.{_+_, _≤_, _<_};
 ghost use lib.ListN.{length};
 ghost use Rattle.guided_across.specs.Luma.{Cells};
 ghost use Rattle.guided_pixels.specs.Pixels.{detailRun};
+ghost use Rattle.image.specs.Samples.{planeOf};
 use crate::pairs::across_pixel;
 use guided_window::sample_at;
 use image::Layout;
@@ -20,9 +21,9 @@ pub fn detail_run(
     from: usize,
     n: usize,
 )
-    requires { ⌜ Cells layout (record { bytes = now plane; stride = stride }) × (y < layout .h) × (from + n ≤ layout .w) ⌝ }
+    requires { ⌜ Cells layout (planeOf (now plane) stride) × (y < layout .h) × (from + n ≤ layout .w) ⌝ }
     requires { ⌜ (dst + layout .w ≤ src) × (src + layout .cw ≤ length (now s)) ⌝ }
-    ensures { λ _. ⌜ now (s .exit) ≡ detailRun layout (record { bytes = now (plane .entry); stride = stride }) y src dst from n (now (s .entry)) ⌝ }
+    ensures { λ _. ⌜ now (s .exit) ≡ detailRun layout (planeOf (now (plane .entry)) stride) y src dst from n (now (s .entry)) ⌝ }
 {
     let w = layout.w;
     let h = layout.h;

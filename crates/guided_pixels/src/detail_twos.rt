@@ -5,6 +5,7 @@ ghost use lib.Ieee.{nan};
 ghost use lib.ListN.{length, getD};
 ghost use Rattle.guided_across.specs.Luma.{Cells};
 ghost use Rattle.guided_pixels.specs.Pixels.{detailIn, detailPair, detailRun};
+ghost use Rattle.image.specs.Samples.{planeOf};
 use crate::detail_runs::detail_run;
 use crate::pairs::Pair;
 use crate::pairs::pair_at;
@@ -23,9 +24,9 @@ fn detail_pair(
     src: usize,
     i: usize,
 ) -> Pair
-    requires { ⌜ Cells layout (record { bytes = now plane; stride = stride }) × (y < layout .h) × (layout .rh ≡ 2) × (i + 3 ≤ layout .cw) × (2 * i + 4 ≤ layout .w) ⌝ }
+    requires { ⌜ Cells layout (planeOf (now plane) stride) × (y < layout .h) × (layout .rh ≡ 2) × (i + 3 ≤ layout .cw) × (2 * i + 4 ≤ layout .w) ⌝ }
     requires { ⌜ src + layout .cw ≤ length (now s) ⌝ }
-    ensures { λ r. ⌜ r ≡ detailPair layout (record { bytes = now (plane .entry); stride = stride }) y (now (s .entry)) src i ⌝ }
+    ensures { λ r. ⌜ r ≡ detailPair layout (planeOf (now (plane .entry)) stride) y (now (s .entry)) src i ⌝ }
 {
     let w = layout.w;
     let h = layout.h;
@@ -46,9 +47,9 @@ fn detail_block(
     src: usize,
     i: usize,
 ) -> [f32; Lanes::PIXELS]
-    requires { ⌜ Cells layout (record { bytes = now plane; stride = stride }) × (y < layout .h) × (layout .rh ≡ 2) × (i + 10 ≤ layout .cw) × (2 * i + 18 ≤ layout .w) ⌝ }
+    requires { ⌜ Cells layout (planeOf (now plane) stride) × (y < layout .h) × (layout .rh ≡ 2) × (i + 10 ≤ layout .cw) × (2 * i + 18 ≤ layout .w) ⌝ }
     requires { ⌜ src + layout .cw ≤ length (now s) ⌝ }
-    ensures { λ r. ⌜ ((k : ℕ) → k < 16 → getD r k nan ≡ detailIn layout (record { bytes = now (plane .entry); stride = stride }) y (now (s .entry)) src (2 + 2 * i + k)) ⌝ }
+    ensures { λ r. ⌜ ((k : ℕ) → k < 16 → getD r k nan ≡ detailIn layout (planeOf (now (plane .entry)) stride) y (now (s .entry)) src (2 + 2 * i + k)) ⌝ }
 {
     let mut block = [0.0f32; Lanes::PIXELS];
     for b in 0..Lanes::CELLS {
@@ -70,9 +71,9 @@ pub fn detail_twos(
     dst: usize,
     n: usize,
 )
-    requires { ⌜ Cells layout (record { bytes = now plane; stride = stride }) × (y < layout .h) × (layout .rh ≡ 2) × (n + 2 ≤ layout .cw) × (2 + 2 * n ≤ layout .w) ⌝ }
+    requires { ⌜ Cells layout (planeOf (now plane) stride) × (y < layout .h) × (layout .rh ≡ 2) × (n + 2 ≤ layout .cw) × (2 + 2 * n ≤ layout .w) ⌝ }
     requires { ⌜ (dst + layout .w ≤ src) × (src + layout .cw ≤ length (now s)) ⌝ }
-    ensures { λ _. ⌜ now (s .exit) ≡ detailRun layout (record { bytes = now (plane .entry); stride = stride }) y src dst 2 (2 * n) (now (s .entry)) ⌝ }
+    ensures { λ _. ⌜ now (s .exit) ≡ detailRun layout (planeOf (now (plane .entry)) stride) y src dst 2 (2 * n) (now (s .entry)) ⌝ }
 {
     if n < Lanes::CELLS {
         detail_run(layout, plane, stride, y, s, src, dst, 2, 2 * n);

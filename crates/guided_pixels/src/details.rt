@@ -6,6 +6,7 @@ ghost use Rattle.image.specs.Scratch.{scratchNeed};
 ghost use Rattle.taps.specs.Taps.{phasesOf};
 ghost use Rattle.guided_across.specs.Luma.{Cells};
 ghost use Rattle.guided_pixels.specs.Pixels.{detailRun, detailLine};
+ghost use Rattle.image.specs.Samples.{planeOf};
 use crate::columns::column_at;
 use crate::detail_runs::detail_run;
 use crate::detail_twos::detail_twos;
@@ -26,10 +27,10 @@ fn detail_cell(
     dst: usize,
     i: usize,
 )
-    requires { ⌜ Cells layout (record { bytes = now plane; stride = stride }) × (y < layout .h) × (phases ≡ phasesOf (layout .rh)) ⌝ }
+    requires { ⌜ Cells layout (planeOf (now plane) stride) × (y < layout .h) × (phases ≡ phasesOf (layout .rh)) ⌝ }
     requires { ⌜ (0 < i) × (i + 1 < layout .cw) × (i * layout .rh + layout .rh ≤ layout .w) ⌝ }
     requires { ⌜ (dst + layout .w ≤ src) × (src + layout .cw ≤ length (now s)) ⌝ }
-    ensures { λ _. ⌜ now (s .exit) ≡ detailRun layout (record { bytes = now (plane .entry); stride = stride }) y src dst (i * layout .rh) (layout .rh) (now (s .entry)) ⌝ }
+    ensures { λ _. ⌜ now (s .exit) ≡ detailRun layout (planeOf (now (plane .entry)) stride) y src dst (i * layout .rh) (layout .rh) (now (s .entry)) ⌝ }
 {
     let w = layout.w;
     let h = layout.h;
@@ -54,9 +55,9 @@ fn detail_each(
     dst: usize,
     n: usize,
 )
-    requires { ⌜ Cells layout (record { bytes = now plane; stride = stride }) × (y < layout .h) × (n + 2 ≤ layout .cw) × (layout .rh + n * layout .rh ≤ layout .w) ⌝ }
+    requires { ⌜ Cells layout (planeOf (now plane) stride) × (y < layout .h) × (n + 2 ≤ layout .cw) × (layout .rh + n * layout .rh ≤ layout .w) ⌝ }
     requires { ⌜ (dst + layout .w ≤ src) × (src + layout .cw ≤ length (now s)) ⌝ }
-    ensures { λ _. ⌜ now (s .exit) ≡ detailRun layout (record { bytes = now (plane .entry); stride = stride }) y src dst (layout .rh) (n * layout .rh) (now (s .entry)) ⌝ }
+    ensures { λ _. ⌜ now (s .exit) ≡ detailRun layout (planeOf (now (plane .entry)) stride) y src dst (layout .rh) (n * layout .rh) (now (s .entry)) ⌝ }
 {
     let phases = taps::phases_of(layout.rh);
     let mut i = 0;
@@ -77,9 +78,9 @@ fn detail_ones(
     dst: usize,
     n: usize,
 )
-    requires { ⌜ Cells layout (record { bytes = now plane; stride = stride }) × (y < layout .h) × (layout .rh ≡ 1) × (n + 2 ≤ layout .cw) × (1 + n ≤ layout .w) ⌝ }
+    requires { ⌜ Cells layout (planeOf (now plane) stride) × (y < layout .h) × (layout .rh ≡ 1) × (n + 2 ≤ layout .cw) × (1 + n ≤ layout .w) ⌝ }
     requires { ⌜ (dst + layout .w ≤ src) × (src + layout .cw ≤ length (now s)) ⌝ }
-    ensures { λ _. ⌜ now (s .exit) ≡ detailRun layout (record { bytes = now (plane .entry); stride = stride }) y src dst 1 n (now (s .entry)) ⌝ }
+    ensures { λ _. ⌜ now (s .exit) ≡ detailRun layout (planeOf (now (plane .entry)) stride) y src dst 1 n (now (s .entry)) ⌝ }
 {
     let w = layout.w;
     let h = layout.h;
@@ -103,9 +104,9 @@ fn detail_inner(
     dst: usize,
     n: usize,
 )
-    requires { ⌜ Cells layout (record { bytes = now plane; stride = stride }) × (y < layout .h) × (n + 2 ≤ layout .cw) × (layout .rh + n * layout .rh ≤ layout .w) ⌝ }
+    requires { ⌜ Cells layout (planeOf (now plane) stride) × (y < layout .h) × (n + 2 ≤ layout .cw) × (layout .rh + n * layout .rh ≤ layout .w) ⌝ }
     requires { ⌜ (dst + layout .w ≤ src) × (src + layout .cw ≤ length (now s)) ⌝ }
-    ensures { λ _. ⌜ now (s .exit) ≡ detailRun layout (record { bytes = now (plane .entry); stride = stride }) y src dst (layout .rh) (n * layout .rh) (now (s .entry)) ⌝ }
+    ensures { λ _. ⌜ now (s .exit) ≡ detailRun layout (planeOf (now (plane .entry)) stride) y src dst (layout .rh) (n * layout .rh) (now (s .entry)) ⌝ }
 {
     if layout.rh == 1 {
         detail_ones(layout, plane, stride, y, s, src, dst, n);
@@ -128,9 +129,9 @@ fn detail_cells(
     src: usize,
     dst: usize,
 )
-    requires { ⌜ Cells layout (record { bytes = now plane; stride = stride }) × (y < layout .h) ⌝ }
+    requires { ⌜ Cells layout (planeOf (now plane) stride) × (y < layout .h) ⌝ }
     requires { ⌜ (dst + layout .w ≤ src) × (src + layout .cw ≤ length (now s)) ⌝ }
-    ensures { λ _. ⌜ now (s .exit) ≡ detailRun layout (record { bytes = now (plane .entry); stride = stride }) y src dst 0 (layout .w) (now (s .entry)) ⌝ }
+    ensures { λ _. ⌜ now (s .exit) ≡ detailRun layout (planeOf (now (plane .entry)) stride) y src dst 0 (layout .w) (now (s .entry)) ⌝ }
 {
     let w = layout.w;
     let rh = layout.rh;
@@ -147,8 +148,8 @@ fn detail_cells(
 
 // Inner: the detail of row y, from luma's row of cells.
 pub fn detail_row(layout: Layout, plane: &[u8], stride: usize, y: usize, s: &mut [f32])
-    requires { ⌜ Cells layout (record { bytes = now plane; stride = stride }) × (y < layout .h) × (scratchNeed layout ≤ length (now s)) ⌝ }
-    ensures { λ _. ⌜ now (s .exit) ≡ detailLine layout (record { bytes = now (plane .entry); stride = stride }) y (now (s .entry)) ⌝ }
+    requires { ⌜ Cells layout (planeOf (now plane) stride) × (y < layout .h) × (scratchNeed layout ≤ length (now s)) ⌝ }
+    ensures { λ _. ⌜ now (s .exit) ≡ detailLine layout (planeOf (now (plane .entry)) stride) y (now (s .entry)) ⌝ }
 {
     let src = column_at(layout, 0);
     let dst = 2 * layout.w;

@@ -3,7 +3,7 @@ ghost use mathlib.Core.Path.{_≡_};
 ghost use Prim.Native.Nat.{_≤_, _<_};
 ghost use lib.ListN.{length};
 ghost use Rattle.image.specs.Tests.{Sound};
-ghost use Rattle.image.specs.Samples.{Plane};
+ghost use Rattle.image.specs.Samples.{Plane, planeOf};
 ghost use Rattle.image.specs.Picture.{Planes, pictureOf};
 ghost use Rattle.image.specs.Scratch.{scratchNeed};
 ghost use Rattle.guided_across.specs.Luma.{Cells};
@@ -37,8 +37,8 @@ fn component(layout: Layout, cr: bool, y: usize, s: &mut [f32])
 
 // Inner: row `row` of Cb, and where `both` holds of Cr, from the window that scratch holds: no chroma plane is looked at.
 pub fn guided_row(layout: Layout, y: &[u8], y_stride: usize, both: bool, row: usize, s: &mut [f32])
-    requires { ⌜ Cells layout (record { bytes = now y; stride = «y_stride» }) × (row < layout .h) × (scratchNeed layout ≤ length (now s)) ⌝ }
-    ensures { λ _. ⌜ ((cb cr : Plane) → now (s .exit) ≡ windowRow (pictureOf layout (record { y = record { bytes = now (y .entry); stride = «y_stride» }; cb = cb; cr = cr })) (components both) row (now (s .entry))) ⌝ }
+    requires { ⌜ Cells layout (planeOf (now y) «y_stride») × (row < layout .h) × (scratchNeed layout ≤ length (now s)) ⌝ }
+    ensures { λ _. ⌜ ((cb cr : Plane) → now (s .exit) ≡ windowRow (pictureOf layout (record { y = planeOf (now (y .entry)) «y_stride»; cb = cb; cr = cr })) (components both) row (now (s .entry))) ⌝ }
 {
     down_column(layout, 0, 0, row, s);
     detail_row(layout, y, y_stride, row, s);

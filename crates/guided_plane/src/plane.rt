@@ -12,13 +12,15 @@ ghost use Rattle.linear.specs.Stores.{storeRun};
 ghost use Rattle.guided_window.specs.Lent.{Lent};
 ghost use Rattle.guided_rows.specs.CatchingUp.{guidedStep, guidedRows};
 ghost use Rattle.guided_plane.specs.Plane.{planesWith, shortPair, guidedTests, guidedPlane, GuidedGiven};
+ghost use Rattle.image.specs.Samples.{planeOf};
 use guided_rows::guided_step;
 use image::Layout;
+use image::Strides;
 use laws::Answer;
 
 // Refusal 7's test for luma and one chroma plane.
 fn bad_pair(layout: Layout, y: &[u8], y_stride: usize, c: &[u8], c_stride: usize) -> bool
-    ensures { λ r. ⌜ r ≡ shortPair layout (record { bytes = now (y .entry); stride = «y_stride» }) (record { bytes = now (c .entry); stride = «c_stride» }) ⌝ }
+    ensures { λ r. ⌜ r ≡ shortPair layout (planeOf (now (y .entry)) «y_stride») (planeOf (now (c .entry)) «c_stride») ⌝ }
 {
     let size = layout.sample_bytes;
     let bad_y = image::bad_plane(size, layout.w, layout.h, y_stride, y.len());
@@ -36,7 +38,7 @@ fn plane_answer(
     space: usize,
     room: usize,
 ) -> Answer
-    ensures { λ r. ⌜ r ≡ first (guidedTests layout (record { bytes = now (y .entry); stride = «y_stride» }) (record { bytes = now (c .entry); stride = «c_stride» }) space room) ⌝ }
+    ensures { λ r. ⌜ r ≡ first (guidedTests layout (planeOf (now (y .entry)) «y_stride») (planeOf (now (c .entry)) «c_stride») space room) ⌝ }
 {
     let early = layout.answer(false);
     if laws::refused(early) {
@@ -65,24 +67,17 @@ fn plane_row(
     s: &mut [f32],
     out: &mut [u16],
 )
-    requires { ⌜ Lent layout (planesWith (record { bytes = now y; stride = «y_stride» }) (record { bytes = now c; stride = «c_stride» })) false ⌝ }
+    requires { ⌜ Lent layout (planesWith (planeOf (now y) «y_stride») (planeOf (now c) «c_stride»)) false ⌝ }
     requires { ⌜ (row < layout .h) × (scratchNeed layout ≤ length (now s)) × (layout .w * layout .h ≤ length (now out)) ⌝ }
-    ensures { λ _. ⌜ now (s .exit) ≡ guidedStep (pictureOf layout (planesWith (record { bytes = now (y .entry); stride = «y_stride» }) (record { bytes = now (c .entry); stride = «c_stride» }))) (Cb ∷ []) 0 row (now (s .entry)) ⌝ }
-    ensures { λ _. ⌜ now (out .exit) ≡ storeRun (guidedStep (pictureOf layout (planesWith (record { bytes = now (y .entry); stride = «y_stride» }) (record { bytes = now (c .entry); stride = «c_stride» }))) (Cb ∷ []) 0 row (now (s .entry))) 0 (layout .w) (layout .maxval) (row * layout .w) (now (out .entry)) ⌝ }
+    ensures { λ _. ⌜ now (s .exit) ≡ guidedStep (pictureOf layout (planesWith (planeOf (now (y .entry)) «y_stride») (planeOf (now (c .entry)) «c_stride»))) (Cb ∷ []) 0 row (now (s .entry)) ⌝ }
+    ensures { λ _. ⌜ now (out .exit) ≡ storeRun (guidedStep (pictureOf layout (planesWith (planeOf (now (y .entry)) «y_stride») (planeOf (now (c .entry)) «c_stride»))) (Cb ∷ []) 0 row (now (s .entry))) 0 (layout .w) (layout .maxval) (row * layout .w) (now (out .entry)) ⌝ }
 {
-    guided_step(
-        layout,
-        y,
-        y_stride,
-        c,
-        c_stride,
-        c,
-        c_stride,
-        false,
-        0,
-        row,
-        s,
-    );
+    let strides = Strides {
+        y: y_stride,
+        cb: c_stride,
+        cr: c_stride,
+    };
+    guided_step(layout, y, c, c, strides, false, 0, row, s);
     linear::store_row(s, 0, layout.w, layout.maxval, out, row * layout.w);
 }
 
@@ -96,10 +91,10 @@ fn plane_rows(
     s: &mut [f32],
     out: &mut [u16],
 )
-    requires { ⌜ Lent layout (planesWith (record { bytes = now y; stride = «y_stride» }) (record { bytes = now c; stride = «c_stride» })) false ⌝ }
+    requires { ⌜ Lent layout (planesWith (planeOf (now y) «y_stride») (planeOf (now c) «c_stride»)) false ⌝ }
     requires { ⌜ (scratchNeed layout ≤ length (now s)) × (layout .w * layout .h ≤ length (now out)) ⌝ }
-    ensures { λ _. ⌜ now (out .exit) ≡ guidedPlane (pictureOf layout (planesWith (record { bytes = now (y .entry); stride = «y_stride» }) (record { bytes = now (c .entry); stride = «c_stride» }))) (now (out .entry)) ⌝ }
-    ensures { λ _. ⌜ now (s .exit) ≡ guidedRows (pictureOf layout (planesWith (record { bytes = now (y .entry); stride = «y_stride» }) (record { bytes = now (c .entry); stride = «c_stride» }))) (Cb ∷ []) 0 (layout .h) (now (s .entry)) ⌝ }
+    ensures { λ _. ⌜ now (out .exit) ≡ guidedPlane (pictureOf layout (planesWith (planeOf (now (y .entry)) «y_stride») (planeOf (now (c .entry)) «c_stride»))) (now (out .entry)) ⌝ }
+    ensures { λ _. ⌜ now (s .exit) ≡ guidedRows (pictureOf layout (planesWith (planeOf (now (y .entry)) «y_stride») (planeOf (now (c .entry)) «c_stride»))) (Cb ∷ []) 0 (layout .h) (now (s .entry)) ⌝ }
 {
     let h = layout.h;
     let mut row = 0;
@@ -120,7 +115,7 @@ pub fn guided_plane(
     s: &mut [f32],
     out: &mut [u16],
 ) -> Answer
-    ensures { λ r. ⌜ GuidedGiven layout (record { bytes = now (y .entry); stride = «y_stride» }) (record { bytes = now (c .entry); stride = «c_stride» }) (now (s .entry)) (now (out .entry)) r (now (s .exit)) (now (out .exit)) ⌝ }
+    ensures { λ r. ⌜ GuidedGiven layout (planeOf (now (y .entry)) «y_stride») (planeOf (now (c .entry)) «c_stride») (now (s .entry)) (now (out .entry)) r (now (s .exit)) (now (out .exit)) ⌝ }
 {
     let answer = plane_answer(layout, y, y_stride, c, c_stride, s.len(), out.len());
     if laws::refused(answer) {

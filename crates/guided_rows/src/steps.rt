@@ -3,7 +3,7 @@ ghost use mathlib.Core.Path.{_≡_};
 ghost use Prim.Native.Nat.{_+_, _-_, _≤_, _<_, max};
 ghost use lib.ListN.{length};
 ghost use Rattle.image.specs.Tests.{Sound};
-ghost use Rattle.image.specs.Picture.{pictureOf};
+ghost use Rattle.image.specs.Picture.{pictureOf, planesOf};
 ghost use Rattle.image.specs.Scratch.{scratchNeed};
 ghost use Rattle.guided.specs.Calls.{doneF};
 ghost use Rattle.guided.specs.Scratch.{hsteps, fsteps, rowSteps};
@@ -12,40 +12,28 @@ ghost use Rattle.guided_rows.specs.CatchingUp.{beforeH, beforeF, guidedS
 use guided_down::finish;
 use guided_pixels::guided_row;
 use image::Layout;
+use image::Strides;
 use reader_state::Counters;
 
 // The chroma rows from, .. to - 1 across.
 fn across_rows(
     layout: Layout,
     y: &[u8],
-    y_stride: usize,
     cb: &[u8],
-    cb_stride: usize,
     cr: &[u8],
-    cr_stride: usize,
+    strides: Strides,
     both: bool,
     from: usize,
     to: usize,
     s: &mut [f32],
 )
-    requires { ⌜ Lent layout (record { y = record { bytes = now y; stride = «y_stride» }; cb = record { bytes = now cb; stride = «cb_stride» }; cr = record { bytes = now cr; stride = «cr_stride» } }) both ⌝ }
+    requires { ⌜ Lent layout (planesOf (now y) (now cb) (now cr) strides) both ⌝ }
     requires { ⌜ (to ≤ layout .ch) × (scratchNeed layout ≤ length (now s)) ⌝ }
-    ensures { λ _. ⌜ now (s .exit) ≡ hsteps (pictureOf layout (record { y = record { bytes = now (y .entry); stride = «y_stride» }; cb = record { bytes = now (cb .entry); stride = «cb_stride» }; cr = record { bytes = now (cr .entry); stride = «cr_stride» } })) (components both) from (to - from) (now (s .entry)) ⌝ }
+    ensures { λ _. ⌜ now (s .exit) ≡ hsteps (pictureOf layout (planesOf (now (y .entry)) (now (cb .entry)) (now (cr .entry)) strides)) (components both) from (to - from) (now (s .entry)) ⌝ }
 {
     let mut j = from;
     while j < to {
-        guided_across::horizontal(
-            layout,
-            y,
-            y_stride,
-            cb,
-            cb_stride,
-            cr,
-            cr_stride,
-            both,
-            j,
-            s,
-        );
+        guided_across::horizontal(layout, y, cb, cr, strides, both, j, s);
         j += 1;
     }
 }
@@ -60,40 +48,26 @@ fn greatest(a: usize, b: usize) -> usize
 pub fn catch_up(
     layout: Layout,
     y: &[u8],
-    y_stride: usize,
     cb: &[u8],
-    cb_stride: usize,
     cr: &[u8],
-    cr_stride: usize,
+    strides: Strides,
     both: bool,
     h: usize,
     f: usize,
     to: usize,
     s: &mut [f32],
 )
-    requires { ⌜ Lent layout (record { y = record { bytes = now y; stride = «y_stride» }; cb = record { bytes = now cb; stride = «cb_stride» }; cr = record { bytes = now cr; stride = «cr_stride» } }) both ⌝ }
+    requires { ⌜ Lent layout (planesOf (now y) (now cb) (now cr) strides) both ⌝ }
     requires { ⌜ (to ≤ layout .ch) × (scratchNeed layout ≤ length (now s)) ⌝ }
-    ensures { λ _. ⌜ now (s .exit) ≡ fsteps (pictureOf layout (record { y = record { bytes = now (y .entry); stride = «y_stride» }; cb = record { bytes = now (cb .entry); stride = «cb_stride» }; cr = record { bytes = now (cr .entry); stride = «cr_stride» } })) (components both) h f (to - f) (now (s .entry)) ⌝ }
+    ensures { λ _. ⌜ now (s .exit) ≡ fsteps (pictureOf layout (planesOf (now (y .entry)) (now (cb .entry)) (now (cr .entry)) strides)) (components both) h f (to - f) (now (s .entry)) ⌝ }
 {
     let ch = layout.ch;
     let mut h_next = h;
     let mut j = f;
     while j < to {
         let end = laws::least(j + 2, ch);
-        across_rows(
-            layout,
-            y,
-            y_stride,
-            cb,
-            cb_stride,
-            cr,
-            cr_stride,
-            both,
-            h_next,
-            end,
-            s,
-        );
-        finish(layout, cb, cb_stride, cr, cr_stride, both, j, s);
+        across_rows(layout, y, cb, cr, strides, both, h_next, end, s);
+        finish(layout, cb, cr, strides, both, j, s);
         h_next = greatest(h_next, end);
         j += 1;
     }
@@ -103,37 +77,22 @@ pub fn catch_up(
 pub fn row_steps(
     layout: Layout,
     y: &[u8],
-    y_stride: usize,
     cb: &[u8],
-    cb_stride: usize,
     cr: &[u8],
-    cr_stride: usize,
+    strides: Strides,
     both: bool,
     h: usize,
     f: usize,
     row: usize,
     s: &mut [f32],
 )
-    requires { ⌜ Lent layout (record { y = record { bytes = now y; stride = «y_stride» }; cb = record { bytes = now cb; stride = «cb_stride» }; cr = record { bytes = now cr; stride = «cr_stride» } }) both ⌝ }
+    requires { ⌜ Lent layout (planesOf (now y) (now cb) (now cr) strides) both ⌝ }
     requires { ⌜ (row < layout .h) × (scratchNeed layout ≤ length (now s)) ⌝ }
-    ensures { λ _. ⌜ now (s .exit) ≡ rowSteps (pictureOf layout (record { y = record { bytes = now (y .entry); stride = «y_stride» }; cb = record { bytes = now (cb .entry); stride = «cb_stride» }; cr = record { bytes = now (cr .entry); stride = «cr_stride» } })) (components both) h f (doneF layout row - f) row (now (s .entry)) ⌝ }
+    ensures { λ _. ⌜ now (s .exit) ≡ rowSteps (pictureOf layout (planesOf (now (y .entry)) (now (cb .entry)) (now (cr .entry)) strides)) (components both) h f (doneF layout row - f) row (now (s .entry)) ⌝ }
 {
     let done = reader_state::done_counters(layout, row);
-    catch_up(
-        layout,
-        y,
-        y_stride,
-        cb,
-        cb_stride,
-        cr,
-        cr_stride,
-        both,
-        h,
-        f,
-        done.f_next,
-        s,
-    );
-    guided_row(layout, y, y_stride, both, row, s);
+    catch_up(layout, y, cb, cr, strides, both, h, f, done.f_next, s);
+    guided_row(layout, y, strides.y, both, row, s);
 }
 
 // The counters before row first + n of a run of rows that begins at first: those of a reader sought there, then those that the row before leaves.
@@ -152,29 +111,25 @@ fn counters_before(layout: Layout, first: usize, n: usize) -> Counters
 pub fn guided_step(
     layout: Layout,
     y: &[u8],
-    y_stride: usize,
     cb: &[u8],
-    cb_stride: usize,
     cr: &[u8],
-    cr_stride: usize,
+    strides: Strides,
     both: bool,
     first: usize,
     n: usize,
     s: &mut [f32],
 )
-    requires { ⌜ Lent layout (record { y = record { bytes = now y; stride = «y_stride» }; cb = record { bytes = now cb; stride = «cb_stride» }; cr = record { bytes = now cr; stride = «cr_stride» } }) both ⌝ }
+    requires { ⌜ Lent layout (planesOf (now y) (now cb) (now cr) strides) both ⌝ }
     requires { ⌜ (first + n < layout .h) × (scratchNeed layout ≤ length (now s)) ⌝ }
-    ensures { λ _. ⌜ now (s .exit) ≡ guidedStep (pictureOf layout (record { y = record { bytes = now (y .entry); stride = «y_stride» }; cb = record { bytes = now (cb .entry); stride = «cb_stride» }; cr = record { bytes = now (cr .entry); stride = «cr_stride» } })) (components both) first n (now (s .entry)) ⌝ }
+    ensures { λ _. ⌜ now (s .exit) ≡ guidedStep (pictureOf layout (planesOf (now (y .entry)) (now (cb .entry)) (now (cr .entry)) strides)) (components both) first n (now (s .entry)) ⌝ }
 {
     let k = counters_before(layout, first, n);
     row_steps(
         layout,
         y,
-        y_stride,
         cb,
-        cb_stride,
         cr,
-        cr_stride,
+        strides,
         both,
         k.h_next,
         k.f_next,

@@ -4,7 +4,7 @@ ghost use mathlib.Core.Bool.{false};
 ghost use Prim.Native.Nat.{_<_};
 ghost use Rattle.laws.specs.Floats.{f32};
 ghost use Rattle.image.specs.Tests.{Sound};
-ghost use Rattle.image.specs.Samples.{Plane, sampleAt};
+ghost use Rattle.image.specs.Samples.{Plane, sampleAt, planeOf};
 ghost use Rattle.image.specs.Picture.{shortPlane};
 use image::Layout;
 
@@ -18,8 +18,8 @@ pub fn whole_at(
     x: usize,
     y: usize,
 ) -> u16
-    requires { ⌜ Sound layout × (shortPlane layout w h (record { bytes = now plane; stride = stride }) ≡ false) × (x < w) × (y < h) ⌝ }
-    ensures { λ r. ⌜ r ≡ sampleAt (layout .«sample_bytes») (record { bytes = now (plane .entry); stride = stride }) x y ⌝ }
+    requires { ⌜ Sound layout × (shortPlane layout w h (planeOf (now plane) stride) ≡ false) × (x < w) × (y < h) ⌝ }
+    ensures { λ r. ⌜ r ≡ sampleAt (layout .«sample_bytes») (planeOf (now (plane .entry)) stride) x y ⌝ }
 {
     let bytes = layout.sample_bytes;
     image::sample(plane, bytes, y * stride + x * bytes)
@@ -35,8 +35,8 @@ pub fn sample_at(
     x: usize,
     y: usize,
 ) -> f32
-    requires { ⌜ Sound layout × (shortPlane layout w h (record { bytes = now plane; stride = stride }) ≡ false) × (x < w) × (y < h) ⌝ }
-    ensures { λ r. ⌜ r ≡ f32 (sampleAt (layout .«sample_bytes») (record { bytes = now (plane .entry); stride = stride }) x y) ⌝ }
+    requires { ⌜ Sound layout × (shortPlane layout w h (planeOf (now plane) stride) ≡ false) × (x < w) × (y < h) ⌝ }
+    ensures { λ r. ⌜ r ≡ f32 (sampleAt (layout .«sample_bytes») (planeOf (now (plane .entry)) stride) x y) ⌝ }
 {
     whole_at(layout, plane, stride, w, h, x, y) as f32
 }

@@ -6,7 +6,8 @@ use lib.Dec.{ltb}
 use lib.ListN.{length}
 use Rattle.image.specs.declared.layout.Layout.{Layout}
 use Rattle.image.specs.Tests.{badPlane}
-use Rattle.image.specs.Samples.{Plane, sampleAt}
+use Rattle.image.specs.declared.strides.Strides.{Strides}
+use Rattle.image.specs.Samples.{Plane, planeOf, sampleAt}
 
 pub data Chroma : Type 0 where
   Cb Cr : Chroma
@@ -22,6 +23,10 @@ pub record Planes : Type 0 where
   pub y : Plane
   pub cb : Plane
   pub cr : Plane
+
+-- lent as three slices and their strides
+abbrev pub planesOf : List ℕ → List ℕ → List ℕ → Strides → Planes
+planesOf y cb cr strides = record { y = planeOf y (strides .y); cb = planeOf cb (strides .cb); cr = planeOf cr (strides .cr) }
 
 abbrev pub chromaPlane : Planes → Chroma → Plane
 chromaPlane ps Cb = ps .cb

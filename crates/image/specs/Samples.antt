@@ -14,6 +14,10 @@ pub record Plane : Type 0 where
   pub bytes : List ℕ
   pub stride : ℕ
 
+-- the plane that a call is lent as a slice and its stride
+abbrev pub planeOf : List ℕ → ℕ → Plane
+planeOf bytes stride = record { bytes = bytes; stride = stride }
+
 -- where column x of row y begins
 abbrev pub place : ℕ → ℕ → ℕ → ℕ → ℕ
 place bytes stride x y = y * stride + x * bytes

@@ -2,6 +2,7 @@
 mod layout;
 mod lent;
 mod samples;
+mod strides;
 
 pub use layout::Layout;
 pub use layout::div_ceil;
@@ -9,3 +10,4 @@ pub use lent::bad_planes;
 pub use lent::scratch_need;
 pub use samples::bad_plane;
 pub use samples::sample;
+pub use strides::Strides;

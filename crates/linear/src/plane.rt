@@ -3,7 +3,7 @@ ghost use mathlib.Core.Path.{_≡_};
 ghost use Prim.Native.Nat.{_+_, _*_, _≤_, _<_};
 ghost use lib.ListN.{length};
 ghost use Rattle.laws.specs.Refusals.{first};
-ghost use Rattle.image.specs.Samples.{Plane};
+ghost use Rattle.image.specs.Samples.{Plane, planeOf};
 ghost use Rattle.linear.specs.Linear.{linearTests, linearRow, linearPlane, linearScratch, LinearGiven, Ready};
 use crate::across::across_row;
 use crate::down::down_row;
@@ -14,9 +14,9 @@ use taps::tap_at;
 
 // Inner: row y of a chroma plane, to scratch from dst on: the cells down into the column buffer behind the two finished rows, then across.
 pub fn linear_row(layout: Layout, plane: &[u8], stride: usize, y: usize, s: &mut [f32], dst: usize)
-    requires { ⌜ Ready layout (record { bytes = now plane; stride = stride }) (length (now s)) ⌝ }
+    requires { ⌜ Ready layout (planeOf (now plane) stride) (length (now s)) ⌝ }
     requires { ⌜ (y < layout .h) × (dst ≤ layout .w) ⌝ }
-    ensures { λ _. ⌜ now (s .exit) ≡ linearRow layout (record { bytes = now (plane .entry); stride = stride }) dst y (now (s .entry)) ⌝ }
+    ensures { λ _. ⌜ now (s .exit) ≡ linearRow layout (planeOf (now (plane .entry)) stride) dst y (now (s .entry)) ⌝ }
 {
     let t = tap_at(layout.rv, layout.ch, y);
     let a = t.i0 * stride;
@@ -34,7 +34,7 @@ pub fn linear_answer(
     space: usize,
     room: usize,
 ) -> Answer
-    ensures { λ r. ⌜ r ≡ first (linearTests layout (record { bytes = now (plane .entry); stride = stride }) space room) ⌝ }
+    ensures { λ r. ⌜ r ≡ first (linearTests layout (planeOf (now (plane .entry)) stride) space room) ⌝ }
 {
     let early = layout.answer(false);
     if laws::refused(early) {
@@ -60,10 +60,10 @@ pub fn linear_answer(
 
 // Every row of the plane: lerped into scratch at 0, then rounded into out.
 fn linear_rows(layout: Layout, plane: &[u8], stride: usize, s: &mut [f32], out: &mut [u16])
-    requires { ⌜ Ready layout (record { bytes = now plane; stride = stride }) (length (now s)) ⌝ }
+    requires { ⌜ Ready layout (planeOf (now plane) stride) (length (now s)) ⌝ }
     requires { ⌜ layout .w * layout .h ≤ length (now out) ⌝ }
-    ensures { λ _. ⌜ now (out .exit) ≡ linearPlane layout (record { bytes = now (plane .entry); stride = stride }) (now (out .entry)) ⌝ }
-    ensures { λ _. ⌜ now (s .exit) ≡ linearScratch layout (record { bytes = now (plane .entry); stride = stride }) (layout .h) (now (s .entry)) ⌝ }
+    ensures { λ _. ⌜ now (out .exit) ≡ linearPlane layout (planeOf (now (plane .entry)) stride) (now (out .entry)) ⌝ }
+    ensures { λ _. ⌜ now (s .exit) ≡ linearScratch layout (planeOf (now (plane .entry)) stride) (layout .h) (now (s .entry)) ⌝ }
 {
     let w = layout.w;
     let h = layout.h;
@@ -84,7 +84,7 @@ pub fn linear_plane(
     s: &mut [f32],
     out: &mut [u16],
 ) -> Answer
-    ensures { λ r. ⌜ LinearGiven layout (record { bytes = now (plane .entry); stride = stride }) (now (s .entry)) (now (out .entry)) r (now (s .exit)) (now (out .exit)) ⌝ }
+    ensures { λ r. ⌜ LinearGiven layout (planeOf (now (plane .entry)) stride) (now (s .entry)) (now (out .entry)) r (now (s .exit)) (now (out .exit)) ⌝ }
 {
     let answer = linear_answer(layout, plane, stride, s.len(), out.len());
     if laws::refused(answer) {

@@ -27,7 +27,8 @@ use Rattle.netpbm.specs.Images.{rowsAt}
 use Rattle.netpbm.specs.Reading.{cbAt, crAt, layoutOf, readingTests, pickReading, readingOf}
 use Rattle.netpbm.proofs.Acceptance.{Taken, taken}
 use Rattle.picture.specs.declared.Outcome.the-variants.{Written, Refused as Down}
-use Rattle.picture.specs.Picture.{planesOf, ppmLength, pictureTests, pickOutcome, inputPicture}
+use Rattle.picture.specs.Picture.{inputPlanes, ppmLength, pictureTests, pickOutcome, inputPicture}
+use Rattle.image.specs.Samples.{planeOf}
 
 -- the three planes from their places on
 abbrev pub planesFrom : List ℕ → Layout → ℕ → ℕ → ℕ → Planes
@@ -41,10 +42,10 @@ planesFrom s l y cb cr = record {
 pub record Told (s : List ℕ) (l : Layout) (y cb cr : ℕ) : Type 0 where
   pub passed : first (readingTests s) ≡ Accepted
   pub layout-is : l ≡ layoutOf s
-  pub planes-are : planesFrom s l y cb cr ≡ planesOf s
+  pub planes-are : planesFrom s l y cb cr ≡ inputPlanes s
 
 pub told : (s : List ℕ) (l : Layout) (y cb cr : ℕ) → readingOf s ≡ Read l y cb cr → Told s l y cb cr
-unfolding readingOf planesOf
+unfolding readingOf inputPlanes
 told s l y cb cr e = go (first (readingTests s)) refl e
   where
     go : (a : Answer) → first (readingTests s) ≡ a → pickReading a (Read (layoutOf s) (rowsAt s 0) (rowsAt s (cbAt s)) (rowsAt s (crAt s))) ≡ Read l y cb cr → Told s l y cb cr
@@ -81,7 +82,7 @@ module _ {s : List ℕ} {l : Layout} {y cb cr : ℕ} (t : Taken s l y cb cr) whe
   pub pixels-most : l .w * l .h ≤ 49152
   pixels-most = let a = t .y-rows in let b = t .short in omega arith
 
-  plane-holds : (at w h : ℕ) → 0 < h → at + w * h ≤ length s → shortPlane l w h (record { bytes = drop at s; stride = w }) ≡ false
+  plane-holds : (at w h : ℕ) → 0 < h → at + w * h ≤ length s → shortPlane l w h (planeOf (drop at s) w) ≡ false
   unfolding shortPlane badPlane
   plane-holds at w h p g =
       let n = length-drop at s in
@@ -123,7 +124,7 @@ module _ (s : List ℕ) (l : Layout) (y cb cr : ℕ) (e : readingOf s ≡ Read l
     y = record { bytes = take (length s - y) (drop y s); stride = l .w };
     cb = record { bytes = take (length s - cb) (drop cb s); stride = l .cw };
     cr = record { bytes = take (length s - cr) (drop cr s); stride = l .cw };
-  }) → (out' ≡ pixelRows (l .w) 3 (fillColour LumaGuided Exact (inputPicture s)) 0 (l .h) out) × (scratch' ≡ fillScratch LumaGuided l (planesOf s) 0 (l .h) scratch)
+  }) → (out' ≡ pixelRows (l .w) 3 (fillColour LumaGuided Exact (inputPicture s)) 0 (l .h) out) × (scratch' ≡ fillScratch LumaGuided l (inputPlanes s) 0 (l .h) scratch)
   filled f =
       let q = from-parts f in
       let t = told s l y cb cr e in

@@ -24,8 +24,8 @@ use Rattle.picture.specs.declared.Outcome.the-variants.{Written, Refused
 -- ---- the picture that the input holds
 
 -- "three Netpbm PGM images one after another (Y, Cb, Cr)": each plane begins where its image's rows do, a row behind the other
-unfoldable pub planesOf : List ℕ → Planes
-planesOf input =
+unfoldable pub inputPlanes : List ℕ → Planes
+inputPlanes input =
     let l = layoutOf input in
     record {
       y = record { bytes = drop (rowsAt input 0) input; stride = l .w };
@@ -34,7 +34,7 @@ planesOf input =
     }
 
 abbrev pub inputPicture : List ℕ → Picture
-inputPicture input = pictureOf (layoutOf input) (planesOf input)
+inputPicture input = pictureOf (layoutOf input) (inputPlanes input)
 
 -- ---- what is written
 
@@ -68,4 +68,4 @@ isWritten (Refused k) = false
 pub record PictureGiven (input : List ℕ) (scratch : List Float) (out : List ℕ) (outcome : Outcome) (scratch' : List Float) (out' : List ℕ) : Type 0 where
   pub answers : outcome ≡ pickOutcome (first (pictureTests input scratch out)) (ppmLength (layoutOf input))
   pub gives : out' ≡ cond (isWritten outcome) (ppmOver (inputPicture input) out) out
-  pub scratches : scratch' ≡ cond (isWritten outcome) (fillScratch LumaGuided (layoutOf input) (planesOf input) 0 (layoutOf input .h) scratch) scratch
+  pub scratches : scratch' ≡ cond (isWritten outcome) (fillScratch LumaGuided (layoutOf input) (inputPlanes input) 0 (layoutOf input .h) scratch) scratch

@@ -8,9 +8,10 @@ ghost use Rattle.fill.specs.Fill.{fillColour, pixelRows, fillScratch};
 ghost use Rattle.netpbm.specs.Reading.{readingOf};
 ghost use Rattle.netpbm.specs.Lines.{ppmHeader};
 ghost use Rattle.netpbm.specs.Texts.{lineOf};
-ghost use Rattle.picture.specs.Picture.{planesOf, inputPicture, ppmLength, ppmOver};
+ghost use Rattle.picture.specs.Picture.{inputPlanes, inputPicture, ppmLength, ppmOver};
 use fill::ChromaUpsampling;
 use image::Layout;
+use image::Strides;
 use kernels::YcbcrKernel;
 use netpbm::Line;
 use netpbm::Reading;
@@ -39,16 +40,19 @@ fn put_pixels(
     requires { ⌜ readingOf (now input) ≡ Reading.Read layout y cb cr ⌝ }
     requires { ⌜ (scratchNeed layout ≤ length (now s)) × (layout .w * layout .h * 3 ≤ length (now out)) ⌝ }
     ensures { λ _. ⌜ now (out .exit) ≡ pixelRows (layout .w) 3 (fillColour ChromaUpsampling.LumaGuided YcbcrKernel.Exact (inputPicture (now (input .entry)))) 0 (layout .h) (now (out .entry)) ⌝ }
-    ensures { λ _. ⌜ now (s .exit) ≡ fillScratch ChromaUpsampling.LumaGuided layout (planesOf (now (input .entry))) 0 (layout .h) (now (s .entry)) ⌝ }
+    ensures { λ _. ⌜ now (s .exit) ≡ fillScratch ChromaUpsampling.LumaGuided layout (inputPlanes (now (input .entry))) 0 (layout .h) (now (s .entry)) ⌝ }
 {
+    let strides = Strides {
+        y: layout.w,
+        cb: layout.cw,
+        cr: layout.cw,
+    };
     fill::fill(
         layout,
         &input[y..],
-        layout.w,
         &input[cb..],
-        layout.cw,
         &input[cr..],
-        layout.cw,
+        strides,
         ChromaUpsampling::LumaGuided,
         YcbcrKernel::Exact,
         3,
@@ -72,7 +76,7 @@ pub(crate) fn put_ppm(
     requires { ⌜ header ≡ lineOf (ppmHeader (layout .w) (layout .h)) ⌝ }
     requires { ⌜ (scratchNeed layout ≤ length (now s)) × (ppmLength layout ≤ length (now out)) ⌝ }
     ensures { λ _. ⌜ now (out .exit) ≡ ppmOver (inputPicture (now (input .entry))) (now (out .entry)) ⌝ }
-    ensures { λ _. ⌜ now (s .exit) ≡ fillScratch ChromaUpsampling.LumaGuided layout (planesOf (now (input .entry))) 0 (layout .h) (now (s .entry)) ⌝ }
+    ensures { λ _. ⌜ now (s .exit) ≡ fillScratch ChromaUpsampling.LumaGuided layout (inputPlanes (now (input .entry))) 0 (layout .h) (now (s .entry)) ⌝ }
 {
     let at = header.len;
     put_line(header, out);

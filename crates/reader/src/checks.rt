@@ -4,30 +4,30 @@ ghost use Prim.Native.Nat.{_<_};
 ghost use Rattle.laws.specs.Refusals.{first};
 ghost use Rattle.image.specs.Tests.{Sound};
 ghost use Rattle.guided.specs.Calls.{layoutOf, rowed, rowTests};
+ghost use Rattle.image.specs.Picture.{planesOf};
 use guided::Reader;
+use image::Strides;
 use laws::Answer;
 
 // Inner: the lowest refusal of `row` that applies. It writes nothing.
 pub fn row_answer(
     reader: Reader,
     y: &[u8],
-    y_stride: usize,
     cb: &[u8],
-    cb_stride: usize,
     cr: &[u8],
-    cr_stride: usize,
+    strides: Strides,
     row: usize,
     s: &[f32],
     out_cb: &[f32],
     out_cr: &[f32],
 ) -> Answer
-    ensures { λ r. ⌜ r ≡ first (rowTests (record { y = row; planes = record { y = record { bytes = now (y .entry); stride = «y_stride» }; cb = record { bytes = now (cb .entry); stride = «cb_stride» }; cr = record { bytes = now (cr .entry); stride = «cr_stride» } }; reader = reader; scratch = now (s .entry); outCb = now («out_cb» .entry); outCr = now («out_cr» .entry) })) ⌝ }
+    ensures { λ r. ⌜ r ≡ first (rowTests (record { y = row; planes = planesOf (now (y .entry)) (now (cb .entry)) (now (cr .entry)) strides; reader = reader; scratch = now (s .entry); outCb = now («out_cb» .entry); outCr = now («out_cr» .entry) })) ⌝ }
 {
     if reader_state::bad_state(reader) {
         return Answer::Refused(1);
     }
     let layout = reader_state::layout_of(reader);
-    if image::bad_planes(layout, y, y_stride, cb, cb_stride, cr, cr_stride) {
+    if image::bad_planes(layout, y, cb, cr, strides) {
         return Answer::Refused(7);
     }
     if s.len() < image::scratch_need(layout) {

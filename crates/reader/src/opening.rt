@@ -2,9 +2,11 @@
 ghost use mathlib.Core.Path.{_≡_};
 ghost use Rattle.image.specs.Tests.{Sound};
 ghost use Rattle.guided.specs.Calls.{opened, OpenGiven};
+ghost use Rattle.image.specs.Picture.{planesOf};
 use guided::Reader;
 use guided::Reply;
 use image::Layout;
+use image::Strides;
 use laws::Answer;
 
 // The state that open leaves.
@@ -29,21 +31,19 @@ fn opened_reader(layout: Layout) -> Reader
 pub fn open(
     layout: Layout,
     y: &[u8],
-    y_stride: usize,
     cb: &[u8],
-    cb_stride: usize,
     cr: &[u8],
-    cr_stride: usize,
+    strides: Strides,
     s: &[f32],
     reader: Reader,
 ) -> Reply
-    ensures { λ r. ⌜ OpenGiven (record { layout = layout; planes = record { y = record { bytes = now (y .entry); stride = «y_stride» }; cb = record { bytes = now (cb .entry); stride = «cb_stride» }; cr = record { bytes = now (cr .entry); stride = «cr_stride» } }; scratch = now (s .entry); reader = reader }) r ⌝ }
+    ensures { λ r. ⌜ OpenGiven (record { layout = layout; planes = planesOf (now (y .entry)) (now (cb .entry)) (now (cr .entry)) strides; scratch = now (s .entry); reader = reader }) r ⌝ }
 {
     let answer = layout.answer(false);
     if laws::refused(answer) {
         return Reply { answer, reader };
     }
-    if image::bad_planes(layout, y, y_stride, cb, cb_stride, cr, cr_stride) {
+    if image::bad_planes(layout, y, cb, cr, strides) {
         return Reply {
             answer: Answer::Refused(7),
             reader,

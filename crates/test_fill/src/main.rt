@@ -73,11 +73,9 @@ fn fill_lent(text: &[u8], y: &[u8], cb: &[u8], cr: &[u8], s: &mut [f32], out: &m
     let answer = test_support::number(reconstruction::fill(
         test_support::layout(text),
         y,
-        test_support::size(text, 9),
         cb,
-        test_support::size(text, 10),
         cr,
-        test_support::size(text, 11),
+        test_support::strides(text),
         upsampling(text),
         kernel(text),
         test_support::size(text, 20),

@@ -132,11 +132,9 @@ fn open(text: &[u8], given: Reader, y: &[u8], cb: &[u8], cr: &[u8], s: &[f32]) -
     let reply = reconstruction::open(
         test_support::layout(text),
         y,
-        test_support::size(text, 9),
         cb,
-        test_support::size(text, 10),
         cr,
-        test_support::size(text, 11),
+        test_support::strides(text),
         s,
         given,
     );
@@ -156,11 +154,9 @@ fn row_into(
     let reply = reconstruction::row(
         given,
         y,
-        test_support::size(text, 9),
         cb,
-        test_support::size(text, 10),
         cr,
-        test_support::size(text, 11),
+        test_support::strides(text),
         test_support::size(text, 23),
         s,
         out_cb,

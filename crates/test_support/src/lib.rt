@@ -14,6 +14,7 @@ pub use floats::bits;
 pub use floats::float;
 pub use lines::layout;
 pub use lines::scratch_part;
+pub use lines::strides;
 pub use planes::grow;
 pub use planes::grown;
 pub use planes::plane;

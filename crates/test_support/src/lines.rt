@@ -3,6 +3,7 @@ use crate::words::long;
 use crate::words::size;
 use crate::words::word;
 use image::Layout;
+use image::Strides;
 
 // Inner: the layout that a line begins with: its first nine words.
 pub fn layout(text: &[u8]) -> Layout {
@@ -15,6 +16,15 @@ pub fn layout(text: &[u8]) -> Layout {
         ch: size(text, 5),
         sample_bytes: size(text, 6),
         maxval: long(text, 7) as u32,
+    }
+}
+
+// Inner: the strides of the three planes: the words behind the layout.
+pub fn strides(text: &[u8]) -> Strides {
+    Strides {
+        y: size(text, 9),
+        cb: size(text, 10),
+        cr: size(text, 11),
     }
 }
 

@@ -1,7 +1,7 @@
 // Whether a call is turned down. Nothing is written here.
 ghost use mathlib.Core.Path.{_≡_};
 ghost use Rattle.laws.specs.Refusals.{first};
-ghost use Rattle.image.specs.Samples.{Plane};
+ghost use Rattle.image.specs.Samples.{Plane, planeOf};
 ghost use Rattle.upsample.specs.Triangular.{badTriangular, ratios, triangularTests};
 use image::Layout;
 use laws::Answer;
@@ -24,7 +24,7 @@ fn bad_triangular(layout: Layout) -> bool
 
 // Inner: the lowest of refusals 2 to 7 and 10 that applies; `room` is the length of the output. It writes nothing.
 pub fn triangular_answer(layout: Layout, plane: &[u8], stride: usize, room: usize) -> Answer
-    ensures { λ r. ⌜ r ≡ first (triangularTests layout (record { bytes = now (plane .entry); stride = stride }) room) ⌝ }
+    ensures { λ r. ⌜ r ≡ first (triangularTests layout (planeOf (now (plane .entry)) stride) room) ⌝ }
 {
     let answer = layout.answer(false);
     if laws::refused(answer) {

@@ -6,16 +6,16 @@ ghost use lib.ListN.{length};
 ghost use Rattle.laws.specs.declared.answers.Answer.the-variants.{Accepted};
 ghost use Rattle.laws.specs.Lists.{put};
 ghost use Rattle.laws.specs.Refusals.{first};
-ghost use Rattle.image.specs.Samples.{Plane, sampleAt};
+ghost use Rattle.image.specs.Samples.{Plane, sampleAt, planeOf};
 ghost use Rattle.upsample.specs.Triangular.{TriangularGiven, triangularTests, triangularPlane, triangularSample};
 use image::Layout;
 use laws::Answer;
 
 // Row y of an accepted call.
 fn triangular_row(layout: Layout, plane: &[u8], stride: usize, y: usize, out: &mut [u16])
-    requires { ⌜ first (triangularTests layout (record { bytes = now plane; stride = stride }) (length (now out))) ≡ Accepted ⌝ }
+    requires { ⌜ first (triangularTests layout (planeOf (now plane) stride) (length (now out))) ≡ Accepted ⌝ }
     requires { ⌜ y < layout .h ⌝ }
-    ensures { λ _. ⌜ now (out .exit) ≡ put (now (out .entry)) (y * layout .w) (layout .w) (triangularSample layout (sampleAt (layout .«sample_bytes») (record { bytes = now (plane .entry); stride = stride })) y) ⌝ }
+    ensures { λ _. ⌜ now (out .exit) ≡ put (now (out .entry)) (y * layout .w) (layout .w) (triangularSample layout (sampleAt (layout .«sample_bytes») (planeOf (now (plane .entry)) stride)) y) ⌝ }
 {
     let bytes = layout.sample_bytes;
     let cw = layout.cw;
@@ -37,8 +37,8 @@ fn triangular_row(layout: Layout, plane: &[u8], stride: usize, y: usize, out: &m
 
 // All rows of an accepted call.
 fn triangular(layout: Layout, plane: &[u8], stride: usize, out: &mut [u16])
-    requires { ⌜ first (triangularTests layout (record { bytes = now plane; stride = stride }) (length (now out))) ≡ Accepted ⌝ }
-    ensures { λ _. ⌜ now (out .exit) ≡ triangularPlane layout (record { bytes = now (plane .entry); stride = stride }) (now (out .entry)) ⌝ }
+    requires { ⌜ first (triangularTests layout (planeOf (now plane) stride) (length (now out))) ≡ Accepted ⌝ }
+    ensures { λ _. ⌜ now (out .exit) ≡ triangularPlane layout (planeOf (now (plane .entry)) stride) (now (out .entry)) ⌝ }
 {
     let mut y = 0;
     while y < layout.h {
@@ -49,7 +49,7 @@ fn triangular(layout: Layout, plane: &[u8], stride: usize, out: &mut [u16])
 
 // One whole chroma plane, triangular: w by h values into out. Refusals 2, 3, 4, 5, 6, 7 and 10.
 pub fn triangular_plane(layout: Layout, plane: &[u8], stride: usize, out: &mut [u16]) -> Answer
-    ensures { λ r. ⌜ TriangularGiven layout (record { bytes = now (plane .entry); stride = stride }) (now (out .entry)) r (now (out .exit)) ⌝ }
+    ensures { λ r. ⌜ TriangularGiven layout (planeOf (now (plane .entry)) stride) (now (out .entry)) r (now (out .exit)) ⌝ }
 {
     let answer = crate::answer::triangular_answer(layout, plane, stride, out.len());
     if laws::refused(answer) {

@@ -7,7 +7,7 @@ use Rattle.fill.specs.Fill.{fillScratch}
 use Rattle.netpbm.specs.Lines.{ppmHeader}
 use Rattle.netpbm.proofs.Acceptance.{taken}
 use Rattle.picture.specs.declared.Outcome.the-variants.{Written}
-use Rattle.picture.specs.Picture.{planesOf}
+use Rattle.picture.specs.Picture.{inputPlanes}
 use Rattle.picture.proofs.Fronts.{header-most, line-length, ppm-length}
 use Rattle.picture.proofs.Readings.{layout-sound, pixels-most, scratch-short, told, both-long, out-short}
 use Rattle.picture.proofs.written.Statement.{statement}
@@ -70,7 +70,7 @@ returns-3 c =
     record {
       answers = ap Written n ∙ both-long t (a .s .now) (a .out .now) (rw (sym (c .before .before .before .before .before .before .before .before .before .before .before .before .scratch-need .ensures)) (c .before .before .before .before .before .before .before .before .before .before .before .if1 .left)) (rw (sym n) (c .before .before .before .before .before .before .before .if2 .left));
       gives = w .0;
-      scratches = w .1 ∙ ap (λ (l : Layout). fillScratch LumaGuided l (planesOf (a .input .now)) 0 (l .h) (a .s .now)) (t .layout-is);
+      scratches = w .1 ∙ ap (λ (l : Layout). fillScratch LumaGuided l (inputPlanes (a .input .now)) 0 (l .h) (a .s .now)) (t .layout-is);
     }
 
 pub written-spec : {M : Type 1} → statement M

@@ -5,6 +5,7 @@ use borrow.Author.Needs.{needs}
 use Rattle.colour_rows.specs.Colours.{colourRow}
 use Rattle.colour_rows.proofs.blocks.block_row.Statement.{statement}
 use Rattle.colour_rows.proofs.blocks.block_row.Tie as tie
+use Rattle.image.specs.Samples.{planeOf}
 
 blocks3-requires : tie.Need-blocks3-requires
 blocks3-requires c κs =
@@ -19,7 +20,7 @@ returns : tie.Need-returns
 returns c =
     let a = c .before .before .before .before .before .before .before .before .args in
     let e : 3 ≡ a .size = omega arith in
-    c .before .before .blocks3 .ensures ∙ ap (λ (n : ℕ). colourRow (a .kernel) (a .layout) (record { bytes = a .plane .now; stride = a .stride }) (a .row) (a .s .now) (a .at) n (a .out .now)) e
+    c .before .before .blocks3 .ensures ∙ ap (λ (n : ℕ). colourRow (a .kernel) (a .layout) (planeOf (a .plane .now) (a .stride)) (a .row) (a .s .now) (a .at) n (a .out .now)) e
 
 cast-low : tie.Need-cast-low
 cast-low c = search needs
@@ -43,7 +44,7 @@ returns-2 : tie.Need-returns-2
 returns-2 c =
     let a = c .before .before .before .before .before .before .before .before .args in
     let e : 4 ≡ a .size = omega arith in
-    c .before .before .blocks4 .ensures ∙ ap (λ (n : ℕ). colourRow (a .kernel) (a .layout) (record { bytes = a .plane .now; stride = a .stride }) (a .row) (a .s .now) (a .at) n (a .out .now)) e
+    c .before .before .blocks4 .ensures ∙ ap (λ (n : ℕ). colourRow (a .kernel) (a .layout) (planeOf (a .plane .now) (a .stride)) (a .row) (a .s .now) (a .at) n (a .out .now)) e
 
 pub block-row-spec : {M : Type 1} → statement M
 block-row-spec =

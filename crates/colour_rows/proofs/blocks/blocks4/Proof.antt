@@ -6,9 +6,10 @@ use Rattle.colour_rows.specs.Colours.{rowColour, colourRow}
 use Rattle.kernel_blocks.proofs.Stored.{Stored, stored-none, stored-over, stored-end}
 use Rattle.colour_rows.proofs.blocks.blocks4.Statement.{statement}
 use Rattle.colour_rows.proofs.blocks.blocks4.Tie as tie
+use Rattle.image.specs.Samples.{planeOf}
 
 abbrev Inv-loop : tie.InvT-loop
-Inv-loop layout kernel plane stride row s out₀ at low done₀ out done = (done ≤ layout .w) × Stored out₀ out at 4 done (rowColour kernel layout (record { bytes = plane; stride = stride }) row s)
+Inv-loop layout kernel plane stride row s out₀ at low done₀ out done = (done ≤ layout .w) × Stored out₀ out at 4 done (rowColour kernel layout (planeOf plane stride) row s)
 
 abbrev μ-loop : tie.MeasureT-loop
 μ-loop layout kernel plane stride row s out₀ at low done₀ out done = layout .w - done

@@ -9,9 +9,10 @@ use Rattle.kernel_blocks.proofs.Stored.{Stored, stored-none, stored-more, store
 use Rattle.colour_rows.proofs.Colouring.{in-row-read}
 use Rattle.colour_rows.proofs.pixels.plain_row.Statement.{statement}
 use Rattle.colour_rows.proofs.pixels.plain_row.Tie as tie
+use Rattle.image.specs.Samples.{planeOf}
 
 abbrev Inv-loop : tie.InvT-loop
-Inv-loop layout kernel size plane stride row s out₀ at w x₀ out x = (x ≤ layout .w) × Stored out₀ out at size x (rowColour kernel layout (record { bytes = plane; stride = stride }) row s)
+Inv-loop layout kernel size plane stride row s out₀ at w x₀ out x = (x ≤ layout .w) × Stored out₀ out at size x (rowColour kernel layout (planeOf plane stride) row s)
 
 abbrev μ-loop : tie.MeasureT-loop
 μ-loop layout kernel size plane stride row s out₀ at w x₀ out x = layout .w - x
@@ -64,7 +65,7 @@ loop-again c =
     let l = c .before .before .before .before .before .before .before .before .before in
     let a = l .before .before .before .before .args in (
       omega arith,
-      stored-more (l .loop .inv .1) _ _ (c .before .before .put-pixel .ensures) (c .before .before .before .before .plain-pixel .ensures ∙ in-row-read (a .kernel) (a .layout) (record { bytes = a .plane .now; stride = a .stride }) (a .row) (a .s .now) (l .loop .x) (c .before .before .before .before .before .before .before .luma-at .ensures .0)),
+      stored-more (l .loop .inv .1) _ _ (c .before .before .put-pixel .ensures) (c .before .before .before .before .plain-pixel .ensures ∙ in-row-read (a .kernel) (a .layout) (planeOf (a .plane .now) (a .stride)) (a .row) (a .s .now) (l .loop .x) (c .before .before .before .before .before .before .before .luma-at .ensures .0)),
     )
 
 same-length : tie.Need-same-length Inv-loop μ-loop

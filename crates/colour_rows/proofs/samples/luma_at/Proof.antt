@@ -3,7 +3,7 @@ use Prim.Native.Nat.{_+_, _≤_}
 use native.Mathlib.Omega.{arith}
 use lib.ListN.{length}
 use borrow.Author.Needs.{needs}
-use Rattle.image.specs.Samples.{place, sampleAt}
+use Rattle.image.specs.Samples.{place, sampleAt, planeOf}
 use Rattle.image.proofs.Planes.{short-holds, sample-inside}
 use Rattle.colour_rows.proofs.samples.luma_at.Statement.{statement}
 use Rattle.colour_rows.proofs.samples.luma_at.Tie as tie
@@ -14,7 +14,7 @@ inside c =
     let a = c .args in
     let l = a .layout in
     let r = c .pre .0 in
-    sample-inside (short-holds l (l .w) (l .h) (record { bytes = a .plane .now; stride = a .stride }) (r .plane)) (a .x) (a .row) (c .pre .1) (r .inside)
+    sample-inside (short-holds l (l .w) (l .h) (planeOf (a .plane .now) (a .stride)) (r .plane)) (a .x) (a .row) (c .pre .1) (r .inside)
 
 mul-sample : tie.Need-mul-sample
 mul-sample c = let h = inside (c .before) in omega arith

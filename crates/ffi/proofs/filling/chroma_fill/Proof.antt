@@ -17,6 +17,9 @@ returns c =
 to-layout-requires : tie.Need-to-layout-requires
 to-layout-requires c κs = search needs
 
+to-strides-requires : tie.Need-to-strides-requires
+to-strides-requires c κs = search needs
+
 to-upsampling-requires : tie.Need-to-upsampling-requires
 to-upsampling-requires c κs = search needs
 
@@ -40,11 +43,11 @@ unfolding noSuchWay
 returns-2 c =
     let k = c .before .before .before .before .before in
     let t = k .before .before .before in
-    let l = t .before .before in
+    let l = t .before .before .before in
     let e = sym (l .before .before .either .ensures) ∙ l .before .if1 .left in
     record {
       strange = λ f. absurd (true≢false (sym f ∙ e));
-      plain = λ _. record { answer = k .fill .result; given = rw (sym (l .to-layout .ensures), sym (t .before .to-upsampling .ensures), sym (t .to-kernel .ensures)) (k .fill .ensures); number = c .number-of .ensures };
+      plain = λ _. record { answer = k .fill .result; given = rw (sym (l .to-layout .ensures), sym (t .before .before .to-strides .ensures), sym (t .before .to-upsampling .ensures), sym (t .to-kernel .ensures)) (k .fill .ensures); number = c .number-of .ensures };
     }
 
 pub chroma-fill-spec : {M : Type 1} → statement M
@@ -54,6 +57,7 @@ chroma-fill-spec =
     either-requires
     returns
     to-layout-requires
+    to-strides-requires
     to-upsampling-requires
     to-kernel-requires
     fill-requires

@@ -15,6 +15,9 @@ returns c =
 to-reader-requires : tie.Need-to-reader-requires
 to-reader-requires c κs = search needs
 
+to-strides-requires : tie.Need-to-strides-requires
+to-strides-requires c κs = search needs
+
 row-requires : tie.Need-row-requires
 row-requires c κs = search needs
 
@@ -33,11 +36,12 @@ same-length-3 c = search needs
 returns-2 : tie.Need-returns-2
 returns-2 c =
     let k = c .before .before .before .before .before .before .before in
-    let t = k .before .before .before .before in
+    let u = k .before .before .before .before in
+    let t = u .before in
     let e = sym (t .before .before .strange-phases .ensures) ∙ t .before .if1 .left in
     record {
       strange = λ f. absurd (true≢false (sym f ∙ e));
-      plain = λ _. record { reply = k .row .result; given = rw (sym (t .to-reader .ensures)) (k .row .ensures); is = c .reply-to .ensures };
+      plain = λ _. record { reply = k .row .result; given = rw (sym (t .to-reader .ensures), sym (u .to-strides .ensures)) (k .row .ensures); is = c .reply-to .ensures };
     }
 
 pub chroma-row-spec : {M : Type 1} → statement M
@@ -47,6 +51,7 @@ chroma-row-spec =
     strange-phases-requires
     returns
     to-reader-requires
+    to-strides-requires
     row-requires
     reply-to-requires
     same-length

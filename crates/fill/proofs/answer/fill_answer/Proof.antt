@@ -12,7 +12,7 @@ use Rattle.laws.specs.Refusals.{first, accepted}
 use Rattle.laws.proofs.Refusals.{refused-early, passed-early}
 use Rattle.laws.specs.Numbers.{outsideOf}
 use Rattle.image.specs.Tests.{layoutTests, Sound}
-use Rattle.image.specs.Picture.{badPlanes}
+use Rattle.image.specs.Picture.{badPlanes, planesOf}
 use Rattle.image.proofs.Layouts.{sound-answer, area}
 use Rattle.image.specs.Scratch.{scratchNeed}
 use Rattle.fill.specs.Tests.{FillCall, isFixed, fillTests}
@@ -26,11 +26,7 @@ call c =
     let a = c .before .before .before .before .before .before .before .args in
     record {
       layout = a .layout;
-      planes = record {
-        y = record { bytes = a .y .now; stride = a .y-stride };
-        cb = record { bytes = a .cb .now; stride = a .cb-stride };
-        cr = record { bytes = a .cr .now; stride = a .cr-stride };
-      };
+      planes = planesOf (a .y .now) (a .cb .now) (a .cr .now) (a .strides);
       upsampling = a .upsampling;
       kernel = a .kernel;
       size = a .size;

@@ -6,7 +6,7 @@ use borrow.Author.Needs.{needs}
 use Rattle.laws.specs.declared.answers.Answer.the-variants.{Accepted}
 use Rattle.laws.specs.Refusals.{accepted}
 use Rattle.laws.proofs.Refusals.{accepted-is}
-use Rattle.image.specs.Picture.{pictureOf}
+use Rattle.image.specs.Picture.{pictureOf, planesOf}
 use Rattle.fill.specs.Tests.{FillCall}
 use Rattle.fill.specs.Fill.{fillColour, pixelRows, fillScratch}
 use Rattle.fill.proofs.Acceptance.{ready}
@@ -19,11 +19,7 @@ call c =
     let a = c .args in
     record {
       layout = a .layout;
-      planes = record {
-        y = record { bytes = a .y .now; stride = a .y-stride };
-        cb = record { bytes = a .cb .now; stride = a .cb-stride };
-        cr = record { bytes = a .cr .now; stride = a .cr-stride };
-      };
+      planes = planesOf (a .y .now) (a .cb .now) (a .cr .now) (a .strides);
       upsampling = a .upsampling;
       kernel = a .kernel;
       size = a .size;

@@ -5,6 +5,7 @@ use Rattle.fill.specs.Fill.{linearPair}
 use Rattle.fill.specs.Steps.{fillStep}
 use Rattle.fill.proofs.rows.chroma_row.Statement.{statement}
 use Rattle.fill.proofs.rows.chroma_row.Tie as tie
+use Rattle.image.specs.Picture.{planesOf}
 
 enum-told : tie.Need-enum-told
 enum-told c = search needs
@@ -31,7 +32,7 @@ returns : tie.Need-returns
 unfolding fillStep linearPair
 returns c =
     let a = c .before .before .before .before .before .before .before .before .before .before .args in
-    c .before .before .linear-pair .ensures ∙ ap (λ (up : ChromaUpsampling). fillStep up (a .layout) (record { y = record { bytes = a .y .now; stride = a .y-stride }; cb = record { bytes = a .cb .now; stride = a .cb-stride }; cr = record { bytes = a .cr .now; stride = a .cr-stride } }) (a .first) (a .n) (a .s .now)) (sym (c .before .before .before .before .enum-told .given .1))
+    c .before .before .linear-pair .ensures ∙ ap (λ (up : ChromaUpsampling). fillStep up (a .layout) (planesOf (a .y .now) (a .cb .now) (a .cr .now) (a .strides)) (a .first) (a .n) (a .s .now)) (sym (c .before .before .before .before .enum-told .given .1))
 
 same-length-2 : tie.Need-same-length-2
 same-length-2 c = search needs
@@ -40,7 +41,7 @@ returns-2 : tie.Need-returns-2
 unfolding fillStep
 returns-2 c =
     let a = c .before .before .before .before .before .before .before .before .before .before .args in
-    c .before .before .guided-step .ensures ∙ ap (λ (up : ChromaUpsampling). fillStep up (a .layout) (record { y = record { bytes = a .y .now; stride = a .y-stride }; cb = record { bytes = a .cb .now; stride = a .cb-stride }; cr = record { bytes = a .cr .now; stride = a .cr-stride } }) (a .first) (a .n) (a .s .now)) (sym (c .before .before .before .before .enum-told2 .given .1))
+    c .before .before .guided-step .ensures ∙ ap (λ (up : ChromaUpsampling). fillStep up (a .layout) (planesOf (a .y .now) (a .cb .now) (a .cr .now) (a .strides)) (a .first) (a .n) (a .s .now)) (sym (c .before .before .before .before .enum-told2 .given .1))
 
 pub chroma-row-spec : {M : Type 1} → statement M
 chroma-row-spec =

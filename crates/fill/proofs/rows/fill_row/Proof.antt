@@ -11,6 +11,8 @@ use Rattle.fill.proofs.Chroma.{length-fill}
 use Rattle.fill.proofs.Painted.{row-bytes, row-begins, row-room}
 use Rattle.fill.proofs.rows.fill_row.Statement.{statement}
 use Rattle.fill.proofs.rows.fill_row.Tie as tie
+use Rattle.image.specs.Picture.{planesOf}
+use Rattle.image.specs.Samples.{planeOf}
 
 add-row : tie.Need-add-row
 add-row c = search needs
@@ -29,7 +31,7 @@ colour-row-requires c κs =
     let s = c .before .before .before .before .before .before .before .before .before .before .before .before in
     let p = s .pre .0 in
     let a = s .args in
-    let e = ap length (c .before .before .before .before .chroma-row .ensures) ∙ length-fill (a .upsampling) (a .layout) (record { y = record { bytes = a .y .now; stride = a .y-stride }; cb = record { bytes = a .cb .now; stride = a .cb-stride }; cr = record { bytes = a .cr .now; stride = a .cr-stride } }) (a .first) (a .n) (a .s .now) in
+    let e = ap length (c .before .before .before .before .chroma-row .ensures) ∙ length-fill (a .upsampling) (a .layout) (planesOf (a .y .now) (a .cb .now) (a .cr .now) (a .strides)) (a .first) (a .n) (a .s .now) in
     let f = front-fits (a .layout) in
     let g = p .scratch in
     (record { luma = record { sound = p .lent .sound; plane = p .lent .luma; inside = s .pre .1 }; rows = omega arith }, (p .size-least, p .size-most, row-room p (a .first + a .n) (s .pre .1)))
@@ -44,7 +46,7 @@ returns : tie.Need-returns
 returns c =
     let a = c .before .before .before .before .before .before .before .before .before .before .before .before .before .before .before .args in
     let e = c .before .before .before .before .before .before .before .chroma-row .ensures in
-    (e, c .before .before .colour-row .ensures ∙ ap (λ (z : List Float). colourRow (a .kernel) (a .layout) (record { bytes = a .y .now; stride = a .y-stride }) (a .first + a .n) z ((a .first + a .n) * (a .layout .w * a .size)) (a .size) (a .out .now)) e)
+    (e, c .before .before .colour-row .ensures ∙ ap (λ (z : List Float). colourRow (a .kernel) (a .layout) (planeOf (a .y .now) (a .strides .y)) (a .first + a .n) z ((a .first + a .n) * (a .layout .w * a .size)) (a .size) (a .out .now)) e)
 
 pub fill-row-spec : {M : Type 1} → statement M
 fill-row-spec =

@@ -1,7 +1,7 @@
 use mathlib.Core.Path.{_∙_}
 use Prim.Native.Nat.{_+_, _-_, _*_, _≤_}
 use native.Mathlib.Omega.{arith}
-use Rattle.image.specs.Picture.{pictureOf}
+use Rattle.image.specs.Picture.{pictureOf, planesOf}
 use Rattle.fill.specs.Fill.{fillColour}
 use Rattle.fill.proofs.Chroma.{Scratched, scratched-none, scratched-more, scratched-end}
 use Rattle.fill.proofs.Painted.{Painted, painted-none, painted-more, painted-end, row-is}
@@ -9,13 +9,13 @@ use Rattle.fill.proofs.rows.fill_rows.Statement.{statement}
 use Rattle.fill.proofs.rows.fill_rows.Tie as tie
 
 abbrev Inv-loop : tie.InvT-loop
-Inv-loop layout y y-stride cb cb-stride cr cr-stride upsampling kernel size a b s₀ out₀ rows n₀ s out n =
+Inv-loop layout y cb cr strides upsampling kernel size a b s₀ out₀ rows n₀ s out n =
     (n ≤ b - a)
-    × Painted (layout .w) size (fillColour upsampling kernel (pictureOf layout (record { y = record { bytes = y; stride = y-stride }; cb = record { bytes = cb; stride = cb-stride }; cr = record { bytes = cr; stride = cr-stride } }))) a n out₀ out
-    × Scratched upsampling layout (record { y = record { bytes = y; stride = y-stride }; cb = record { bytes = cb; stride = cb-stride }; cr = record { bytes = cr; stride = cr-stride } }) a n s₀ s
+    × Painted (layout .w) size (fillColour upsampling kernel (pictureOf layout (planesOf y cb cr strides))) a n out₀ out
+    × Scratched upsampling layout (planesOf y cb cr strides) a n s₀ s
 
 abbrev μ-loop : tie.MeasureT-loop
-μ-loop layout y y-stride cb cb-stride cr cr-stride upsampling kernel size a b s₀ out₀ rows n₀ s out n =
+μ-loop layout y cb cr strides upsampling kernel size a b s₀ out₀ rows n₀ s out n =
     b - a - n
 
 sub-rows : tie.Need-sub-rows Inv-loop μ-loop
@@ -45,7 +45,7 @@ loop-again c =
     let r = c .before .before .before .before .fill-row .ensures in
     let f = s .pre .0 in (
       omega arith,
-      painted-more (i .inv .1) _ (r .1 ∙ row-is (q .upsampling) (q .kernel) (q .layout) (record { y = record { bytes = q .y .now; stride = q .y-stride }; cb = record { bytes = q .cb .now; stride = q .cb-stride }; cr = record { bytes = q .cr .now; stride = q .cr-stride } }) (f .lent .sound) (q .a) (i .n) (q .s .now) (i .s) (i .inv .2) (f .scratch) (omega arith) ((q .a + i .n) * (q .layout .w * q .size)) (q .size) (i .out)),
+      painted-more (i .inv .1) _ (r .1 ∙ row-is (q .upsampling) (q .kernel) (q .layout) (planesOf (q .y .now) (q .cb .now) (q .cr .now) (q .strides)) (f .lent .sound) (q .a) (i .n) (q .s .now) (i .s) (i .inv .2) (f .scratch) (omega arith) ((q .a + i .n) * (q .layout .w * q .size)) (q .size) (i .out)),
       scratched-more (i .inv .2) _ (r .0),
     )
 

@@ -6,6 +6,7 @@ use Rattle.linear.specs.Linear.{linearRow}
 use Rattle.linear.proofs.LinearRows.{length-row}
 use Rattle.fill.proofs.rows.linear_pair.Statement.{statement}
 use Rattle.fill.proofs.rows.linear_pair.Tie as tie
+use Rattle.image.specs.Samples.{planeOf}
 
 linear-row-requires : tie.Need-linear-row-requires
 linear-row-requires c κs = let p = c .before .before .before .before .pre in (p .0, (p .1 .1, omega arith))
@@ -23,7 +24,7 @@ same-length c = search needs
 returns : tie.Need-returns
 returns c =
     let a = c .before .before .before .before .before .before .before .before .before .before .before .args in
-    c .before .before .linear-row2 .ensures ∙ ap (linearRow (a .layout) (record { bytes = a .cr .now; stride = a .cr-stride }) (a .layout .w) (a .row)) (c .before .before .before .before .before .before .linear-row .ensures)
+    c .before .before .linear-row2 .ensures ∙ ap (linearRow (a .layout) (planeOf (a .cr .now) (a .strides .cr)) (a .layout .w) (a .row)) (c .before .before .before .before .before .before .linear-row .ensures)
 
 pub linear-pair-spec : {M : Type 1} → statement M
 linear-pair-spec =

@@ -10,10 +10,11 @@ use lib.ListN.{length}
 use borrow.Author.Needs.{needs}
 use Rattle.guided_across.proofs.across.chroma_part.Statement.{statement}
 use Rattle.guided_across.proofs.across.chroma_part.Tie as tie
+use Rattle.image.specs.Samples.{planeOf}
 
 -- the chroma row ends within the plane
 row : (c : tie.Start) → c .args .j * c .args .stride + c .args .layout .cw * c .args .layout .«sample_bytes» ≤ length (c .args .plane .now)
-row c = let l = c .args .layout in row-inside (short-holds l (l .cw) (l .ch) (record { bytes = c .args .plane .now; stride = c .args .stride }) (c .pre .0 .plane)) (c .args .j) (omega arith)
+row c = let l = c .args .layout in row-inside (short-holds l (l .cw) (l .ch) (planeOf (c .args .plane .now) (c .args .stride)) (c .pre .0 .plane)) (c .args .j) (omega arith)
 
 -- luma's cells lie before the component's buffers
 behind : (c : tie.After-slots-at) → c .before .before .slot-at .result + c .before .before .before .before .before .args .layout .cw ≤ c .slots-at .result .at
@@ -55,7 +56,7 @@ returns c =
     let t = c .before .before .before .before .before .before .before .before .before .before .before .before .slots-at .result in
     c .before .before .product-sum-row .ensures
     ∙ ap (threeRow (productsAt y (t .at)) (l .cw) (t .products)) (c .before .before .before .before .before .before .sum-row .ensures ∙ ap (threeRow (cellsAt (t .at)) (l .cw) (t .sums)) (c .before .before .before .before .before .before .before .before .before .before .load-row .ensures))
-    ∙ chroma-steps l (record { bytes = a .plane .now; stride = a .stride }) (chromaOf (a .cr)) (a .j) _ y t (a .s .now) (c .before .before .before .before .before .before .before .before .before .before .before .before .slots-at .ensures) (c .before .before .before .before .before .before .before .before .before .before .before .before .before .first-of .ensures .0) (c .before .before .before .before .before .before .before .before .before .before .before .before .before .before .slot-at .ensures .is) (behind (c .before .before .before .before .before .before .before .before .before .before .before .before)) (omega arith)
+    ∙ chroma-steps l (planeOf (a .plane .now) (a .stride)) (chromaOf (a .cr)) (a .j) _ y t (a .s .now) (c .before .before .before .before .before .before .before .before .before .before .before .before .slots-at .ensures) (c .before .before .before .before .before .before .before .before .before .before .before .before .before .first-of .ensures .0) (c .before .before .before .before .before .before .before .before .before .before .before .before .before .before .slot-at .ensures .is) (behind (c .before .before .before .before .before .before .before .before .before .before .before .before)) (omega arith)
 
 pub chroma-part-spec : {M : Type 1} → statement M
 chroma-part-spec =

@@ -2,7 +2,7 @@ use Rattle.guided_across.proofs.ReadBack.{horizontal-one, horizontal-bo
 use Rattle.guided_across.specs.Parts.{chromaPart}
 use Rattle.guided_window.specs.Lent.{components}
 use Rattle.guided.specs.Scratch.{horizontal}
-use Rattle.image.specs.Picture.{Cb, Cr, Planes, pictureOf}
+use Rattle.image.specs.Picture.{Cb, Cr, Planes, pictureOf, planesOf}
 use Rattle.image.specs.Samples.{sampleAt}
 use mathlib.Core.Bool.{Bool}
 use mathlib.Core.Path.{sym, ap, _∙_}
@@ -13,7 +13,7 @@ use Rattle.guided_across.proofs.across.horizontal.Statement.{statement}
 use Rattle.guided_across.proofs.across.horizontal.Tie as tie
 
 abbrev planes : tie.Start → Planes
-planes c = record { y = record { bytes = c .args .y .now; stride = c .args .y-stride }; cb = record { bytes = c .args .cb .now; stride = c .args .cb-stride }; cr = record { bytes = c .args .cr .now; stride = c .args .cr-stride } }
+planes c = planesOf (c .args .y .now) (c .args .cb .now) (c .args .cr .now) (c .args .strides)
 
 luma-part-requires : tie.Need-luma-part-requires
 luma-part-requires c κs = let o = c .before .before .before .before .before .pre .0 in (record { sound = o .sound; plane = o .luma }, omega arith)

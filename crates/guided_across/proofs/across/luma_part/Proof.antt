@@ -5,6 +5,7 @@ use native.Mathlib.Omega.{arith}
 use borrow.Author.Needs.{needs}
 use Rattle.guided_across.proofs.across.luma_part.Statement.{statement}
 use Rattle.guided_across.proofs.across.luma_part.Tie as tie
+use Rattle.image.specs.Samples.{planeOf}
 
 slots-at-requires : tie.Need-slots-at-requires
 slots-at-requires c κs = search needs
@@ -28,7 +29,7 @@ returns c =
     let t = c .before .before .before .before .before .before .before .before .before .before .before .before .slots-at .result in
     c .before .before .product-sum-row .ensures
     ∙ ap (threeRow (productsAt (t .at) (t .at)) (l .cw) (t .products)) (c .before .before .before .before .before .before .sum-row .ensures ∙ ap (threeRow (cellsAt (t .at)) (l .cw) (t .sums)) (c .before .before .before .before .before .before .before .before .before .before .luma-row .ensures))
-    ∙ luma-steps l (record { bytes = a .plane .now; stride = a .stride }) (a .j) t (a .s .now) (c .before .before .before .before .before .before .before .before .before .before .before .before .slots-at .ensures) (omega arith)
+    ∙ luma-steps l (planeOf (a .plane .now) (a .stride)) (a .j) t (a .s .now) (c .before .before .before .before .before .before .before .before .before .before .before .before .slots-at .ensures) (omega arith)
 
 pub luma-part-spec : {M : Type 1} → statement M
 luma-part-spec =

@@ -6,6 +6,7 @@ use native.Mathlib.Omega.{arith}
 use borrow.Author.Needs.{needs}
 use Rattle.guided_across.proofs.luma.cell_luma.Statement.{statement}
 use Rattle.guided_across.proofs.luma.cell_luma.Tie as tie
+use Rattle.image.specs.Samples.{planeOf}
 
 -- the cell begins inside the picture
 inside : (c : tie.Start) → Begins (c .args .layout) (c .args .j) (c .args .i)
@@ -49,7 +50,7 @@ mean-of-requires c κs = let h = few c in let o = c .before .before .before .bef
 returns : tie.Need-returns
 returns c =
     let a = c .before .before .before .before .before .before .before .args in
-    cell-is (a .layout) (record { bytes = a .plane .now; stride = a .stride }) (a .j) (a .i) _ _ _ _ (c .before .before .before .before .least .ensures) (c .before .before .least2 .ensures) (c .before .cell-sum .ensures .0) (c .mean-of .ensures)
+    cell-is (a .layout) (planeOf (a .plane .now) (a .stride)) (a .j) (a .i) _ _ _ _ (c .before .before .before .before .least .ensures) (c .before .before .least2 .ensures) (c .before .cell-sum .ensures .0) (c .mean-of .ensures)
 
 pub cell-luma-spec : {M : Type 1} → statement M
 cell-luma-spec =

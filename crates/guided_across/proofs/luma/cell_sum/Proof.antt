@@ -4,9 +4,10 @@ use Prim.Native.Nat.{_+_, _-_, _*_, _≤_}
 use native.Mathlib.Omega.{arith}
 use Rattle.guided_across.proofs.luma.cell_sum.Statement.{statement}
 use Rattle.guided_across.proofs.luma.cell_sum.Tie as tie
+use Rattle.image.specs.Samples.{planeOf}
 
 abbrev Inv-loop : tie.InvT-loop
-Inv-loop layout plane stride x y n m t₀ i₀ t i = (i ≤ m) × (t ≤ 262140 * i) × Summed (λ dy. rowSum layout (record { bytes = plane; stride = stride }) x (y + dy) n) i t
+Inv-loop layout plane stride x y n m t₀ i₀ t i = (i ≤ m) × (t ≤ 262140 * i) × Summed (λ dy. rowSum layout (planeOf plane stride) x (y + dy) n) i t
 
 abbrev μ-loop : tie.MeasureT-loop
 μ-loop layout plane stride x y n m t₀ i₀ t i = m - i

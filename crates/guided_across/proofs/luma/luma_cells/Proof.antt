@@ -1,6 +1,6 @@
 use Rattle.guided_across.specs.Luma.{lumaRun}
 use Rattle.guided.specs.Guided.{lumaOf}
-use Rattle.image.specs.Samples.{sampleAt}
+use Rattle.image.specs.Samples.{sampleAt, planeOf}
 use Prim.Native.Nat.{_+_, _-_, _≤_}
 use Rattle.laws.proofs.Lists.{Run, run-none, run-more, run-end}
 use native.Mathlib.Omega.{arith}
@@ -8,7 +8,7 @@ use Rattle.guided_across.proofs.luma.luma_cells.Statement.{statement}
 use Rattle.guided_across.proofs.luma.luma_cells.Tie as tie
 
 abbrev Inv-loop : tie.InvT-loop
-Inv-loop layout plane stride j s₀ dst from n i₀ s i = (i ≤ n) × Run s₀ s (dst + from) i (λ k. lumaOf layout (sampleAt (layout .«sample_bytes») (record { bytes = plane; stride = stride })) j (from + k))
+Inv-loop layout plane stride j s₀ dst from n i₀ s i = (i ≤ n) × Run s₀ s (dst + from) i (λ k. lumaOf layout (sampleAt (layout .«sample_bytes») (planeOf plane stride)) j (from + k))
 
 abbrev μ-loop : tie.MeasureT-loop
 μ-loop layout plane stride j s₀ dst from n i₀ s i = n - i

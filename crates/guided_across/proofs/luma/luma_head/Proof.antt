@@ -8,6 +8,7 @@ use Rattle.guided_across.specs.Luma.{lumaRun}
 use Rattle.guided_across.proofs.Areas.{luma-none, byte-cells}
 use Rattle.guided_across.proofs.luma.luma_head.Statement.{statement}
 use Rattle.guided_across.proofs.luma.luma_head.Tie as tie
+use Rattle.image.specs.Samples.{planeOf}
 
 -- the chroma row begins inside the picture
 down : (c : tie.Start) → c .args .j * c .args .layout .rv < c .args .layout .h
@@ -23,8 +24,8 @@ among c =
     omega arith
 
 -- none are made so
-none : (c : tie.Start) → (0 ≤ c .args .layout .cw) × (c .args .s .now ≡ lumaRun (c .args .layout) (record { bytes = c .args .plane .now; stride = c .args .stride }) (c .args .j) (c .args .dst) 0 0 (c .args .s .now))
-none c = (omega arith, luma-none (c .args .layout) (record { bytes = c .args .plane .now; stride = c .args .stride }) (c .args .j) (c .args .dst) (c .args .s .now))
+none : (c : tie.Start) → (0 ≤ c .args .layout .cw) × (c .args .s .now ≡ lumaRun (c .args .layout) (planeOf (c .args .plane .now) (c .args .stride)) (c .args .j) (c .args .dst) 0 0 (c .args .s .now))
+none c = (omega arith, luma-none (c .args .layout) (planeOf (c .args .plane .now) (c .args .stride)) (c .args .j) (c .args .dst) (c .args .s .now))
 
 mul-y : tie.Need-mul-y
 mul-y c = let h = down (c .before .before) in let o = c .before .before .pre .0 .sound in omega arith
@@ -48,7 +49,7 @@ mul-cell-run : tie.Need-mul-cell-run
 mul-cell-run c =
     let s = c .before .before .before .before .before .before .before .before .before .before in
     let l = s .args .layout in
-    let q = short-holds l (l .w) (l .h) (record { bytes = s .args .plane .now; stride = s .args .stride }) (s .pre .0 .plane) in
+    let q = short-holds l (l .w) (l .h) (planeOf (s .args .plane .now) (s .args .stride)) (s .pre .0 .plane) in
     let r = row-inside q (s .args .j * l .rv) (down s) in
     omega arith
 
@@ -63,7 +64,7 @@ cell-run-requires c κs =
     let e = w .least .ensures in
     let k = among x in
     let b : l .w * l .«sample_bytes» ≡ l .w * 1 = ap (λ (n : ℕ). l .w * n) (x .before .before .if2 .left) in
-    let q = short-holds l (l .w) (l .h) (record { bytes = s .args .plane .now; stride = s .args .stride }) (s .pre .0 .plane) in
+    let q = short-holds l (l .w) (l .h) (planeOf (s .args .plane .now) (s .args .stride)) (s .pre .0 .plane) in
     (omega arith, omega arith, omega arith, λ dy h. let r = row-inside q (s .args .j * l .rv + dy) (omega arith) in omega arith, omega arith)
 
 same-length : tie.Need-same-length
@@ -74,7 +75,7 @@ returns-4 c =
     let w = c .before .before .before .before in
     let x = w .before .before in
     let a = x .before .before .before .before .before .before .before .before .args in
-    (among x, c .before .before .cell-run .ensures ∙ byte-cells (a .layout) (record { bytes = a .plane .now; stride = a .stride }) (a .j) (w .least .result) (a .dst) (a .s .now) (x .before .before .before .before .if1 .left) (x .before .before .if2 .left) (sym (w .least .ensures)))
+    (among x, c .before .before .cell-run .ensures ∙ byte-cells (a .layout) (planeOf (a .plane .now) (a .stride)) (a .j) (w .least .result) (a .dst) (a .s .now) (x .before .before .before .before .if1 .left) (x .before .before .if2 .left) (sym (w .least .ensures)))
 
 pub luma-head-spec : {M : Type 1} → statement M
 luma-head-spec =

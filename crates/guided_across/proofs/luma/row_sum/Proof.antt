@@ -1,7 +1,7 @@
 use Rattle.guided_across.proofs.SumsTo.{Summed, sum-none, sum-more, sum-end}
 use Rattle.guided_across.proofs.Areas.{within-plane}
 use Rattle.guided_across.specs.Luma.{rowSum}
-use Rattle.image.specs.Samples.{sampleAt}
+use Rattle.image.specs.Samples.{sampleAt, planeOf}
 use Prim.Native.Nat.{_+_, _-_, _*_, _≤_}
 use native.Mathlib.Omega.{arith}
 use lib.ListN.{length}
@@ -9,14 +9,14 @@ use Rattle.guided_across.proofs.luma.row_sum.Statement.{statement}
 use Rattle.guided_across.proofs.luma.row_sum.Tie as tie
 
 abbrev Inv-loop : tie.InvT-loop
-Inv-loop plane stride x y n bytes t₀ i₀ t i = (i ≤ n) × (t ≤ 65535 * i) × Summed (λ dx. sampleAt bytes (record { bytes = plane; stride = stride }) (x + dx) y) i t
+Inv-loop plane stride x y n bytes t₀ i₀ t i = (i ≤ n) × (t ≤ 65535 * i) × Summed (λ dx. sampleAt bytes (planeOf plane stride) (x + dx) y) i t
 
 abbrev μ-loop : tie.MeasureT-loop
 μ-loop plane stride x y n bytes t₀ i₀ t i = n - i
 
 -- sample i of the n lies within the plane
 inside : (c : tie.In-loop Inv-loop μ-loop) → c .before .before .before .args .y * c .before .before .before .args .stride + (c .before .before .before .args .x + c .before .loop .i) * c .before .before .before .args .layout .«sample_bytes» + c .before .before .before .args .layout .«sample_bytes» ≤ length (c .before .before .before .args .plane .now)
-inside c = let a = c .before .before .before .args in within-plane (a .layout) (record { bytes = a .plane .now; stride = a .stride }) (c .before .before .before .pre .0) (a .x + c .before .loop .i) (a .y) (omega arith) (omega arith)
+inside c = let a = c .before .before .before .args in within-plane (a .layout) (planeOf (a .plane .now) (a .stride)) (c .before .before .before .pre .0) (a .x + c .before .loop .i) (a .y) (omega arith) (omega arith)
 
 loop-holds : tie.Need-loop-holds Inv-loop μ-loop
 loop-holds c = (omega arith, omega arith, sum-none _)

@@ -7,6 +7,7 @@ use Rattle.guided_down.proofs.extremes.extreme_inner.Statement.{stateme
 use Rattle.guided_down.proofs.Wholes.{inner-are}
 use Rattle.image.proofs.Planes.{row-inside, short-holds}
 use Rattle.guided_down.proofs.extremes.extreme_inner.Tie as tie
+use Rattle.image.specs.Samples.{planeOf}
 
 abbrev start : (k : tie.After-struct-known2) → tie.Start
 start k = k .before .before .before .before .before .before
@@ -16,7 +17,7 @@ known k i = k .before .before .before .before .before .shared-slice-known .given
 
 -- row r of the plane
 inside : (c : tie.Start) (r : ℕ) → r < c .args .layout .ch → r * c .args .stride + c .args .layout .cw * c .args .layout .«sample_bytes» ≤ length (c .args .plane .now)
-inside c r h = let a = c .args in row-inside (short-holds (a .layout) (a .layout .cw) (a .layout .ch) (record { bytes = a .plane .now; stride = a .stride }) (c .pre .0 .plane)) r h
+inside c r h = let a = c .args in row-inside (short-holds (a .layout) (a .layout .cw) (a .layout .ch) (planeOf (a .plane .now) (a .stride)) (c .pre .0 .plane)) r h
 
 -- the same by a row's number as it was computed, and the number of sample bytes
 fits : (k : tie.After-struct-known2) (b : ℕ) → start k .args .layout .«sample_bytes» ≡ b → (r x : ℕ) → r < start k .args .layout .ch → x ≡ r → x * start k .args .stride + start k .args .layout .cw * b ≤ length (start k .args .plane .now)
@@ -58,7 +59,7 @@ same-length : tie.Need-same-length
 same-length c = search needs
 
 returns : tie.Need-returns
-returns c = let k = c .before .before .before .before .before in let a = start k .args in c .before .before .byte-run .ensures ∙ inner-are (a .layout) (record { bytes = a .plane .now; stride = a .stride }) (a .greatest) (a .j) (a .dst) 1 _ _ _ (λ i. i) (a .s .now) (known k) (c .before .before .before .before .if1 .taken) (λ i. omega arith) (ap (λ (r : ℕ). r * a .stride) (k .before .before .prev .ensures)) refl (ap (λ (r : ℕ). r * a .stride) (k .before .next .ensures))
+returns c = let k = c .before .before .before .before .before in let a = start k .args in c .before .before .byte-run .ensures ∙ inner-are (a .layout) (planeOf (a .plane .now) (a .stride)) (a .greatest) (a .j) (a .dst) 1 _ _ _ (λ i. i) (a .s .now) (known k) (c .before .before .before .before .if1 .taken) (λ i. omega arith) (ap (λ (r : ℕ). r * a .stride) (k .before .before .prev .ensures)) refl (ap (λ (r : ℕ). r * a .stride) (k .before .next .ensures))
 
 add-word-run : tie.Need-add-word-run
 add-word-run c = omega arith
@@ -75,7 +76,7 @@ same-length-2 : tie.Need-same-length-2
 same-length-2 c = search needs
 
 returns-2 : tie.Need-returns-2
-returns-2 c = let k = c .before .before .before .before .before in let a = start k .args in c .before .before .word-run .ensures ∙ inner-are (a .layout) (record { bytes = a .plane .now; stride = a .stride }) (a .greatest) (a .j) (a .dst) 2 _ _ _ (λ i. i * 2) (a .s .now) (known k) (two (c .before .before .before .before)) (λ i. refl) (ap (λ (r : ℕ). r * a .stride) (k .before .before .prev .ensures)) refl (ap (λ (r : ℕ). r * a .stride) (k .before .next .ensures))
+returns-2 c = let k = c .before .before .before .before .before in let a = start k .args in c .before .before .word-run .ensures ∙ inner-are (a .layout) (planeOf (a .plane .now) (a .stride)) (a .greatest) (a .j) (a .dst) 2 _ _ _ (λ i. i * 2) (a .s .now) (known k) (two (c .before .before .before .before)) (λ i. refl) (ap (λ (r : ℕ). r * a .stride) (k .before .before .prev .ensures)) refl (ap (λ (r : ℕ). r * a .stride) (k .before .next .ensures))
 
 pub extreme-inner-spec : {M : Type 1} → statement M
 extreme-inner-spec =

@@ -8,6 +8,7 @@ use mathlib.Core.List.{List}
 use Rattle.guided_down.specs.Extremes.{extremeRun}
 use Rattle.guided_down.proofs.Wholes.{run-parts, run-whole}
 use Rattle.guided_down.proofs.extremes.extreme_row.Tie as tie
+use Rattle.image.specs.Samples.{planeOf}
 
 extreme-run-requires : tie.Need-extreme-run-requires
 extreme-run-requires c κs = search needs
@@ -16,7 +17,7 @@ same-length : tie.Need-same-length
 same-length c = search needs
 
 returns : tie.Need-returns
-returns c = let a = c .before .before .before .before .before .before .before .args in c .before .before .extreme-run .ensures ∙ run-whole (a .layout) (record { bytes = a .plane .now; stride = a .stride }) (a .greatest) (a .j) (a .dst) (a .layout .cw) (a .s .now) refl
+returns c = let a = c .before .before .before .before .before .before .before .args in c .before .before .extreme-run .ensures ∙ run-whole (a .layout) (planeOf (a .plane .now) (a .stride)) (a .greatest) (a .j) (a .dst) (a .layout .cw) (a .s .now) refl
 
 extreme-run-requires-2 : tie.Need-extreme-run-requires-2
 extreme-run-requires-2 c κs = search needs
@@ -35,10 +36,10 @@ same-length-2 c = search needs
 
 returns-2 : tie.Need-returns-2
 returns-2 c = let a = c .before .before .before .before .before .before .before .before .before .before .before .before .before .before .before .args in
-    let run : ℕ → ℕ → List Float → List Float = extremeRun (a .layout) (record { bytes = a .plane .now; stride = a .stride }) (a .greatest) (a .j) (a .dst) in
+    let run : ℕ → ℕ → List Float → List Float = extremeRun (a .layout) (planeOf (a .plane .now) (a .stride)) (a .greatest) (a .j) (a .dst) in
     c .before .before .extreme-run3 .ensures
     ∙ ap (run (a .layout .cw - 1) 1) (c .before .before .before .before .before .before .extreme-inner .ensures ∙ ap (run 1 (a .layout .cw - 2)) (c .before .before .before .before .before .before .before .before .before .before .extreme-run2 .ensures))
-    ∙ run-parts (a .layout) (record { bytes = a .plane .now; stride = a .stride }) (a .greatest) (a .j) (a .dst) (a .s .now) (omega arith)
+    ∙ run-parts (a .layout) (planeOf (a .plane .now) (a .stride)) (a .greatest) (a .j) (a .dst) (a .s .now) (omega arith)
 
 pub extreme-row-spec : {M : Type 1} → statement M
 extreme-row-spec =

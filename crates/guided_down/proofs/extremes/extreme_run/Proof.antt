@@ -8,11 +8,11 @@ use Rattle.laws.proofs.Lists.{Run, run-end, run-more, run-none}
 use Rattle.guided.specs.Guided.{extremeOf}
 use Rattle.guided_down.specs.Extremes.{extremeRun, opOf}
 use borrow.Author.Needs.{needs}
-use Rattle.image.specs.Samples.{sampleAt}
+use Rattle.image.specs.Samples.{sampleAt, planeOf}
 use Rattle.guided_down.proofs.extremes.extreme_run.Tie as tie
 
 abbrev Inv-loop : tie.InvT-loop
-Inv-loop layout plane stride greatest j s₀ dst from n i₀ s i = (i ≤ n) × Run s₀ s (dst + from) i (λ k. extremeOf layout (opOf greatest) (sampleAt (layout .«sample_bytes») (record { bytes = plane; stride = stride })) j (from + k))
+Inv-loop layout plane stride greatest j s₀ dst from n i₀ s i = (i ≤ n) × Run s₀ s (dst + from) i (λ k. extremeOf layout (opOf greatest) (sampleAt (layout .«sample_bytes») (planeOf plane stride)) j (from + k))
 
 abbrev μ-loop : tie.MeasureT-loop
 μ-loop layout plane stride greatest j s₀ dst from n i₀ s i = n - i
@@ -51,7 +51,7 @@ loop-again : tie.Need-loop-again Inv-loop μ-loop
 loop-again c =
     let s = c .before .before .before in
     let a = s .before .before .before .args in
-    (omega arith, run-more (s .loop .inv .1) _ (ap f32 (c .before .extreme-at .ensures) ∙ sym (whole-is (a .layout) (record { bytes = a .plane .now; stride = a .stride }) (a .greatest) (λ i. s .before .before .shared-slice-known .given i .fits) (a .j) _)))
+    (omega arith, run-more (s .loop .inv .1) _ (ap f32 (c .before .extreme-at .ensures) ∙ sym (whole-is (a .layout) (planeOf (a .plane .now) (a .stride)) (a .greatest) (λ i. s .before .before .shared-slice-known .given i .fits) (a .j) _)))
 
 same-length : tie.Need-same-length Inv-loop μ-loop
 same-length c = c .before .loop .inv .1 .len

@@ -2,7 +2,7 @@ use lib.Ieee.{nan}
 use Prim.Native.Nat.{_+_, _-_, _≤_}
 use Rattle.laws.proofs.Lists.{Run, run-none, run-more, run-end, run-after}
 use Rattle.laws.specs.Floats.{f32}
-use Rattle.image.specs.Samples.{sampleAt}
+use Rattle.image.specs.Samples.{sampleAt, planeOf}
 use Rattle.image.specs.Scratch.{cellAt}
 use Rattle.guided.specs.Guided.{detailOf}
 use Rattle.guided_pixels.specs.Pixels.{detailRun}
@@ -12,7 +12,7 @@ use Rattle.guided_pixels.proofs.detail_runs.detail_run.Statement.{state
 use Rattle.guided_pixels.proofs.detail_runs.detail_run.Tie as tie
 
 abbrev Inv-loop : tie.InvT-loop
-Inv-loop layout plane stride y s₀ src dst from n w h i₀ s i = (i ≤ n) × Run s₀ s (dst + from) i (λ k. detailOf layout (cellAt s₀ src) (f32 (sampleAt (layout .«sample_bytes») (record { bytes = plane; stride = stride }) (from + k) y)) (from + k))
+Inv-loop layout plane stride y s₀ src dst from n w h i₀ s i = (i ≤ n) × Run s₀ s (dst + from) i (λ k. detailOf layout (cellAt s₀ src) (f32 (sampleAt (layout .«sample_bytes») (planeOf plane stride) (from + k) y)) (from + k))
 
 abbrev μ-loop : tie.MeasureT-loop
 μ-loop layout plane stride y s₀ src dst from n w h i₀ s i = n - i

@@ -8,9 +8,10 @@ use Rattle.guided_pixels.proofs.DetailRows.{detail-pair-at}
 use Rattle.guided_pixels.specs.Pixels.{detailIn}
 use mathlib.Core.Path.{refl}
 use Rattle.guided_pixels.proofs.detail_twos.detail_block.Tie as tie
+use Rattle.image.specs.Samples.{planeOf}
 
 abbrev Inv-loop : tie.InvT-loop
-Inv-loop layout plane stride y s src i block₀ b₀ block b = (b ≤ 8) × Run block₀ block 0 (2 * b) (λ k. detailIn layout (record { bytes = plane; stride = stride }) y s src (2 + 2 * i + k))
+Inv-loop layout plane stride y s src i block₀ b₀ block b = (b ≤ 8) × Run block₀ block 0 (2 * b) (λ k. detailIn layout (planeOf plane stride) y s src (2 + 2 * i + k))
 
 abbrev μ-loop : tie.MeasureT-loop
 μ-loop layout plane stride y s src i block₀ b₀ block b = 8 - b
@@ -54,8 +55,8 @@ loop-less c = omega arith
 loop-again : tie.Need-loop-again Inv-loop μ-loop
 loop-again c = let a = c .before .before .before .before .before .args in
     let l = c .before .before .loop in
-    let p = detail-pair-at (a .layout) (record { bytes = a .plane .now; stride = a .stride }) (a .y) (a .s .now) (a .src) (a .i + l .b) _ (c .detail-pair .ensures) in
-    let t = pair-turn (detailIn (a .layout) (record { bytes = a .plane .now; stride = a .stride }) (a .y) (a .s .now) (a .src)) (a .i) (l .b) _ _ (p .0) (p .1) in
+    let p = detail-pair-at (a .layout) (planeOf (a .plane .now) (a .stride)) (a .y) (a .s .now) (a .src) (a .i + l .b) _ (c .detail-pair .ensures) in
+    let t = pair-turn (detailIn (a .layout) (planeOf (a .plane .now) (a .stride)) (a .y) (a .s .now) (a .src)) (a .i) (l .b) _ _ (p .0) (p .1) in
     (omega arith, run-two (l .inv .1) _ _ (2 * (l .b + 1)) _ _ refl (omega arith) (omega arith) (t .0) (t .1))
 
 returns : tie.Need-returns Inv-loop μ-loop

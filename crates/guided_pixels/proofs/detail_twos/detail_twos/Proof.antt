@@ -1,7 +1,7 @@
 use Prim.Native.Nat.{_+_, _-_, _*_, _≤_}
 use native.Mathlib.Omega.{arith}
 use borrow.Author.Needs.{needs}
-use Rattle.image.specs.Samples.{Plane}
+use Rattle.image.specs.Samples.{Plane, planeOf}
 use Rattle.laws.proofs.Lists.{Run, run-end, run-none}
 use Rattle.guided_pixels.proofs.Twos.{lanes-more}
 use Rattle.guided_pixels.specs.Pixels.{detailIn, detailRun}
@@ -10,7 +10,7 @@ use Rattle.guided_pixels.proofs.detail_twos.detail_twos.Statement.{stat
 use Rattle.guided_pixels.proofs.detail_twos.detail_twos.Tie as tie
 
 abbrev Inv-loop : tie.InvT-loop
-Inv-loop layout plane stride y s₀ src dst n done₀ s done = (done ≤ n) × Run s₀ s (dst + 2) (2 * done) (λ k. detailIn layout (record { bytes = plane; stride = stride }) y s₀ src (2 + k))
+Inv-loop layout plane stride y s₀ src dst n done₀ s done = (done ≤ n) × Run s₀ s (dst + 2) (2 * done) (λ k. detailIn layout (planeOf plane stride) y s₀ src (2 + k))
 
 abbrev μ-loop : tie.MeasureT-loop
 μ-loop layout plane stride y s₀ src dst n done₀ s done = n - done

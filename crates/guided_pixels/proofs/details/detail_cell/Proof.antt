@@ -8,9 +8,10 @@ use Rattle.image.specs.Scratch.{cellAt}
 use Rattle.guided_pixels.proofs.DetailRows.{detail-is}
 use mathlib.Core.Path.{refl}
 use Rattle.guided_pixels.proofs.details.detail_cell.Tie as tie
+use Rattle.image.specs.Samples.{planeOf}
 
 abbrev Inv-loop : tie.InvT-loop
-Inv-loop layout plane stride y s₀ src dst i w h rh x v k₀ s k = (k ≤ rh) × Run s₀ s (dst + x) k (λ j. detailIn layout (record { bytes = plane; stride = stride }) y s₀ src (x + j))
+Inv-loop layout plane stride y s₀ src dst i w h rh x v k₀ s k = (k ≤ rh) × Run s₀ s (dst + x) k (λ j. detailIn layout (planeOf plane stride) y s₀ src (x + j))
 
 abbrev μ-loop : tie.MeasureT-loop
 μ-loop layout plane stride y s₀ src dst i w h rh x v k₀ s k = rh - k

@@ -5,9 +5,10 @@ use Rattle.guided_pixels.specs.Pixels.{detailRun}
 use Rattle.guided_pixels.proofs.Phases.{each-more, Each, each-end, each-inside, each-none}
 use Rattle.guided_pixels.proofs.DetailRows.{detail-runs}
 use Rattle.guided_pixels.proofs.details.detail_each.Tie as tie
+use Rattle.image.specs.Samples.{planeOf}
 
 abbrev Inv-loop : tie.InvT-loop
-Inv-loop layout plane stride y s₀ src dst n phases i₀ s i = (i ≤ n) × Each (detailRun layout (record { bytes = plane; stride = stride }) y src dst) (layout .rh) s₀ s i
+Inv-loop layout plane stride y s₀ src dst n phases i₀ s i = (i ≤ n) × Each (detailRun layout (planeOf plane stride) y src dst) (layout .rh) s₀ s i
 
 abbrev μ-loop : tie.MeasureT-loop
 μ-loop layout plane stride y s₀ src dst n phases i₀ s i = n - i
@@ -18,7 +19,7 @@ phases-of-requires c κs = c .before .before .pre .0 .0 .sound .rh-most
 loop-holds : tie.Need-loop-holds Inv-loop μ-loop
 loop-holds c = let a = c .before .before .before .args in
     let o = c .before .before .before .pre .0 .0 .sound in
-    (omega arith, each-none (detail-runs (a .layout) o (record { bytes = a .plane .now; stride = a .stride }) (a .y) (a .src) (a .dst) (omega arith)) (a .layout .rh) (a .s .now))
+    (omega arith, each-none (detail-runs (a .layout) o (planeOf (a .plane .now) (a .stride)) (a .y) (a .src) (a .dst) (omega arith)) (a .layout .rh) (a .s .now))
 
 add-detail-cell : tie.Need-add-detail-cell Inv-loop μ-loop
 add-detail-cell c = omega arith
@@ -39,7 +40,7 @@ loop-again : tie.Need-loop-again Inv-loop μ-loop
 loop-again c = let a = c .before .before .before .before .before .before .before .before .before .args in
     let o = c .before .before .before .before .before .before .before .before .before .pre .0 .0 .sound in
     let l = c .before .before .before .before .before .loop in
-    (omega arith, each-more (detail-runs (a .layout) o (record { bytes = a .plane .now; stride = a .stride }) (a .y) (a .src) (a .dst) (omega arith)) (a .layout .rh) (l .inv .1) _ (omega arith) (c .before .before .detail-cell .ensures) (each-inside (a .layout .rh) (a .layout .w) (l .i) (a .n) (omega arith) (omega arith)))
+    (omega arith, each-more (detail-runs (a .layout) o (planeOf (a .plane .now) (a .stride)) (a .y) (a .src) (a .dst) (omega arith)) (a .layout .rh) (l .inv .1) _ (omega arith) (c .before .before .detail-cell .ensures) (each-inside (a .layout .rh) (a .layout .w) (l .i) (a .n) (omega arith) (omega arith)))
 
 same-length : tie.Need-same-length Inv-loop μ-loop
 same-length c = c .before .loop .inv .1 .len

@@ -11,9 +11,10 @@ use lib.Ieee.{nan}
 use borrow.Author.Needs.{needs}
 use Rattle.guided_pixels.proofs.Phases.{one-is}
 use Rattle.guided_pixels.proofs.details.detail_ones.Tie as tie
+use Rattle.image.specs.Samples.{planeOf}
 
 abbrev Inv-loop : tie.InvT-loop
-Inv-loop layout plane stride y s₀ src dst n w h i₀ s i = (i ≤ n) × Run s₀ s (dst + 1) i (λ k. detailIn layout (record { bytes = plane; stride = stride }) y s₀ src (1 + k))
+Inv-loop layout plane stride y s₀ src dst n w h i₀ s i = (i ≤ n) × Run s₀ s (dst + 1) i (λ k. detailIn layout (planeOf plane stride) y s₀ src (1 + k))
 
 abbrev μ-loop : tie.MeasureT-loop
 μ-loop layout plane stride y s₀ src dst n w h i₀ s i = n - i

@@ -4,6 +4,7 @@ use borrow.Author.Needs.{needs}
 use Rattle.guided_pixels.proofs.details.detail_row.Statement.{statement}
 use Rattle.guided_pixels.proofs.DetailRows.{detail-line, detail-ready}
 use Rattle.guided_pixels.proofs.details.detail_row.Tie as tie
+use Rattle.image.specs.Samples.{planeOf}
 
 column-at-requires : tie.Need-column-at-requires
 column-at-requires c κs = search needs
@@ -19,7 +20,7 @@ same-length c = search needs
 
 returns : tie.Need-returns
 returns c = let a = c .before .before .before .before .before .before .before .before .args in
-    c .before .before .detail-cells .ensures ∙ detail-line (a .layout) (record { bytes = a .plane .now; stride = a .stride }) (a .y) _ (a .s .now) (c .before .before .before .before .before .column-at .ensures .is)
+    c .before .before .detail-cells .ensures ∙ detail-line (a .layout) (planeOf (a .plane .now) (a .stride)) (a .y) _ (a .s .now) (c .before .before .before .before .before .column-at .ensures .is)
 
 pub detail-row-spec : {M : Type 1} → statement M
 detail-row-spec =

@@ -5,6 +5,7 @@ use Rattle.image.specs.Picture.{Planes}
 use Rattle.guided_pixels.proofs.RowSteps.{row-cb, row-both}
 use Rattle.guided_pixels.proofs.row.guided_row.Statement.{statement}
 use Rattle.guided_pixels.proofs.row.guided_row.Tie as tie
+use Rattle.image.specs.Samples.{planeOf}
 
 down-column-requires : tie.Need-down-column-requires
 down-column-requires c κs = search needs
@@ -21,7 +22,7 @@ same-length c = search needs
 returns : tie.Need-returns
 returns c cb cr =
     let a = c .before .before .before .before .before .before .before .before .before .before .before .before .before .before .before .args in
-    let ps : Planes = record { y = record { bytes = a .y .now; stride = a .y-stride }; cb = cb; cr = cr } in
+    let ps : Planes = record { y = planeOf (a .y .now) (a .y-stride); cb = cb; cr = cr } in
     rw (not-true (a .both) (c .if1 .taken)) (row-cb (a .layout) ps (a .row) (omega arith) (a .s .now) _ _ _ (c .before .before .before .before .before .before .before .before .before .before .before .down-column .ensures) (c .before .before .before .before .before .before .before .detail-row .ensures) (c .before .before .before .component .ensures))
 
 component-requires-2 : tie.Need-component-requires-2
@@ -33,7 +34,7 @@ same-length-2 c = search needs
 returns-2 : tie.Need-returns-2
 returns-2 c cb cr =
     let a = c .before .before .before .before .before .before .before .before .before .before .before .before .before .before .before .before .before .before .before .args in
-    let ps : Planes = record { y = record { bytes = a .y .now; stride = a .y-stride }; cb = cb; cr = cr } in
+    let ps : Planes = record { y = planeOf (a .y .now) (a .y-stride); cb = cb; cr = cr } in
     rw (not-false (a .both) (c .before .before .before .before .if1 .left))
     (row-both (a .layout) ps (a .row) (omega arith) (a .s .now) _ _ _ (c .before .before .before .before .before .before .before .before .before .before .before .before .before .before .before .down-column .ensures) (c .before .before .before .before .before .before .before .before .before .before .before .detail-row .ensures) (c .before .before .before .before .before .before .before .component .ensures) _ (c .before .before .component2 .ensures))
 

@@ -8,6 +8,7 @@ use lib.ListN.{length}
 use borrow.Author.Needs.{needs}
 use Rattle.guided_plane.proofs.plane.guided_plane.Statement.{statement}
 use Rattle.guided_plane.proofs.plane.guided_plane.Tie as tie
+use Rattle.image.specs.Samples.{planeOf}
 
 passed : (c : tie.Else1) → c .before .before .plane-answer .result ≡ Accepted
 passed c = accepted-is (c .before .before .plane-answer .result) (not-false (accepted (c .before .before .plane-answer .result)) (sym (c .before .refused .ensures) ∙ c .if1 .left))
@@ -26,7 +27,7 @@ returns c =
 plane-rows-requires : tie.Need-plane-rows-requires
 plane-rows-requires c κs =
     let a = c .before .before .before .before .before .before .before .before .before .args in
-    ready (a .layout) (record { bytes = a .y .now; stride = a .y-stride }) (record { bytes = a .c .now; stride = a .c-stride }) (length (a .s .now)) (length (a .out .now)) (sym (c .before .before .before .before .plane-answer .ensures) ∙ passed (c .before .before))
+    ready (a .layout) (planeOf (a .y .now) (a .y-stride)) (planeOf (a .c .now) (a .c-stride)) (length (a .s .now)) (length (a .out .now)) (sym (c .before .before .before .before .plane-answer .ensures) ∙ passed (c .before .before))
 
 same-length : tie.Need-same-length
 same-length c = search needs

@@ -15,13 +15,14 @@ use Rattle.guided_plane.specs.Plane.{planesWith}
 use Rattle.guided_rows.proofs.GuidedRows.{length-step}
 use Rattle.guided_plane.proofs.plane.plane_row.Statement.{statement}
 use Rattle.guided_plane.proofs.plane.plane_row.Tie as tie
+use Rattle.image.specs.Samples.{planeOf}
 
 abbrev start : (c : tie.After-guided-step) → tie.Start
 start c = c .before .before .before .before .before .before
 
 -- the picture of luma and the one chroma plane
 abbrev picture : (c : tie.Start) → Picture
-picture c = pictureOf (c .args .layout) (planesWith (record { bytes = c .args .y .now; stride = c .args .y-stride }) (record { bytes = c .args .c .now; stride = c .args .c-stride }))
+picture c = pictureOf (c .args .layout) (planesWith (planeOf (c .args .y .now) (c .args .y-stride)) (planeOf (c .args .c .now) (c .args .c-stride)))
 
 -- the row fits the output
 inside : (c : tie.Start) → c .args .row * c .args .layout .w + c .args .layout .w ≤ length (c .args .out .now)

@@ -11,12 +11,13 @@ use Rattle.guided_rows.proofs.GuidedRows.{Advanced, advanced-none, advanced-mor
 use Rattle.guided_plane.proofs.PlaneRows.{stored-is}
 use Rattle.guided_plane.proofs.plane.plane_rows.Statement.{statement}
 use Rattle.guided_plane.proofs.plane.plane_rows.Tie as tie
+use Rattle.image.specs.Samples.{planeOf}
 
 abbrev Inv-loop : tie.InvT-loop
 Inv-loop layout y y-stride c c-stride s₀ out₀ h row₀ s out row =
     (row ≤ layout .h)
-    × Rows out₀ out (layout .w) row (λ n x. roundClamped (layout .maxval) (guidedSample (pictureOf layout (planesWith (record { bytes = y; stride = y-stride }) (record { bytes = c; stride = c-stride }))) Cb n x))
-    × Advanced (pictureOf layout (planesWith (record { bytes = y; stride = y-stride }) (record { bytes = c; stride = c-stride }))) (Cb ∷ []) 0 row s₀ s
+    × Rows out₀ out (layout .w) row (λ n x. roundClamped (layout .maxval) (guidedSample (pictureOf layout (planesWith (planeOf y y-stride) (planeOf c c-stride))) Cb n x))
+    × Advanced (pictureOf layout (planesWith (planeOf y y-stride) (planeOf c c-stride))) (Cb ∷ []) 0 row s₀ s
 
 abbrev μ-loop : tie.MeasureT-loop
 μ-loop layout y y-stride c c-stride s₀ out₀ h row₀ s out row = layout .h - row
@@ -26,7 +27,7 @@ start c = c .before .before .before .before .before
 
 -- the picture of luma and the one chroma plane
 abbrev picture : (c : tie.Start Inv-loop μ-loop) → Picture
-picture c = pictureOf (c .args .layout) (planesWith (record { bytes = c .args .y .now; stride = c .args .y-stride }) (record { bytes = c .args .c .now; stride = c .args .c-stride }))
+picture c = pictureOf (c .args .layout) (planesWith (planeOf (c .args .y .now) (c .args .y-stride)) (planeOf (c .args .c .now) (c .args .c-stride)))
 
 loop-holds : tie.Need-loop-holds Inv-loop μ-loop
 loop-holds c = (omega arith, rows-none _ _ _, advanced-none _ _ _ _)

@@ -1,5 +1,5 @@
 use Rattle.guided.specs.Calls.{doneF}
-use Rattle.image.specs.Picture.{Planes, pictureOf}
+use Rattle.image.specs.Picture.{Planes, pictureOf, planesOf}
 use Rattle.guided_window.specs.Lent.{components}
 use Rattle.guided.specs.Scratch.{fsteps, rowSteps}
 use Rattle.guided_pixels.specs.Row.{windowRow}
@@ -43,7 +43,7 @@ unfolding rowSteps
 returns c =
     let d = c .before .before .before .before .before .before .before .before in
     let a = start d .args in
-    let ps : Planes = record { y = record { bytes = a .y .now; stride = a .y-stride }; cb = record { bytes = a .cb .now; stride = a .cb-stride }; cr = record { bytes = a .cr .now; stride = a .cr-stride } } in
+    let ps : Planes = planesOf (a .y .now) (a .cb .now) (a .cr .now) (a .strides) in
     let p = pictureOf (a .layout) ps in
     let ks = components (a .both) in
     c .before .before .guided-row .ensures (ps .cb) (ps .cr)

@@ -1,5 +1,5 @@
 use Rattle.image.proofs.Planes.{short-holds, sample-inside}
-use Rattle.image.specs.Samples.{sampleAt}
+use Rattle.image.specs.Samples.{sampleAt, planeOf}
 use Prim.Native.Nat.{_+_, _*_, _≤_}
 use native.Mathlib.Omega.{arith}
 use lib.ListN.{length}
@@ -8,7 +8,7 @@ use Rattle.guided_window.proofs.samples.whole_at.Tie as tie
 
 -- the sample lies within the plane
 inside : (c : tie.Start) → c .args .y * c .args .stride + c .args .x * c .args .layout .«sample_bytes» + c .args .layout .«sample_bytes» ≤ length (c .args .plane .now)
-inside c = let a = c .args in sample-inside (short-holds (a .layout) (a .w) (a .h) (record { bytes = a .plane .now; stride = a .stride }) (c .pre .1)) (a .x) (a .y) (omega arith) (omega arith)
+inside c = let a = c .args in sample-inside (short-holds (a .layout) (a .w) (a .h) (planeOf (a .plane .now) (a .stride)) (c .pre .1)) (a .x) (a .y) (omega arith) (omega arith)
 
 mul-sample : tie.Need-mul-sample
 mul-sample c = let h = inside (c .before) in omega arith

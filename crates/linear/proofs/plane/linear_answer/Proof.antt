@@ -17,12 +17,13 @@ use native.Mathlib.Omega.{arith}
 use borrow.Author.Needs.{needs}
 use Rattle.linear.proofs.plane.linear_answer.Statement.{statement}
 use Rattle.linear.proofs.plane.linear_answer.Tie as tie
+use Rattle.image.specs.Samples.{planeOf}
 
 -- what is tested after the layout
 abbrev rest : (c : tie.Start) → List Test
 rest c =
     let l = c .args .layout in
-    (shortPlane l (l .cw) (l .ch) (record { bytes = c .args .plane .now; stride = c .args .stride }), 7) ∷ (ltb (c .args .space) (scratchNeed l), 9) ∷ (ltb (c .args .room) (l .w * l .h), 10) ∷ []
+    (shortPlane l (l .cw) (l .ch) (planeOf (c .args .plane .now) (c .args .stride)), 7) ∷ (ltb (c .args .space) (scratchNeed l), 9) ∷ (ltb (c .args .room) (l .w * l .h), 10) ∷ []
 
 passed : (c : tie.Else1) → accepted (first (layoutTests false (c .before .before .before .before .args .layout))) ≡ true
 passed c = sym (ap accepted (c .before .before .answer .ensures)) ∙ not-false (accepted (c .before .before .answer .result)) (sym (c .before .refused .ensures) ∙ c .if1 .left)
@@ -32,11 +33,11 @@ sound c = sound-answer false (c .before .before .before .before .args .layout) (
 
 -- so that the rest answers
 later : (c : tie.Else1) (a : Answer) → first (rest (c .before .before .before .before)) ≡ a
-    → a ≡ first (linearTests (c .before .before .before .before .args .layout) (record { bytes = c .before .before .before .before .args .plane .now; stride = c .before .before .before .before .args .stride }) (c .before .before .before .before .args .space) (c .before .before .before .before .args .room))
+    → a ≡ first (linearTests (c .before .before .before .before .args .layout) (planeOf (c .before .before .before .before .args .plane .now) (c .before .before .before .before .args .stride)) (c .before .before .before .before .args .space) (c .before .before .before .before .args .room))
 unfolding linearTests
 later c a e = sym (passed-early (layoutTests false (c .before .before .before .before .args .layout)) (rest (c .before .before .before .before)) (passed c) ∙ e)
 
-plane-passed : (c : tie.Else2) → (let s = c .before .before .before .before .before .before in shortPlane (s .args .layout) (s .args .layout .cw) (s .args .layout .ch) (record { bytes = s .args .plane .now; stride = s .args .stride }) ≡ false)
+plane-passed : (c : tie.Else2) → (let s = c .before .before .before .before .before .before in shortPlane (s .args .layout) (s .args .layout .cw) (s .args .layout .ch) (planeOf (s .args .plane .now) (s .args .stride)) ≡ false)
 unfolding shortPlane
 plane-passed c = sym (c .before .bad-plane .ensures) ∙ c .if2 .left
 

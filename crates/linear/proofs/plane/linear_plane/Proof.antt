@@ -8,6 +8,7 @@ use lib.ListN.{length}
 use borrow.Author.Needs.{needs}
 use Rattle.linear.proofs.plane.linear_plane.Statement.{statement}
 use Rattle.linear.proofs.plane.linear_plane.Tie as tie
+use Rattle.image.specs.Samples.{planeOf}
 
 passed : (c : tie.Else1) → c .before .before .linear-answer .result ≡ Accepted
 passed c = accepted-is (c .before .before .linear-answer .result) (not-false (accepted (c .before .before .linear-answer .result)) (sym (c .before .refused .ensures) ∙ c .if1 .left))
@@ -26,7 +27,7 @@ returns c =
 linear-rows-requires : tie.Need-linear-rows-requires
 linear-rows-requires c κs =
     let a = c .before .before .before .before .before .before .before .before .args in
-    ready (a .layout) (record { bytes = a .plane .now; stride = a .stride }) (length (a .s .now)) (length (a .out .now)) (sym (c .before .before .before .before .linear-answer .ensures) ∙ passed (c .before .before))
+    ready (a .layout) (planeOf (a .plane .now) (a .stride)) (length (a .s .now)) (length (a .out .now)) (sym (c .before .before .before .before .linear-answer .ensures) ∙ passed (c .before .before))
 
 same-length : tie.Need-same-length
 same-length c = search needs

@@ -1,6 +1,6 @@
 use mathlib.Core.Path.{ap, _∙_}
 use Prim.Native.Nat.{_+_, _*_, _≤_}
-use Rattle.image.specs.Samples.{Plane}
+use Rattle.image.specs.Samples.{Plane, planeOf}
 use Rattle.image.proofs.Planes.{short-holds, row-inside}
 use Rattle.linear.specs.Linear.{columnAt}
 use Rattle.image.specs.Scratch.{scratchNeed}
@@ -18,7 +18,7 @@ rows : (c : tie.After-tap-at) → (c .tap-at .result .i0 * c .before .before .be
 rows c =
     let s = c .before .before .before in
     let l = s .args .layout in
-    let o = short-holds l (l .cw) (l .ch) (record { bytes = s .args .plane .now; stride = s .args .stride }) (s .pre .0 .plane) in
+    let o = short-holds l (l .cw) (l .ch) (planeOf (s .args .plane .now) (s .args .stride)) (s .pre .0 .plane) in
     (row-inside o (c .tap-at .result .i0) (c .tap-at .ensures .i0-inside), row-inside o (c .tap-at .result .i1) (c .tap-at .ensures .i1-inside))
 
 -- the two finished rows and the column buffer fit

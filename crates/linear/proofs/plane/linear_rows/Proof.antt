@@ -4,7 +4,7 @@ use lib.Ieee.{Float}
 use mathlib.Core.List.{List}
 use native.Mathlib.Nat.{mul-comm}
 use Rattle.laws.proofs.Lists.{Rows, rows-none, rows-more, rows-end}
-use Rattle.image.specs.Samples.{Plane, sampleAt}
+use Rattle.image.specs.Samples.{Plane, sampleAt, planeOf}
 use Rattle.fround.specs.Rounding.{roundClamped}
 use Rattle.linear.specs.Linear.{linearSample, linearPlane, Ready}
 use Rattle.image.specs.Scratch.{scratchNeed}
@@ -19,14 +19,14 @@ use Rattle.linear.proofs.plane.linear_rows.Tie as tie
 abbrev Inv-loop : tie.InvT-loop
 Inv-loop layout plane stride s₀ out₀ w h y₀ s out y =
     (y ≤ layout .h)
-    × Rows out₀ out (layout .w) y (λ y x. roundClamped (layout .maxval) (linearSample layout (sampleAt (layout .«sample_bytes») (record { bytes = plane; stride = stride })) y x))
-    × Scratched layout (record { bytes = plane; stride = stride }) y s₀ s
+    × Rows out₀ out (layout .w) y (λ y x. roundClamped (layout .maxval) (linearSample layout (sampleAt (layout .«sample_bytes») (planeOf plane stride)) y x))
+    × Scratched layout (planeOf plane stride) y s₀ s
 
 abbrev μ-loop : tie.MeasureT-loop
 μ-loop layout plane stride s₀ out₀ w h y₀ s out y = layout .h - y
 
 -- the callees' premise, at scratch as it is by then
-ready : (c : tie.At-loop Inv-loop μ-loop) → Ready (c .before .before .before .before .args .layout) (record { bytes = c .before .before .before .before .args .plane .now; stride = c .before .before .before .before .args .stride }) (length (c .loop .s))
+ready : (c : tie.At-loop Inv-loop μ-loop) → Ready (c .before .before .before .before .args .layout) (planeOf (c .before .before .before .before .args .plane .now) (c .before .before .before .before .args .stride)) (length (c .loop .s))
 ready c = let r = c .before .before .before .before .pre .0 in record { sound = r .sound; plane = r .plane; scratch = rw (c .loop .inv .2 .len) (r .scratch) }
 
 -- a finished row fits scratch

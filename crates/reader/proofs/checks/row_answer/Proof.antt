@@ -5,7 +5,7 @@ use lib.ListN.{length}
 use borrow.Author.Tests.{lt-ltb, le-ltb, le-leb, lt-leb}
 use borrow.Author.Needs.{needs}
 use Rattle.laws.specs.Refusals.{first}
-use Rattle.image.specs.Picture.{badPlanes}
+use Rattle.image.specs.Picture.{badPlanes, planesOf}
 use Rattle.image.specs.Scratch.{scratchNeed}
 use Rattle.guided.specs.Calls.{RowCall, layoutOf, badState, rowTests}
 use Rattle.guided.proofs.Acceptance.{fine}
@@ -18,11 +18,7 @@ call c =
     let a = c .before .before .before .before .before .before .before .args in
     record {
       y = a .row;
-      planes = record {
-        y = record { bytes = a .y .now; stride = a .y-stride };
-        cb = record { bytes = a .cb .now; stride = a .cb-stride };
-        cr = record { bytes = a .cr .now; stride = a .cr-stride };
-      };
+      planes = planesOf (a .y .now) (a .cb .now) (a .cr .now) (a .strides);
       reader = a .reader;
       scratch = a .s .now;
       outCb = a .out-cb .now;

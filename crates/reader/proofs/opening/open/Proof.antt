@@ -9,7 +9,7 @@ use Rattle.laws.specs.declared.answers.Answer.{Answer}
 use Rattle.laws.specs.Refusals.{Test, first, accepted}
 use Rattle.laws.proofs.Refusals.{refused-early, passed-early}
 use Rattle.image.specs.Tests.{layoutTests, Sound}
-use Rattle.image.specs.Picture.{Cb, Cr, badPlanes}
+use Rattle.image.specs.Picture.{Cb, Cr, badPlanes, planesOf}
 use Rattle.image.proofs.Layouts.{sound-answer}
 use Rattle.image.specs.Scratch.{scratchNeed}
 use Rattle.guided.specs.Calls.{OpenCall, openTests, Bytes}
@@ -22,11 +22,7 @@ call c =
     let a = c .args in
     record {
       layout = a .layout;
-      planes = record {
-        y = record { bytes = a .y .now; stride = a .y-stride };
-        cb = record { bytes = a .cb .now; stride = a .cb-stride };
-        cr = record { bytes = a .cr .now; stride = a .cr-stride };
-      };
+      planes = planesOf (a .y .now) (a .cb .now) (a .cr .now) (a .strides);
       scratch = a .s .now;
       reader = a .reader;
     }

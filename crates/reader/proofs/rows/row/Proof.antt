@@ -8,7 +8,7 @@ use borrow.Author.Needs.{needs}
 use Rattle.laws.specs.Refusals.{accepted}
 use Rattle.laws.proofs.Refusals.{accepted-failed, accepted-is}
 use Rattle.image.specs.declared.layout.Layout.{Layout}
-use Rattle.image.specs.Picture.{badPlanes}
+use Rattle.image.specs.Picture.{badPlanes, planesOf}
 use Rattle.image.proofs.Layouts.{neither}
 use Rattle.guided.specs.Scratch.{finishedAt}
 use Rattle.guided.specs.Calls.{RowCall, layoutOf, rowTests, rowScratch, rowOut}
@@ -25,11 +25,7 @@ call c =
     let a = c .before .before .before .before .before .before .before .before .before .before .args in
     record {
       y = a .row;
-      planes = record {
-        y = record { bytes = a .y .now; stride = a .y-stride };
-        cb = record { bytes = a .cb .now; stride = a .cb-stride };
-        cr = record { bytes = a .cr .now; stride = a .cr-stride };
-      };
+      planes = planesOf (a .y .now) (a .cb .now) (a .cr .now) (a .strides);
       reader = a .reader;
       scratch = a .s .now;
       outCb = a .out-cb .now;
@@ -57,11 +53,11 @@ lent c =
 abbrev calm : (c : tie.After-row-steps) → tie.Else1
 calm c = c .before .before .before
 
-made : (c : tie.After-row-steps) → c .row-steps .last .1 .1 .1 .1 .1 .1 .1 .1 .1 .1 .1 .0 ≡ rowScratch (call (calm c .before .before))
+made : (c : tie.After-row-steps) → c .row-steps .last .1 .1 .1 .1 .1 .1 .1 .1 .1 .0 ≡ rowScratch (call (calm c .before .before))
 unfolding rowScratch
 made c = rw (sym (c .before .before .layout-of .ensures)) (c .row-steps .ensures)
 
-made-room : (c : tie.After-row-steps) → 3 * layoutOf (call (calm c .before .before) .reader) .w ≤ length (c .row-steps .last .1 .1 .1 .1 .1 .1 .1 .1 .1 .1 .1 .0)
+made-room : (c : tie.After-row-steps) → 3 * layoutOf (call (calm c .before .before) .reader) .w ≤ length (c .row-steps .last .1 .1 .1 .1 .1 .1 .1 .1 .1 .0)
 unfolding rowScratch
 made-room c =
     let k = call (calm c .before .before) in

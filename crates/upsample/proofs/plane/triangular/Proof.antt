@@ -1,14 +1,14 @@
 use Prim.Native.Nat.{_-_, _≤_}
 use native.Mathlib.Omega.{arith}
 use Rattle.laws.proofs.Lists.{Rows, rows-none, rows-more, rows-end}
-use Rattle.image.specs.Samples.{sampleAt}
+use Rattle.image.specs.Samples.{sampleAt, planeOf}
 use Rattle.upsample.specs.Triangular.{triangularSample, triangularPlane}
 use Rattle.upsample.proofs.plane.triangular.Statement.{statement}
 use Rattle.upsample.proofs.plane.triangular.Tie as tie
 
 abbrev Inv-loop : tie.InvT-loop
 Inv-loop layout plane stride out₀ y₀ out y =
-    (y ≤ layout .h) × Rows out₀ out (layout .w) y (triangularSample layout (sampleAt (layout .«sample_bytes») (record { bytes = plane; stride = stride })))
+    (y ≤ layout .h) × Rows out₀ out (layout .w) y (triangularSample layout (sampleAt (layout .«sample_bytes») (planeOf plane stride)))
 
 abbrev μ-loop : tie.MeasureT-loop
 μ-loop layout plane stride out₀ y₀ out y = layout .h - y

@@ -10,9 +10,10 @@ use Rattle.upsample.proofs.Ratios.{across-is, down-is, both-is}
 use Rattle.upsample.proofs.plane.triangular_row.Statement.{statement}
 use Rattle.upsample.specs.Weights.{far}
 use Rattle.upsample.proofs.plane.triangular_row.Tie as tie
+use Rattle.image.specs.Samples.{planeOf}
 
 handed : (c : tie.Start) → Taken (c .args .layout) (c .args .stride) (length (c .args .plane .now)) (length (c .args .out .now))
-handed c = taken (c .args .layout) (record { bytes = c .args .plane .now; stride = c .args .stride }) (length (c .args .out .now)) (c .pre .0)
+handed c = taken (c .args .layout) (planeOf (c .args .plane .now) (c .args .stride)) (length (c .args .out .now)) (c .pre .0)
 
 -- ratio (2, 1): the row of cells
 across-cells : (c : tie.Then1) → let s = c .before .before .before .before in RowInside (s .args .layout .«sample_bytes») (s .args .layout .cw) (s .args .y * s .args .stride) (length (s .args .plane .now))
@@ -40,7 +41,7 @@ same-length c = search needs
 returns : tie.Need-returns
 returns c =
     let s = c .before .before .before .before .before .before .before .before in
-    c .before .before .across-row .ensures ∙ put-same _ _ _ _ _ (λ x h. across-is (s .args .layout) (record { bytes = s .args .plane .now; stride = s .args .stride }) (s .args .y) (c .before .before .before .before .if1 .taken) x)
+    c .before .before .across-row .ensures ∙ put-same _ _ _ _ _ (λ x h. across-is (s .args .layout) (planeOf (s .args .plane .now) (s .args .stride)) (s .args .y) (c .before .before .before .before .if1 .taken) x)
 
 mul-near : tie.Need-mul-near
 mul-near c = let s = c .before .before .before .before in omega (arith, cell-row (handed s) (s .args .y / 2) (near-inside c) .ends)
@@ -69,7 +70,7 @@ returns-2 : tie.Need-returns-2
 returns-2 c =
     let s = c .before .before .before .before .before .before .before .before .before .before .before .before in
     c .before .before .down-row .ensures
-    ∙ put-same _ _ _ _ _ (λ x h. down-is (s .args .layout) (record { bytes = s .args .plane .now; stride = s .args .stride }) (s .args .y) (c .before .before .before .before .before .before .before .before .if1 .left) (c .before .before .before .before .before .if2 .taken) _ _ (c .before .before .before .before .before .before .before .far .ensures .0) (c .before .before .before .before .one-axis-bias .ensures .0) x)
+    ∙ put-same _ _ _ _ _ (λ x h. down-is (s .args .layout) (planeOf (s .args .plane .now) (s .args .stride)) (s .args .y) (c .before .before .before .before .before .before .before .before .if1 .left) (c .before .before .before .before .before .if2 .taken) _ _ (c .before .before .before .before .before .before .before .far .ensures .0) (c .before .before .before .before .one-axis-bias .ensures .0) x)
 
 both-row-requires : tie.Need-both-row-requires
 both-row-requires c κs =
@@ -86,7 +87,7 @@ returns-3 : tie.Need-returns-3
 returns-3 c =
     let s = c .before .before .before .before .before .before .before .before .before .before .before in
     c .before .before .both-row .ensures
-    ∙ put-same _ _ _ _ _ (λ x h. both-is (s .args .layout) (record { bytes = s .args .plane .now; stride = s .args .stride }) (s .args .y) (c .before .before .before .before .before .before .before .if1 .left) (c .before .before .before .before .if2 .left) _ (c .before .before .before .before .before .before .far .ensures .0) x)
+    ∙ put-same _ _ _ _ _ (λ x h. both-is (s .args .layout) (planeOf (s .args .plane .now) (s .args .stride)) (s .args .y) (c .before .before .before .before .before .before .before .if1 .left) (c .before .before .before .before .if2 .left) _ (c .before .before .before .before .before .before .far .ensures .0) x)
 
 pub triangular-row-spec : {M : Type 1} → statement M
 triangular-row-spec =
