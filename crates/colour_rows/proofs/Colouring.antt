@@ -37,7 +37,7 @@ module _ (y : ℕ) (b r : Float) {cb cr : ℕ} where
   fixed-by d p q = rw (p, q) refl
 
 -- in a row: luma of the plane, Cb from the row at the front of scratch and Cr from the one at w
-module _ (kernel : YcbcrKernel) (l : Layout) (p : Plane) (row : ℕ) (s : List Float) (x : ℕ) {y : ℕ} (e : y ≡ sampleAt (l .«sample_bytes») p x row) where
+module _ (kernel : YcbcrKernel) (l : Layout) (p : Plane) (row : ℕ) (s : List Float) (x : ℕ) {y : ℕ} (e : y ≡ sampleAt (l .«sample_bytes») p row x) where
   pub in-row : {d : ℕ} → l .maxval ≡ d → colourBy kernel d y (cellAt s 0 x) (cellAt s (l .w) x) ≡ rowColour kernel l p row s x
   unfolding rowColour
   in-row m = rw (e, ← m) refl

@@ -35,7 +35,7 @@ colourBy FixedPoint16 d y cb cr = fixed255 y (wholeChroma cb) (wholeChroma cr)
 -- ---- one row, from luma's plane and the finished rows of chroma that lie in scratch, Cb's at 0 and Cr's at w
 
 unfoldable pub rowColour : YcbcrKernel → Layout → Plane → ℕ → List Float → ℕ → Colour
-rowColour kernel l p y s x = colourBy kernel (l .maxval) (sampleAt (l .«sample_bytes») p x y) (cellAt s 0 x) (cellAt s (l .w) x)
+rowColour kernel l p y s x = colourBy kernel (l .maxval) (sampleAt (l .«sample_bytes») p y x) (cellAt s 0 x) (cellAt s (l .w) x)
 
 -- its w pixels, `size` bytes each, stored from `at` on
 unfoldable pub colourRow : YcbcrKernel → Layout → Plane → ℕ → List Float → ℕ → ℕ → List ℕ → List ℕ

@@ -21,7 +21,7 @@ fn wide(x: u16) -> u32
 // Inner: luma of column x of a row.
 pub fn luma_at(layout: Layout, plane: &[u8], stride: usize, row: usize, x: usize) -> u32
     requires { ⌜ LumaRow layout (planeOf (now plane) stride) row × (x < layout .w) ⌝ }
-    ensures { λ r. ⌜ (r ≡ sampleAt (layout .«sample_bytes») (planeOf (now (plane .entry)) stride) x row) × (r ≤ 65535) ⌝ }
+    ensures { λ r. ⌜ (r ≡ sampleAt (layout .«sample_bytes») (planeOf (now (plane .entry)) stride) row x) × (r ≤ 65535) ⌝ }
 {
     let bytes = layout.sample_bytes;
     wide(image::sample(plane, bytes, row * stride + x * bytes))
@@ -74,7 +74,7 @@ pub fn luma16(
     x: usize,
 ) -> [u16; Block::LEN]
     requires { ⌜ LumaRow layout (planeOf (now plane) stride) row × (x + 16 ≤ layout .w) ⌝ }
-    ensures { λ r. ⌜ Sixteen r (λ k. sampleAt (layout .«sample_bytes») (planeOf (now (plane .entry)) stride) (x + k) row) ⌝ }
+    ensures { λ r. ⌜ Sixteen r (λ k. sampleAt (layout .«sample_bytes») (planeOf (now (plane .entry)) stride) row (x + k)) ⌝ }
 {
     if layout.sample_bytes == 1 {
         return bytes16(plane, row * stride + x);

@@ -29,7 +29,7 @@ use Rattle.fill.specs.Steps.{fillStep}
 
 -- ---- linear: a sample's cells lie inside the plane, so that the picture gives the same as the plane
 
-module _ (l : Layout) (o : Sound l) (c d : ℕ → ℕ → ℕ) (E : (i j : ℕ) → i < l .cw → j < l .ch → c i j ≡ d i j) where
+module _ (l : Layout) (o : Sound l) (c d : ℕ → ℕ → ℕ) (E : (i j : ℕ) → i < l .cw → j < l .ch → c j i ≡ d j i) where
   down-same : (y i : ℕ) → y < l .h → i < l .cw → linearDown l c y i ≡ linearDown l d y i
   unfolding linearDown
   down-same y i Y I =

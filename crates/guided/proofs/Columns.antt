@@ -90,7 +90,7 @@ module _ (p : Picture) (y : ℕ) where
 
     -- the detail is held, and component k's finished row
     abbrev pub Detailed : List Float → Type 0
-    Detailed xs = (x : ℕ) → x < p .layout .w → cellAt xs (detailAt (p .layout)) x ≡ detailOf (p .layout) (downTo (p .layout) (acrossVal p Luma) y) (f32 (p .luma x y)) x
+    Detailed xs = (x : ℕ) → x < p .layout .w → cellAt xs (detailAt (p .layout)) x ≡ detailOf (p .layout) (downTo (p .layout) (acrossVal p Luma) y) (f32 (p .luma y x)) x
 
     abbrev pub Done : Chroma → List Float → Type 0
     Done k xs = (x : ℕ) → x < p .layout .w → cellAt xs (finishedAt (p .layout) k) x ≡ guidedSample p k y x
@@ -118,8 +118,8 @@ module _ (p : Picture) (y : ℕ) where
     detail-made xs w x X =
         let l = p .layout in
         let ys = lumaColumn p y xs in
-        put-inside ys (detailAt l) (l .w) (λ x. detailOf l (cellAt ys (columnAt l 0)) (f32 (p .luma x y)) x) x nan X (omega (arith, detail-place l .1, front-fits l, w .room, length-luma xs))
-        ∙ detail-cong l s x X (cellAt ys (columnAt l 0)) (downTo l (acrossVal p Luma) y) (f32 (p .luma x y)) (f32 (p .luma x y)) (λ i b. luma-read xs w i (b .2)) refl
+        put-inside ys (detailAt l) (l .w) (λ x. detailOf l (cellAt ys (columnAt l 0)) (f32 (p .luma y x)) x) x nan X (omega (arith, detail-place l .1, front-fits l, w .room, length-luma xs))
+        ∙ detail-cong l s x X (cellAt ys (columnAt l 0)) (downTo l (acrossVal p Luma) y) (f32 (p .luma y x)) (f32 (p .luma y x)) (λ i b. luma-read xs w i (b .2)) refl
 
     -- and make a stage
     pub staged : (xs : List Float) → AtRow xs → Stage (detailRow p y (lumaColumn p y xs))

@@ -25,12 +25,12 @@ use Rattle.guided.proofs.Extremes.{guided-within, within-number}
 use Rattle.guided.proofs.Runs.{Ok, Good, Gave, gave, after, after-ok}
 
 -- a chroma sample of a picture is at most 65,535
-picture-small : (o : OpenCall) → Bytes o → (k : Chroma) (i j : ℕ) → pictureBy o .chroma k i j ≤ 65535
+picture-small : (o : OpenCall) → Bytes o → (k : Chroma) (j i : ℕ) → pictureBy o .chroma k j i ≤ 65535
 unfolding Bytes pictureOf inside sampleAt
-picture-small o b k i j =
+picture-small o b k j i =
     let l = o .layout in
     let q = chromaPlane (o .planes) k in
-    go (ltb i (l .cw) && ltb j (l .ch)) (sampleOf (l .«sample_bytes») (q .bytes) (place (l .«sample_bytes») (q .stride) i j)) (sample-small (l .«sample_bytes») (q .bytes) (place (l .«sample_bytes») (q .stride) i j) (b k))
+    go (ltb i (l .cw) && ltb j (l .ch)) (sampleOf (l .«sample_bytes») (q .bytes) (place (l .«sample_bytes») (q .stride) j i)) (sample-small (l .«sample_bytes») (q .bytes) (place (l .«sample_bytes») (q .stride) j i) (b k))
   where
     go : (t : Bool) (v : ℕ) → v ≤ 65535 → cond t v 0 ≤ 65535
     go true v h = h
@@ -44,18 +44,18 @@ module _ (o : OpenCall) (e : RowEvent) (es : List Event) (run : Run o e es) wher
   unfolding guidedRow pictureOf
   sample-is k x X = ap (λ (l : List Float). getD l x (f32 0)) (fact .is k) ∙ table-at (o .layout .w) (guidedSample (pictureBy o) k (e .call .y)) x (f32 0) X
 
-  sample-within : (k : Chroma) (x : ℕ) → x < o .layout .w → Within (pictureBy o) k (x / o .layout .rh) (e .call .y / o .layout .rv) (getD (given o e k) x (f32 0))
+  sample-within : (k : Chroma) (x : ℕ) → x < o .layout .w → Within (pictureBy o) k (e .call .y / o .layout .rv) (x / o .layout .rh) (getD (given o e k) x (f32 0))
   unfolding pictureOf
   sample-within k x X =
-      subst (λ (v : Float). Within (pictureBy o) k (x / o .layout .rh) (e .call .y / o .layout .rv) v) (sym (sample-is k x X))
+      subst (λ (v : Float). Within (pictureBy o) k (e .call .y / o .layout .rv) (x / o .layout .rh) v) (sym (sample-is k x X))
       (guided-within (pictureBy o) k (e .call .y) x (picture-small o (fact .bytes) k))
 
-  sample-local : (u : OpenCall) (k : Chroma) (x : ℕ) → x < o .layout .w → AlikeNear (pictureBy o) (pictureBy u) (x / o .layout .rh) (e .call .y / o .layout .rv)
+  sample-local : (u : OpenCall) (k : Chroma) (x : ℕ) → x < o .layout .w → AlikeNear (pictureBy o) (pictureBy u) (e .call .y / o .layout .rv) (x / o .layout .rh)
       → guidedSample (pictureBy o) k (e .call .y) x ≡ guidedSample (pictureBy u) k (e .call .y) x
   unfolding pictureOf
   sample-local u k x X a = guided-local (pictureBy o) (pictureBy u) k (e .call .y) x (fact .sound) X (fact .inside) a
 
-same-width : (o u : OpenCall) (i j : ℕ) → AlikeNear (pictureBy o) (pictureBy u) i j → o .layout .w ≡ u .layout .w
+same-width : (o u : OpenCall) (i j : ℕ) → AlikeNear (pictureBy o) (pictureBy u) j i → o .layout .w ≡ u .layout .w
 unfolding pictureOf
 same-width o u i j a = ap (λ (l : Layout). l .w) (a .layout)
 

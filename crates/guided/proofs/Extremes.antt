@@ -75,45 +75,45 @@ module _ (fop : Float → Float → Float) (op : ℕ → ℕ → ℕ) (same : (x
   three-same n f g i s e =
       rw (e (i - 1), e i, e (min (i + 1) (n - 1)), same (f (i - 1)) (f i) (s (i - 1)) (s i)) (same (op (f (i - 1)) (f i)) (f (min (i + 1) (n - 1))) (stays _ _ (s (i - 1)) (s i)) (s (min (i + 1) (n - 1))))
 
-  extreme-same : (l : Layout) (c : ℕ → ℕ → ℕ) (j i : ℕ) → ((x y : ℕ) → c x y ≤ 65535) → extremeOf l fop c j i ≡ f32 (threeN op (l .ch) (λ r. threeN op (l .cw) (λ q. c q r) i) j)
+  extreme-same : (l : Layout) (c : ℕ → ℕ → ℕ) (j i : ℕ) → ((y x : ℕ) → c y x ≤ 65535) → extremeOf l fop c j i ≡ f32 (threeN op (l .ch) (λ r. threeN op (l .cw) (λ q. c r q) i) j)
   unfolding extremeOf
   extreme-same l c j i s =
-      three-same (l .ch) (λ r. threeN op (l .cw) (λ q. c q r) i) (λ r. three fop (l .cw) (λ q. f32 (c q r)) i) j
-      (λ r. three-small (l .cw) (λ q. c q r) i (λ q. s q r))
-      (λ r. three-same (l .cw) (λ q. c q r) (λ q. f32 (c q r)) i (λ q. s q r) (λ q. refl))
+      three-same (l .ch) (λ r. threeN op (l .cw) (λ q. c r q) i) (λ r. three fop (l .cw) (λ q. f32 (c r q)) i) j
+      (λ r. three-small (l .cw) (λ q. c r q) i (λ q. s r q))
+      (λ r. three-same (l .cw) (λ q. c r q) (λ q. f32 (c r q)) i (λ q. s r q) (λ q. refl))
 
 -- the least and the greatest of nine floats are those of nine numbers
-pub least-of : (l : Layout) (c : ℕ → ℕ → ℕ) (j i : ℕ) → ((x y : ℕ) → c x y ≤ 65535) → extremeOf l fmin c j i ≡ f32 (threeN min (l .ch) (λ r. threeN min (l .cw) (λ q. c q r) i) j)
+pub least-of : (l : Layout) (c : ℕ → ℕ → ℕ) (j i : ℕ) → ((y x : ℕ) → c y x ≤ 65535) → extremeOf l fmin c j i ≡ f32 (threeN min (l .ch) (λ r. threeN min (l .cw) (λ q. c r q) i) j)
 least-of = extreme-same fmin min fmin-whole (λ x y X Y. omega arith)
 
-pub greatest-of : (l : Layout) (c : ℕ → ℕ → ℕ) (j i : ℕ) → ((x y : ℕ) → c x y ≤ 65535) → extremeOf l fmax c j i ≡ f32 (threeN max (l .ch) (λ r. threeN max (l .cw) (λ q. c q r) i) j)
+pub greatest-of : (l : Layout) (c : ℕ → ℕ → ℕ) (j i : ℕ) → ((y x : ℕ) → c y x ≤ 65535) → extremeOf l fmax c j i ≡ f32 (threeN max (l .ch) (λ r. threeN max (l .cw) (λ q. c r q) i) j)
 greatest-of = extreme-same fmax max fmax-whole (λ x y X Y. omega arith)
 
-pub least-is : (p : Picture) (k : Chroma) (j i : ℕ) → ((x y : ℕ) → p .chroma k x y ≤ 65535) → extreme p fmin k j i ≡ f32 (nine min p k i j)
+pub least-is : (p : Picture) (k : Chroma) (j i : ℕ) → ((y x : ℕ) → p .chroma k y x ≤ 65535) → extreme p fmin k j i ≡ f32 (nine min p k j i)
 unfolding nine extreme
 least-is p k = least-of (p .layout) (p .chroma k)
 
-pub greatest-is : (p : Picture) (k : Chroma) (j i : ℕ) → ((x y : ℕ) → p .chroma k x y ≤ 65535) → extreme p fmax k j i ≡ f32 (nine max p k i j)
+pub greatest-is : (p : Picture) (k : Chroma) (j i : ℕ) → ((y x : ℕ) → p .chroma k y x ≤ 65535) → extreme p fmax k j i ≡ f32 (nine max p k j i)
 unfolding nine extreme
 greatest-is p k = greatest-of (p .layout) (p .chroma k)
 
-nine-ordered : (p : Picture) (k : Chroma) (i j : ℕ) → nine min p k i j ≤ nine max p k i j
+nine-ordered : (p : Picture) (k : Chroma) (i j : ℕ) → nine min p k j i ≤ nine max p k j i
 unfolding nine threeN
 nine-ordered p k i j = le-trans (le-trans (min-le-left _ _) (min-le-left _ _)) (le-trans (one (j - 1)) (le-trans (le-max-left _ _) (le-max-left _ _)))
   where
-    one : (r : ℕ) → threeN min (p .layout .cw) (λ q. p .chroma k q r) i ≤ threeN max (p .layout .cw) (λ q. p .chroma k q r) i
+    one : (r : ℕ) → threeN min (p .layout .cw) (λ q. p .chroma k r q) i ≤ threeN max (p .layout .cw) (λ q. p .chroma k r q) i
     one r = le-trans (le-trans (min-le-left _ _) (min-le-left _ _)) (le-trans (le-max-left _ _) (le-max-left _ _))
 
 -- each sample lies between the least and the greatest of the nine cells round its own
-pub guided-within : (p : Picture) (k : Chroma) (y x : ℕ) → ((i j : ℕ) → p .chroma k i j ≤ 65535) → Within p k (x / p .layout .rh) (y / p .layout .rv) (guidedSample p k y x)
+pub guided-within : (p : Picture) (k : Chroma) (y x : ℕ) → ((j i : ℕ) → p .chroma k j i ≤ 65535) → Within p k (y / p .layout .rv) (x / p .layout .rh) (guidedSample p k y x)
 unfolding guidedSample valueOf Within
 guided-within p k y x s =
     let i = x / p .layout .rh in
     let j = y / p .layout .rv in
-    rw (least-is p k j i s, greatest-is p k j i s) (between _ (f32 (nine min p k i j)) (f32 (nine max p k i j)) (whole-mono _ _ (nine-ordered p k i j)))
+    rw (least-is p k j i s, greatest-is p k j i s) (between _ (f32 (nine min p k j i)) (f32 (nine max p k j i)) (whole-mono _ _ (nine-ordered p k i j)))
 
 -- what lies there is no not-a-number
-pub within-number : (p : Picture) (k : Chroma) (i j : ℕ) (v : Float) → Within p k i j v → isNan v ≡ false
+pub within-number : (p : Picture) (k : Chroma) (i j : ℕ) (v : Float) → Within p k j i v → isNan v ≡ false
 unfolding Within isNan
 within-number p k i j nan h = absurd (not-nan-right _ nan (h .0) refl)
 within-number p k i j (inf s) h = refl

@@ -28,19 +28,19 @@ like p luma chroma = record { layout = p .layout; luma = luma; chroma = chroma }
 
 -- samples that agree with p's no more than two cells from cell (ci, cj)
 module _ (p : Picture) (luma : ℕ → ℕ → ℕ) (chroma : Chroma → ℕ → ℕ → ℕ) (ci cj : ℕ)
-    (eL : (x y : ℕ) → x < p .layout .w → y < p .layout .h → Near (x / p .layout .rh) ci → Near (y / p .layout .rv) cj → p .luma x y ≡ luma x y)
-    (eC : (k : Chroma) (x y : ℕ) → x < p .layout .cw → y < p .layout .ch → Near x ci → Near y cj → p .chroma k x y ≡ chroma k x y) where
-  luma-local : (i j : ℕ) → Near i ci → Near j cj → cellLuma p i j ≡ cellLuma (like p luma chroma) i j
+    (eL : (x y : ℕ) → x < p .layout .w → y < p .layout .h → Near (x / p .layout .rh) ci → Near (y / p .layout .rv) cj → p .luma y x ≡ luma y x)
+    (eC : (k : Chroma) (x y : ℕ) → x < p .layout .cw → y < p .layout .ch → Near x ci → Near y cj → p .chroma k y x ≡ chroma k y x) where
+  luma-local : (i j : ℕ) → Near i ci → Near j cj → cellLuma p j i ≡ cellLuma (like p luma chroma) j i
   unfolding cellLuma lumaOf
   luma-local i j I J =
       let l = p .layout in
       let nx = min (l .rh) (l .w - i * l .rh) in
       let ny = min (l .rv) (l .h - j * l .rv) in
-      rw (sum-cong ny (λ dy. sumTo nx (λ dx. p .luma (i * l .rh + dx) (j * l .rv + dy))) (λ dy. sumTo nx (λ dx. luma (i * l .rh + dx) (j * l .rv + dy)))
-      (λ dy Y. sum-cong nx (λ dx. p .luma (i * l .rh + dx) (j * l .rv + dy)) (λ dx. luma (i * l .rh + dx) (j * l .rv + dy))
+      rw (sum-cong ny (λ dy. sumTo nx (λ dx. p .luma (j * l .rv + dy) (i * l .rh + dx))) (λ dy. sumTo nx (λ dx. luma (j * l .rv + dy) (i * l .rh + dx)))
+      (λ dy Y. sum-cong nx (λ dx. p .luma (j * l .rv + dy) (i * l .rh + dx)) (λ dx. luma (j * l .rv + dy) (i * l .rh + dx))
       (λ dx X. eL (i * l .rh + dx) (j * l .rv + dy) (omega arith) (omega arith) (omega (arith, own (l .rh) i dx (omega arith))) (omega (arith, own (l .rv) j dy (omega arith)))))) refl
 
-  cell-local : (k : Chroma) (i j : ℕ) → i < p .layout .cw → j < p .layout .ch → Near i ci → Near j cj → cellOf p k i j ≡ cellOf (like p luma chroma) k i j
+  cell-local : (k : Chroma) (i j : ℕ) → i < p .layout .cw → j < p .layout .ch → Near i ci → Near j cj → cellOf p k j i ≡ cellOf (like p luma chroma) k j i
   unfolding cellOf
   cell-local k i j X Y I J = ap f32 (eC k i j X Y I J)
 
@@ -48,13 +48,13 @@ module _ (p : Picture) (luma : ℕ → ℕ → ℕ) (chroma : Chroma → ℕ →
   across-local : (q : Across) (j i : ℕ) → j < p .layout .ch → Beside (p .layout .cw) ci i → Near j cj → acrossVal p q j i ≡ acrossVal (like p luma chroma) q j i
   unfolding acrossVal
   across-local Luma j i Y b J = luma-local i j (omega arith) J
-  across-local LumaSum j i Y b J = three-cong _⊕_ (p .layout .cw) (λ q. cellLuma p q j) (λ q. cellLuma (like p luma chroma) q j) i (b .2) (λ q c. luma-local q j (omega arith) J)
+  across-local LumaSum j i Y b J = three-cong _⊕_ (p .layout .cw) (λ q. cellLuma p j q) (λ q. cellLuma (like p luma chroma) j q) i (b .2) (λ q c. luma-local q j (omega arith) J)
   across-local SquareSum j i Y b J =
-      three-cong _⊕_ (p .layout .cw) (λ q. cellLuma p q j ⊗ cellLuma p q j) (λ q. cellLuma (like p luma chroma) q j ⊗ cellLuma (like p luma chroma) q j) i (b .2) (λ q c. ap (λ (z : Float). z ⊗ z) (luma-local q j (omega arith) J))
+      three-cong _⊕_ (p .layout .cw) (λ q. cellLuma p j q ⊗ cellLuma p j q) (λ q. cellLuma (like p luma chroma) j q ⊗ cellLuma (like p luma chroma) j q) i (b .2) (λ q c. ap (λ (z : Float). z ⊗ z) (luma-local q j (omega arith) J))
   across-local (Cell k) j i Y b J = cell-local k i j (b .2) Y (omega arith) J
-  across-local (CellSum k) j i Y b J = three-cong _⊕_ (p .layout .cw) (λ q. cellOf p k q j) (λ q. cellOf (like p luma chroma) k q j) i (b .2) (λ q c. cell-local k q j (c .2) Y (omega arith) J)
+  across-local (CellSum k) j i Y b J = three-cong _⊕_ (p .layout .cw) (λ q. cellOf p k j q) (λ q. cellOf (like p luma chroma) k j q) i (b .2) (λ q c. cell-local k q j (c .2) Y (omega arith) J)
   across-local (ProductSum k) j i Y b J =
-      three-cong _⊕_ (p .layout .cw) (λ q. cellLuma p q j ⊗ cellOf p k q j) (λ q. cellLuma (like p luma chroma) q j ⊗ cellOf (like p luma chroma) k q j) i (b .2)
+      three-cong _⊕_ (p .layout .cw) (λ q. cellLuma p j q ⊗ cellOf p k j q) (λ q. cellLuma (like p luma chroma) j q ⊗ cellOf (like p luma chroma) k j q) i (b .2)
       (λ q c. ap₂ (λ (y z : Float). y ⊗ z) (luma-local q j (omega arith) J) (cell-local k q j (c .2) Y (omega arith) J))
 
   -- the slope at a cell beside the own cell
@@ -69,8 +69,8 @@ module _ (p : Picture) (luma : ℕ → ℕ → ℕ) (chroma : Chroma → ℕ →
   unfolding extreme extremeOf
   extreme-local op k X Y =
       let l = p .layout in
-      three-cong op (l .ch) (λ r. three op (l .cw) (λ q. f32 (p .chroma k q r)) ci) (λ r. three op (l .cw) (λ q. f32 (chroma k q r)) ci) cj Y
-      (λ r c. three-cong op (l .cw) (λ q. f32 (p .chroma k q r)) (λ q. f32 (chroma k q r)) ci X (λ q d. ap f32 (eC k q r (d .2) (c .2) (omega arith) (omega arith))))
+      three-cong op (l .ch) (λ r. three op (l .cw) (λ q. f32 (p .chroma k r q)) ci) (λ r. three op (l .cw) (λ q. f32 (chroma k r q)) ci) cj Y
+      (λ r c. three-cong op (l .cw) (λ q. f32 (p .chroma k r q)) (λ q. f32 (chroma k r q)) ci X (λ q d. ap f32 (eC k q r (d .2) (c .2) (omega arith) (omega arith))))
 
   sample-local : Sound (p .layout) → (k : Chroma) (y x : ℕ) → x < p .layout .w → y < p .layout .h → x / p .layout .rh ≡ ci → y / p .layout .rv ≡ cj → guidedSample p k y x ≡ guidedSample (like p luma chroma) k y x
   unfolding guidedSample
@@ -85,15 +85,15 @@ module _ (p : Picture) (luma : ℕ → ℕ → ℕ) (chroma : Chroma → ℕ →
       (λ i b. down-cong l s y Y (slope p k) (slope m k) i (λ j u v. slope-local k j i (omega arith) (omega (arith, t .near, t .above, t .below, t .inside))))
       (rw (ex, ey) (extreme-local fmin k (omega arith) (omega arith)))
       (rw (ex, ey) (extreme-local fmax k (omega arith) (omega arith)))
-      (detail-cong l s x X (downTo l (acrossVal p Luma) y) (downTo l (acrossVal m Luma) y) (f32 (p .luma x y)) (f32 (luma x y))
+      (detail-cong l s x X (downTo l (acrossVal p Luma) y) (downTo l (acrossVal m Luma) y) (f32 (p .luma y x)) (f32 (luma y x))
       (λ i b. down-cong l s y Y (acrossVal p Luma) (acrossVal m Luma) i (λ j u v. across-local Luma j i (omega (arith, t .inside)) (omega arith) (omega (arith, t .near, t .above, t .below))))
       (ap f32 (eL x y X Y (omega arith) (omega arith))))
 
-alike-is : (p q : Picture) (i j : ℕ) → AlikeNear p q i j → q ≡ like p (q .luma) (q .chroma)
+alike-is : (p q : Picture) (i j : ℕ) → AlikeNear p q j i → q ≡ like p (q .luma) (q .chroma)
 alike-is p q i j e = λ t. record { layout = sym (e .layout) t; luma = q .luma; chroma = q .chroma }
 
 -- pictures alike but for what is more than two cells away have the same sample there
-pub guided-local : (p q : Picture) (k : Chroma) (y x : ℕ) → Sound (p .layout) → x < p .layout .w → y < p .layout .h → AlikeNear p q (x / p .layout .rh) (y / p .layout .rv) → guidedSample p k y x ≡ guidedSample q k y x
+pub guided-local : (p q : Picture) (k : Chroma) (y x : ℕ) → Sound (p .layout) → x < p .layout .w → y < p .layout .h → AlikeNear p q (y / p .layout .rv) (x / p .layout .rh) → guidedSample p k y x ≡ guidedSample q k y x
 guided-local p q k y x s X Y e =
     sample-local p (q .luma) (q .chroma) (x / p .layout .rh) (y / p .layout .rv) (e .luma) (e .chroma) s k y x X Y refl refl
     ∙ ap (λ (z : Picture). guidedSample z k y x) (sym (alike-is p q (x / p .layout .rh) (y / p .layout .rv) e))

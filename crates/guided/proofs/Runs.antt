@@ -36,7 +36,7 @@ shows-is o ps v =
       luma = λ x y X Y. v .luma x y X Y ∙ inside-is (l .w) (l .h) (sampleAt (l .«sample_bytes») (o .planes .y)) x y X Y;
       chroma = λ k x y X Y. v .chroma k x y X Y ∙ inside-is (l .cw) (l .ch) (sampleAt (l .«sample_bytes») (chromaPlane (o .planes) k)) x y X Y;
     }) in
-    λ t. record { layout = l; luma = λ x y. a .luma x y t; chroma = λ k x y. a .chroma k x y t }
+    λ t. record { layout = l; luma = λ y x. a .luma x y t; chroma = λ k y x. a .chroma k x y t }
 
 -- the planes of the open itself do
 pub shows-own : (o : OpenCall) → Shows (pictureBy o) (o .planes)

@@ -79,8 +79,8 @@ next t e = cond (done e) (moved t e) t
 
 -- the planes hold the picture's samples; padding, surplus and strides don't matter
 pub record Shows (p : Picture) (ps : Planes) : Type 0 where
-  pub luma : (x y : ℕ) → x < p .layout .w → y < p .layout .h → sampleAt (p .layout .«sample_bytes») (ps .y) x y ≡ p .luma x y
-  pub chroma : (k : Chroma) (x y : ℕ) → x < p .layout .cw → y < p .layout .ch → sampleAt (p .layout .«sample_bytes») (chromaPlane ps k) x y ≡ p .chroma k x y
+  pub luma : (x y : ℕ) → x < p .layout .w → y < p .layout .h → sampleAt (p .layout .«sample_bytes») (ps .y) y x ≡ p .luma y x
+  pub chroma : (k : Chroma) (x y : ℕ) → x < p .layout .cw → y < p .layout .ch → sampleAt (p .layout .«sample_bytes») (chromaPlane ps k) y x ≡ p .chroma k y x
 
 unfoldable pub Handed : Course → Event → Type 0
 Handed Start e = Unit {0}
@@ -113,22 +113,22 @@ given o e k = take (o .layout .w) (outOf e k)
 unfoldable pub threeN : (ℕ → ℕ → ℕ) → ℕ → (ℕ → ℕ) → ℕ → ℕ
 threeN op n f i = op (op (f (i - 1)) (f i)) (f (min (i + 1) (n - 1)))
 
--- "the 3 by 3 extremes": op is min or max, over the nine cells round cell (i, j) "of the sample's own plane"
+-- "the 3 by 3 extremes": op is min or max, over the nine cells round cell i of row j, "of the sample's own plane"
 unfoldable pub nine : (ℕ → ℕ → ℕ) → Picture → Chroma → ℕ → ℕ → ℕ
-nine op p k i j = threeN op (p .layout .ch) (λ r. threeN op (p .layout .cw) (λ q. p .chroma k q r) i) j
+nine op p k j i = threeN op (p .layout .ch) (λ r. threeN op (p .layout .cw) (λ q. p .chroma k r q) i) j
 
 unfoldable pub Within : Picture → Chroma → ℕ → ℕ → Float → Type 0
-Within p k i j v = T (le (f32 (nine min p k i j)) v) × T (le v (f32 (nine max p k i j)))
+Within p k j i v = T (le (f32 (nine min p k j i)) v) × T (le v (f32 (nine max p k j i)))
 
 -- "More than two cells away is more than two across or more than two down": a and b are no more than two apart
 abbrev pub Near : ℕ → ℕ → Type 0
 Near a b = (a ≤ b + 2) × (b ≤ a + 2)
 
--- pictures alike but for what is more than two cells from cell (i, j): "Luma counts with its pixel's cell"
-pub record AlikeNear (p q : Picture) (i j : ℕ) : Type 0 where
+-- pictures alike but for what is more than two cells from cell i of chroma row j: "Luma counts with its pixel's cell"
+pub record AlikeNear (p q : Picture) (j i : ℕ) : Type 0 where
   pub layout : p .layout ≡ q .layout
-  pub luma : (x y : ℕ) → x < p .layout .w → y < p .layout .h → Near (x / p .layout .rh) i → Near (y / p .layout .rv) j → p .luma x y ≡ q .luma x y
-  pub chroma : (k : Chroma) (x y : ℕ) → x < p .layout .cw → y < p .layout .ch → Near x i → Near y j → p .chroma k x y ≡ q .chroma k x y
+  pub luma : (x y : ℕ) → x < p .layout .w → y < p .layout .h → Near (x / p .layout .rh) i → Near (y / p .layout .rv) j → p .luma y x ≡ q .luma y x
+  pub chroma : (k : Chroma) (x y : ℕ) → x < p .layout .cw → y < p .layout .ch → Near x i → Near y j → p .chroma k y x ≡ q .chroma k y x
 
 -- ---- demand 3
 
@@ -143,10 +143,10 @@ pub record Demand3 : Type 0 where
   pub guided : (o : OpenCall) (e : RowEvent) (es : List Event) → Run o e es → (k : Chroma) → given o e k ≡ guidedRow (pictureBy o) k (e .call .y)
   -- lies within the 3 by 3 extremes round its own cell
   pub within : (o : OpenCall) (e : RowEvent) (es : List Event) → Run o e es
-      → (k : Chroma) (x : ℕ) → x < o .layout .w → Within (pictureBy o) k (x / o .layout .rh) (e .call .y / o .layout .rv) (getD (given o e k) x (f32 0))
+      → (k : Chroma) (x : ℕ) → x < o .layout .w → Within (pictureBy o) k (e .call .y / o .layout .rv) (x / o .layout .rh) (getD (given o e k) x (f32 0))
   -- is no not-a-number, so that `≡` above is the same bits
   pub bits : (o : OpenCall) (e : RowEvent) (es : List Event) → Run o e es → (k : Chroma) (x : ℕ) → x < o .layout .w → isNan (getD (given o e k) x (f32 0)) ≡ false
   -- and does not depend on anything more than two cells away, over any two lists
   pub local : (o u : OpenCall) (e d : RowEvent) (es ds : List Event) → Run o e es → Run u d ds → e .call .y ≡ d .call .y
-      → (k : Chroma) (x : ℕ) → x < o .layout .w → AlikeNear (pictureBy o) (pictureBy u) (x / o .layout .rh) (e .call .y / o .layout .rv)
+      → (k : Chroma) (x : ℕ) → x < o .layout .w → AlikeNear (pictureBy o) (pictureBy u) (e .call .y / o .layout .rv) (x / o .layout .rh)
       → getD (given o e k) x (f32 0) ≡ getD (given u d k) x (f32 0)

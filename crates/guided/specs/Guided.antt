@@ -26,32 +26,32 @@ pub data Across : Type 0 where
   Luma LumaSum SquareSum : Across
   Cell CellSum ProductSum : Chroma → Across
 
--- "Cell luma y: the sum over the cell's pixels inside the picture, divided by their number.": cell i of chroma row j, `luma x y` being the samples
+-- "Cell luma y: the sum over the cell's pixels inside the picture, divided by their number.": cell i of chroma row j, `luma y x` being the samples
 unfoldable pub lumaOf : Layout → (ℕ → ℕ → ℕ) → ℕ → ℕ → Float
 lumaOf l luma j i =
     let nx = min (l .rh) (l .w - i * l .rh) in
     let ny = min (l .rv) (l .h - j * l .rv) in
-    f32 (sumTo ny (λ dy. sumTo nx (λ dx. luma (i * l .rh + dx) (j * l .rv + dy)))) ⊘ f32 (nx * ny)
+    f32 (sumTo ny (λ dy. sumTo nx (λ dx. luma (j * l .rv + dy) (i * l .rh + dx)))) ⊘ f32 (nx * ny)
 
--- "the least and greatest c of the 3 by 3 cells round its own cell": op is fmin or fmax, `c i j` the samples
+-- "the least and greatest c of the 3 by 3 cells round its own cell": op is fmin or fmax, `c j i` the samples
 unfoldable pub extremeOf : Layout → (Float → Float → Float) → (ℕ → ℕ → ℕ) → ℕ → ℕ → Float
-extremeOf l op c j i = three op (l .ch) (λ r. three op (l .cw) (λ q. f32 (c q r)) i) j
+extremeOf l op c j i = three op (l .ch) (λ r. three op (l .cw) (λ q. f32 (c r q)) i) j
 
 module _ (p : Picture) where
   unfoldable pub cellLuma : ℕ → ℕ → Float
-  cellLuma i j = lumaOf (p .layout) (p .luma) j i
+  cellLuma j i = lumaOf (p .layout) (p .luma) j i
 
   unfoldable pub cellOf : Chroma → ℕ → ℕ → Float
-  cellOf k i j = f32 (p .chroma k i j)
+  cellOf k j i = f32 (p .chroma k j i)
 
   -- "Across, (left + middle) + right for y, y·y, c and y·c": cell i of chroma row j
   unfoldable pub acrossVal : Across → ℕ → ℕ → Float
-  acrossVal Luma j i = cellLuma i j
-  acrossVal LumaSum j i = three _⊕_ (p .layout .cw) (λ i. cellLuma i j) i
-  acrossVal SquareSum j i = three _⊕_ (p .layout .cw) (λ i. cellLuma i j ⊗ cellLuma i j) i
-  acrossVal (Cell k) j i = cellOf k i j
-  acrossVal (CellSum k) j i = three _⊕_ (p .layout .cw) (λ i. cellOf k i j) i
-  acrossVal (ProductSum k) j i = three _⊕_ (p .layout .cw) (λ i. cellLuma i j ⊗ cellOf k i j) i
+  acrossVal Luma j i = cellLuma j i
+  acrossVal LumaSum j i = three _⊕_ (p .layout .cw) (λ i. cellLuma j i) i
+  acrossVal SquareSum j i = three _⊕_ (p .layout .cw) (λ i. cellLuma j i ⊗ cellLuma j i) i
+  acrossVal (Cell k) j i = cellOf k j i
+  acrossVal (CellSum k) j i = three _⊕_ (p .layout .cw) (λ i. cellOf k j i) i
+  acrossVal (ProductSum k) j i = three _⊕_ (p .layout .cw) (λ i. cellLuma j i ⊗ cellOf k j i) i
 
   unfoldable pub extreme : (Float → Float → Float) → Chroma → ℕ → ℕ → Float
   extreme op k = extremeOf (p .layout) op (p .chroma k)
@@ -101,7 +101,7 @@ module _ (p : Picture) where
   guidedSample k y x =
       let l = p .layout in
       valueOf l (downTo l (acrossVal p (Cell k)) y) (downTo l (slope k) y) (extreme p fmin k (y / l .rv)) (extreme p fmax k (y / l .rv))
-      (detailOf l (downTo l (acrossVal p Luma) y) (f32 (p .luma x y)) x) x
+      (detailOf l (downTo l (acrossVal p Luma) y) (f32 (p .luma y x)) x) x
 
   unfoldable pub guidedRow : Chroma → ℕ → List Float
   guidedRow k y = table (p .layout .w) (guidedSample k y)

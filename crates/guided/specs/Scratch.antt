@@ -130,7 +130,7 @@ module _ (p : Picture) where
   lumaColumn y xs = put xs (columnAt (p .layout) 0) (p .layout .cw) (downTo (p .layout) (readAcross (p .layout) xs Luma) y)
 
   unfoldable pub detailRow : ℕ → List Float → List Float
-  detailRow y xs = put xs (detailAt (p .layout)) (p .layout .w) (λ x. detailOf (p .layout) (cellAt xs (columnAt (p .layout) 0)) (f32 (p .luma x y)) x)
+  detailRow y xs = put xs (detailAt (p .layout)) (p .layout .w) (λ x. detailOf (p .layout) (cellAt xs (columnAt (p .layout) 0)) (f32 (p .luma y x)) x)
 
   -- a component's two rows of cells: samples and slopes lerped down
   unfoldable pub componentColumns : Chroma → ℕ → List Float → List Float

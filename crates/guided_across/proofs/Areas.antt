@@ -22,7 +22,7 @@ use Rattle.laws.proofs.Counts.{plus-none, none-plus, part-rest}
 -- ---- the pixels of a cell
 
 -- a sample inside the picture lies inside the plane
-pub within-plane : (l : Layout) (p : Plane) → Cells l p → (x y : ℕ) → x < l .w → y < l .h → place (l .«sample_bytes») (p .stride) x y + l .«sample_bytes» ≤ length (p .bytes)
+pub within-plane : (l : Layout) (p : Plane) → Cells l p → (x y : ℕ) → x < l .w → y < l .h → place (l .«sample_bytes») (p .stride) y x + l .«sample_bytes» ≤ length (p .bytes)
 within-plane l p o x y h k = sample-inside (short-holds l (l .w) (l .h) p (o .plane)) x y h k
 
 -- a cell's luma from its sum and the number of its pixels
@@ -43,7 +43,7 @@ luma-inside l f j i =
 -- ---- cells of bytes at ratio 2
 
 -- a byte as a sample
-corner : (p : Plane) (x y at : ℕ) → at ≡ y * p .stride + x * 1 → getD (p .bytes) at 0 ≡ sampleAt 1 p x y
+corner : (p : Plane) (x y at : ℕ) → at ≡ y * p .stride + x * 1 → getD (p .bytes) at 0 ≡ sampleAt 1 p y x
 unfolding sampleAt sampleOf
 corner p x y at e = ap (λ (k : ℕ). getD (p .bytes) k 0) e
 
@@ -56,7 +56,7 @@ byte-cell l p j i m a e n k =
     let y = j * l .rv in
     rw (n, a, e, x)
     (ap (λ (s : ℕ). f32 s ⊘ f32 (2 * m))
-    (sum-same m _ _ (λ dy q. sums _ _ (sampleAt 1 p (i * 2 + 0) (y + dy)) (sampleAt 1 p (i * 2 + 1) (y + dy)) (corner p (i * 2 + 0) (y + dy) _ (left y (p .stride) dy i)) (corner p (i * 2 + 1) (y + dy) _ (right y (p .stride) dy i)))))
+    (sum-same m _ _ (λ dy q. sums _ _ (sampleAt 1 p (y + dy) (i * 2 + 0)) (sampleAt 1 p (y + dy) (i * 2 + 1)) (corner p (i * 2 + 0) (y + dy) _ (left y (p .stride) dy i)) (corner p (i * 2 + 1) (y + dy) _ (right y (p .stride) dy i)))))
   where
     left : (y t d i : ℕ) → y * t + d * t + 2 * i ≡ (y + d) * t + (i * 2 + 0) * 1
     left y t d i = omega arith

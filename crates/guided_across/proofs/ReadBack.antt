@@ -77,7 +77,7 @@ pub chroma-steps : (l : Layout) (p : Plane) (k : Chroma) (j n y : ℕ) (t : Slot
     ≡ chromaPart l (sampleAt (l .«sample_bytes») p) k j s
 unfolding loadRun chromaPart statRows sampleAt
 chroma-steps l p k j n y t s o e a b h =
-    let f : ℕ → Float = λ i. f32 (sampleAt (l .«sample_bytes») p i j) in
+    let f : ℕ → Float = λ i. f32 (sampleAt (l .«sample_bytes») p j i) in
     let fits : t .at + l .cw ≤ length s = omega arith in
     let kept = row-kept (row-kept (row-itself s y (l .cw)) (t .at) (l .cw) f b) (t .sums) (l .cw) (three _⊕_ (l .cw) f) (omega arith) in
     steps-are s (t .at) (l .cw) (t .sums) (t .products) f fits (o .sums-behind) y (cellAt s y) kept
@@ -114,13 +114,13 @@ module _ (l : Layout) (ps : Planes) (j : ℕ) where
   picture = pictureOf l ps
 
   abbrev luma : ℕ → Float
-  luma i = cellLuma picture i j
+  luma i = cellLuma picture j i
 
   lumaAcross : List Float → List Float
   lumaAcross = statRows l 0 luma (λ i. luma i ⊗ luma i) j
 
   chromaAcross : Chroma → List Float → List Float
-  chromaAcross k = statRows l (firstOf k) (λ i. cellOf picture k i j) (λ i. luma i ⊗ cellOf picture k i j) j
+  chromaAcross k = statRows l (firstOf k) (λ i. cellOf picture k j i) (λ i. luma i ⊗ cellOf picture k j i) j
 
   luma-across : (s : List Float) → lumaPart l (sampleAt (l .«sample_bytes») (ps .y)) j s ≡ lumaAcross s
   unfolding lumaPart lumaAcross cellLuma pictureOf
@@ -132,8 +132,8 @@ module _ (l : Layout) (ps : Planes) (j : ℕ) where
   unfolding chromaPart chromaAcross cellOf pictureOf
   chroma-across k s d o =
       let c = sampleAt (l .«sample_bytes») (chromaPlane ps k) in
-      let same : (i : ℕ) → i < l .cw → f32 (c i j) ≡ cellOf picture k i j = λ i h. ap f32 (sym (inside-is (l .cw) (l .ch) c i j h d)) in
-      stat-same l (firstOf k) j s (λ i. f32 (c i j)) (λ i. cellOf picture k i j) (λ i. cellAt s (slotAt l 0 j) i ⊗ f32 (c i j)) (λ i. luma i ⊗ cellOf picture k i j) same
+      let same : (i : ℕ) → i < l .cw → f32 (c j i) ≡ cellOf picture k j i = λ i h. ap f32 (sym (inside-is (l .cw) (l .ch) c i j h d)) in
+      stat-same l (firstOf k) j s (λ i. f32 (c j i)) (λ i. cellOf picture k j i) (λ i. cellAt s (slotAt l 0 j) i ⊗ f32 (c j i)) (λ i. luma i ⊗ cellOf picture k j i) same
       (λ i h. alike (o .reads i h) (same i h))
 
   -- luma's row is there for the components
@@ -143,7 +143,7 @@ module _ (l : Layout) (ps : Planes) (j : ℕ) where
 
   luma-kept : (s : List Float) → Row s (slotAt l 0 j) (l .cw) luma → Row (chromaAcross Cb s) (slotAt l 0 j) (l .cw) luma
   unfolding chromaAcross
-  luma-kept s o = stat-kept l 3 j s (λ i. cellOf picture Cb i j) (λ i. luma i ⊗ cellOf picture Cb i j) luma 0 (lit< tt) o
+  luma-kept s o = stat-kept l 3 j s (λ i. cellOf picture Cb j i) (λ i. luma i ⊗ cellOf picture Cb j i) luma 0 (lit< tt) o
 
   one-is : (s : List Float) → chromaAcross Cb (lumaAcross s) ≡ horizontal picture (components false) j s
   unfolding chromaAcross lumaAcross statRows horizontal parts chromaParts acrossOver acrossVal pictureOf

@@ -18,7 +18,7 @@ pub record Cells (l : Layout) (p : Plane) : Type 0 where
 
 -- the sum of the n samples of row y from column x on, and of m such rows from row y on
 unfoldable pub rowSum : Layout → Plane → ℕ → ℕ → ℕ → ℕ
-rowSum l p x y n = sumTo n (λ dx. sampleAt (l .«sample_bytes») p (x + dx) y)
+rowSum l p x y n = sumTo n (λ dx. sampleAt (l .«sample_bytes») p y (x + dx))
 
 unfoldable pub cellSum : Layout → Plane → ℕ → ℕ → ℕ → ℕ → ℕ
 cellSum l p x y n m = sumTo m (λ dy. rowSum l p x (y + dy) n)

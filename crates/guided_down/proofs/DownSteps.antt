@@ -30,7 +30,7 @@ down-row-are l p k j n a b s e f g = rw (f, g, e) refl
 extreme-inside : (l : Layout) (op : Float → Float → Float) (c : ℕ → ℕ → ℕ) (j i : ℕ) → j < l .ch → i < l .cw → extremeOf l op c j i ≡ extremeOf l op (inside (l .cw) (l .ch) c) j i
 unfolding extremeOf
 extreme-inside l op c j i h k =
-    three-same op (l .ch) _ _ j h (λ r hr. three-same op (l .cw) (λ q. f32 (c q r)) (λ q. f32 (inside (l .cw) (l .ch) c q r)) i k (λ q hq. ap f32 (sym (inside-is (l .cw) (l .ch) c q r hq hr))))
+    three-same op (l .ch) _ _ j h (λ r hr. three-same op (l .cw) (λ q. f32 (c r q)) (λ q. f32 (inside (l .cw) (l .ch) c r q)) i k (λ q hq. ap f32 (sym (inside-is (l .cw) (l .ch) c q r hq hr))))
 
 module _ (l : Layout) (ps : Planes) where
   -- a chroma row down

@@ -31,7 +31,7 @@ steps-of op a b c x y z p q r = rw (p, q, r) refl
 
 module _ (l : Layout) (p : Plane) (greatest : Bool) where
   -- the three cells round cell 1 + q of row r
-  across-from : (r q : ℕ) → q + 2 < l .cw → threeN (wholeOp greatest) (l .cw) (λ i. sampleAt (l .«sample_bytes») p i r) (1 + q) ≡ threeFrom greatest (l .«sample_bytes») (p .bytes) (r * p .stride + q * l .«sample_bytes»)
+  across-from : (r q : ℕ) → q + 2 < l .cw → threeN (wholeOp greatest) (l .cw) (λ i. sampleAt (l .«sample_bytes») p r i) (1 + q) ≡ threeFrom greatest (l .«sample_bytes») (p .bytes) (r * p .stride + q * l .«sample_bytes»)
   unfolding threeN threeFrom sampleAt
   across-from r q h =
       let b = l .«sample_bytes» in

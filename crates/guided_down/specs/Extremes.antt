@@ -26,6 +26,6 @@ extremeRow l p greatest j dst s = put s dst (l .cw) (extremeOf l (opOf greatest)
 
 -- ---- in whole numbers
 
--- of the three by three samples round cell i of row j, `c i j` being the samples
+-- of the three by three samples round cell i of row j, `c j i` being the samples
 unfoldable pub wholeExtreme : Layout → Bool → (ℕ → ℕ → ℕ) → ℕ → ℕ → ℕ
-wholeExtreme l greatest c j i = threeN (wholeOp greatest) (l .ch) (λ r. threeN (wholeOp greatest) (l .cw) (λ q. c q r) i) j
+wholeExtreme l greatest c j i = threeN (wholeOp greatest) (l .ch) (λ r. threeN (wholeOp greatest) (l .cw) (λ q. c r q) i) j

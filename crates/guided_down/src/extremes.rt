@@ -16,7 +16,7 @@ use image::Layout;
 // Of the three cells across round cell i of row r.
 fn across(layout: Layout, plane: &[u8], stride: usize, greatest: bool, r: usize, i: usize) -> u16
     requires { ⌜ ChromaCells layout (planeOf (now plane) stride) × (i < layout .cw) × (r < layout .ch) ⌝ }
-    ensures { λ v. ⌜ v ≡ threeN (wholeOp greatest) (layout .cw) (λ q. sampleAt (layout .«sample_bytes») (planeOf (now (plane .entry)) stride) q r) i ⌝ }
+    ensures { λ v. ⌜ v ≡ threeN (wholeOp greatest) (layout .cw) (λ q. sampleAt (layout .«sample_bytes») (planeOf (now (plane .entry)) stride) r q) i ⌝ }
 {
     let w = layout.cw;
     let h = layout.ch;

@@ -41,7 +41,7 @@ detail-ready l src len o h =
 pub detail-line : (l : Layout) (p : Plane) (y src : ℕ) (s : List Float) → src ≡ columnAt l 0 → detailRun l p y src (2 * l .w) 0 (l .w) s ≡ detailLine l p y s
 unfolding detailRun detailLine detailAt
 detail-line l p y src s e =
-    let f : ℕ → Float = λ x. detailOf l (cellAt s (columnAt l 0)) (f32 (sampleAt (l .«sample_bytes») p x y)) x in
+    let f : ℕ → Float = λ x. detailOf l (cellAt s (columnAt l 0)) (f32 (sampleAt (l .«sample_bytes») p y x)) x in
     rw e (ap (λ (a : ℕ). put s a (l .w) (λ i. f (0 + i))) (plus-none (2 * l .w)) ∙ put-same s (2 * l .w) (l .w) _ f (λ i k. ap f (none-plus i)))
 
 -- ---- a row in parts
@@ -50,7 +50,7 @@ module _ (l : Layout) (o : Sound l) (p : Plane) (y src dst : ℕ) (h : dst + l .
   -- what is written before the cells leaves the detail
   pub detail-same : (xs ys : List Float) (i : ℕ) → i < l .w → ((q : ℕ) → src ≤ q → getD ys q nan ≡ getD xs q nan) → detailIn l p y ys src i ≡ detailIn l p y xs src i
   unfolding detailOf
-  detail-same xs ys i r e = ap (λ (v : Float). f32 (sampleAt (l .«sample_bytes») p i y) ⊖ v) (across-same l o (cellAt ys src) (cellAt xs src) i r (λ k t. e (src + k) (omega arith)))
+  detail-same xs ys i r e = ap (λ (v : Float). f32 (sampleAt (l .«sample_bytes») p y i) ⊖ v) (across-same l o (cellAt ys src) (cellAt xs src) i r (λ k t. e (src + k) (omega arith)))
 
   pub detail-chain : (from m k : ℕ) (s : List Float) → from + m + k ≤ l .w → detailRun l p y src dst (from + m) k (detailRun l p y src dst from m s) ≡ detailRun l p y src dst from (m + k) s
   unfolding detailRun

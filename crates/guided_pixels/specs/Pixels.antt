@@ -13,7 +13,7 @@ use Rattle.guided_pixels.specs.declared.pairs.Pair.{Pair}
 
 -- the detail of column x of row y by the cells at src
 abbrev pub detailIn : Layout → Plane → ℕ → List Float → ℕ → ℕ → Float
-detailIn l p y s src x = detailOf l (cellAt s src) (f32 (sampleAt (l .«sample_bytes») p x y)) x
+detailIn l p y s src x = detailOf l (cellAt s src) (f32 (sampleAt (l .«sample_bytes») p y x)) x
 
 -- of the two pixels of cell i + 1 at ratio 2
 unfoldable pub detailPair : Layout → Plane → ℕ → List Float → ℕ → ℕ → Pair
@@ -25,4 +25,4 @@ detailRun l p y src dst from n s = put s (dst + from) n (λ i. detailIn l p y s 
 
 -- and of all columns by luma's row of cells, put where the detail lies
 unfoldable pub detailLine : Layout → Plane → ℕ → List Float → List Float
-detailLine l p y s = put s (detailAt l) (l .w) (λ x. detailOf l (cellAt s (columnAt l 0)) (f32 (sampleAt (l .«sample_bytes») p x y)) x)
+detailLine l p y s = put s (detailAt l) (l .w) (λ x. detailOf l (cellAt s (columnAt l 0)) (f32 (sampleAt (l .«sample_bytes») p y x)) x)

@@ -19,7 +19,7 @@ pub fn whole_at(
     y: usize,
 ) -> u16
     requires { ⌜ Sound layout × (shortPlane layout w h (planeOf (now plane) stride) ≡ false) × (x < w) × (y < h) ⌝ }
-    ensures { λ r. ⌜ r ≡ sampleAt (layout .«sample_bytes») (planeOf (now (plane .entry)) stride) x y ⌝ }
+    ensures { λ r. ⌜ r ≡ sampleAt (layout .«sample_bytes») (planeOf (now (plane .entry)) stride) y x ⌝ }
 {
     let bytes = layout.sample_bytes;
     image::sample(plane, bytes, y * stride + x * bytes)
@@ -36,7 +36,7 @@ pub fn sample_at(
     y: usize,
 ) -> f32
     requires { ⌜ Sound layout × (shortPlane layout w h (planeOf (now plane) stride) ≡ false) × (x < w) × (y < h) ⌝ }
-    ensures { λ r. ⌜ r ≡ f32 (sampleAt (layout .«sample_bytes») (planeOf (now (plane .entry)) stride) x y) ⌝ }
+    ensures { λ r. ⌜ r ≡ f32 (sampleAt (layout .«sample_bytes») (planeOf (now (plane .entry)) stride) y x) ⌝ }
 {
     whole_at(layout, plane, stride, w, h, x, y) as f32
 }

@@ -12,29 +12,29 @@ use Rattle.image.specs.Samples.{sampleOf, sampleAt}
 use Rattle.image.specs.Picture.{Chroma, Picture, Planes, chromaPlane, inside, pictureOf}
 
 -- inside the picture stands the sample itself
-pub inside-is : (w h : ℕ) (f : ℕ → ℕ → ℕ) (x y : ℕ) → x < w → y < h → inside w h f x y ≡ f x y
+pub inside-is : (w h : ℕ) (f : ℕ → ℕ → ℕ) (x y : ℕ) → x < w → y < h → inside w h f y x ≡ f y x
 unfolding inside
 inside-is w h f x y k l = rw (lt-ltb x w k, lt-ltb y h l) refl
 
 -- samples that agree inside the picture make the same picture, whatever stands in padding and surplus
-inside-same : (w h : ℕ) (f g : ℕ → ℕ → ℕ) → ((x y : ℕ) → x < w → y < h → f x y ≡ g x y) → (x y : ℕ) → inside w h f x y ≡ inside w h g x y
+inside-same : (w h : ℕ) (f g : ℕ → ℕ → ℕ) → ((x y : ℕ) → x < w → y < h → f y x ≡ g y x) → (x y : ℕ) → inside w h f y x ≡ inside w h g y x
 unfolding inside
 inside-same w h f g e x y = go (ltb x w) (ltb-true x w) (ltb y h) (ltb-true y h)
   where
-    go : (a : Bool) → (a ≡ true → x < w) → (b : Bool) → (b ≡ true → y < h) → cond (a && b) (f x y) 0 ≡ cond (a && b) (g x y) 0
+    go : (a : Bool) → (a ≡ true → x < w) → (b : Bool) → (b ≡ true → y < h) → cond (a && b) (f y x) 0 ≡ cond (a && b) (g y x) 0
     go true k true l = e x y (k refl) (l refl)
     go true k false l = refl
     go false k b l = refl
 
 -- planes that hold the same samples inside the picture, at whatever strides
 pub record Agree (l : Layout) (ps qs : Planes) : Type 0 where
-  pub luma : (x y : ℕ) → x < l .w → y < l .h → sampleAt (l .«sample_bytes») (ps .y) x y ≡ sampleAt (l .«sample_bytes») (qs .y) x y
-  pub chroma : (k : Chroma) (x y : ℕ) → x < l .cw → y < l .ch → sampleAt (l .«sample_bytes») (chromaPlane ps k) x y ≡ sampleAt (l .«sample_bytes») (chromaPlane qs k) x y
+  pub luma : (x y : ℕ) → x < l .w → y < l .h → sampleAt (l .«sample_bytes») (ps .y) y x ≡ sampleAt (l .«sample_bytes») (qs .y) y x
+  pub chroma : (k : Chroma) (x y : ℕ) → x < l .cw → y < l .ch → sampleAt (l .«sample_bytes») (chromaPlane ps k) y x ≡ sampleAt (l .«sample_bytes») (chromaPlane qs k) y x
 
 pub record Alike (p q : Picture) : Type 0 where
   pub layout : p .layout ≡ q .layout
-  pub luma : (x y : ℕ) → p .luma x y ≡ q .luma x y
-  pub chroma : (k : Chroma) (x y : ℕ) → p .chroma k x y ≡ q .chroma k x y
+  pub luma : (x y : ℕ) → p .luma y x ≡ q .luma y x
+  pub chroma : (k : Chroma) (x y : ℕ) → p .chroma k y x ≡ q .chroma k y x
 
 pub padding-unseen : (l : Layout) (ps qs : Planes) → Agree l ps qs → Alike (pictureOf l ps) (pictureOf l qs)
 unfolding pictureOf

@@ -63,7 +63,7 @@ pub row-inside : {bytes w h stride len : ℕ} → Holds bytes w h stride len →
 row-inside {bytes} {w} {h} {stride} o y l = omega (arith, o .last, row-begins y h stride l)
 
 -- and so does the sample in column x of row y
-pub sample-inside : {bytes w h stride len : ℕ} → Holds bytes w h stride len → (x y : ℕ) → x < w → y < h → place bytes stride x y + bytes ≤ len
+pub sample-inside : {bytes w h stride len : ℕ} → Holds bytes w h stride len → (x y : ℕ) → x < w → y < h → place bytes stride y x + bytes ≤ len
 sample-inside {bytes} {w} o x y k l = omega (arith, row-inside o y l, row-fits x w bytes k)
 
 -- the same of a plane as a call is lent it

@@ -12,7 +12,7 @@ use Rattle.image.specs.Samples.{Plane, planeOf, sampleAt}
 pub data Chroma : Type 0 where
   Cb Cr : Chroma
 
--- `luma x y` and `chroma k x y`: column first. They are 0 outside the picture.
+-- `luma y x` and `chroma k y x`: row y, column x. They are 0 outside the picture.
 pub record Picture : Type 0 where
   pub layout : Layout
   pub luma : ℕ → ℕ → ℕ
@@ -34,7 +34,7 @@ chromaPlane ps Cr = ps .cr
 
 -- the samples of w columns and h rows, and nothing of what stands behind or below them
 unfoldable pub inside : ℕ → ℕ → (ℕ → ℕ → ℕ) → ℕ → ℕ → ℕ
-inside w h f x y = cond (ltb x w && ltb y h) (f x y) 0
+inside w h f y x = cond (ltb x w && ltb y h) (f y x) 0
 
 unfoldable pub pictureOf : Layout → Planes → Picture
 pictureOf l ps = record {

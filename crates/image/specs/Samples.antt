@@ -18,10 +18,10 @@ pub record Plane : Type 0 where
 abbrev pub planeOf : List ℕ → ℕ → Plane
 planeOf bytes stride = record { bytes = bytes; stride = stride }
 
--- where column x of row y begins
+-- where row y, column x begins
 abbrev pub place : ℕ → ℕ → ℕ → ℕ → ℕ
-place bytes stride x y = y * stride + x * bytes
+place bytes stride y x = y * stride + x * bytes
 
--- the sample in column x of row y
+-- the sample of row y, column x
 unfoldable pub sampleAt : ℕ → Plane → ℕ → ℕ → ℕ
-sampleAt bytes p x y = sampleOf bytes (p .bytes) (place bytes (p .stride) x y)
+sampleAt bytes p y x = sampleOf bytes (p .bytes) (place bytes (p .stride) y x)

@@ -183,5 +183,5 @@ pub bilinear-between : (c : ℕ → ℕ → ℕ) (v h : Spot) → Valid v → Va
 bilinear-between c v h p q lo hi t s =
     held-between (acrossBy (tapOn h) (downBy (tapOn v) c)) lo hi (le-trans (s .near-near .0) (le-trans (s .near-near .1) t)) t
     (lerp-held (downBy (tapOn v) c (h .near)) (downBy (tapOn v) c (h .far)) (fractionOf (h .k) (h .d)) (h .k) (h .d) (lo * 2 ^ 149) (hi * 2 ^ 149) (sample-top hi t)
-    (tap-fraction (h .k) (h .d) (q .part) (q .small)) (column-held (c (h .near) (v .near)) (c (h .near) (v .far)) v lo hi p t (s .near-near) (s .near-far))
-    (column-held (c (h .far) (v .near)) (c (h .far) (v .far)) v lo hi p t (s .far-near) (s .far-far)))
+    (tap-fraction (h .k) (h .d) (q .part) (q .small)) (column-held (c (v .near) (h .near)) (c (v .far) (h .near)) v lo hi p t (s .near-near) (s .near-far))
+    (column-held (c (v .near) (h .far)) (c (v .far) (h .far)) v lo hi p t (s .far-near) (s .far-far)))

@@ -15,8 +15,8 @@ mix p q k d = p * (d - k) + q * k
 -- the exact bilinear value between four cells is exactNum / exactDen: down by v, then across by h
 abbrev pub exactNum : (ℕ → ℕ → ℕ) → Spot → Spot → ℕ
 exactNum c v h =
-    mix (mix (c (h .near) (v .near)) (c (h .near) (v .far)) (v .k) (v .d))
-    (mix (c (h .far) (v .near)) (c (h .far) (v .far)) (v .k) (v .d)) (h .k) (h .d)
+    mix (mix (c (v .near) (h .near)) (c (v .far) (h .near)) (v .k) (v .d))
+    (mix (c (v .near) (h .far)) (c (v .far) (h .far)) (v .k) (v .d)) (h .k) (h .d)
 
 abbrev pub exactDen : Spot → Spot → ℕ
 exactDen v h = v .d * h .d
@@ -29,15 +29,15 @@ columnSpot l x = spotOf 1 (l .rh) (l .cw) x
 
 -- all four cells of the value lie between lo and hi
 pub record Spanned (c : ℕ → ℕ → ℕ) (v h : Spot) (lo hi : ℕ) : Type 0 where
-  pub near-near : (lo ≤ c (h .near) (v .near)) × (c (h .near) (v .near) ≤ hi)
-  pub near-far : (lo ≤ c (h .near) (v .far)) × (c (h .near) (v .far) ≤ hi)
-  pub far-near : (lo ≤ c (h .far) (v .near)) × (c (h .far) (v .near) ≤ hi)
-  pub far-far : (lo ≤ c (h .far) (v .far)) × (c (h .far) (v .far) ≤ hi)
+  pub near-near : (lo ≤ c (v .near) (h .near)) × (c (v .near) (h .near) ≤ hi)
+  pub near-far : (lo ≤ c (v .far) (h .near)) × (c (v .far) (h .near) ≤ hi)
+  pub far-near : (lo ≤ c (v .near) (h .far)) × (c (v .near) (h .far) ≤ hi)
+  pub far-far : (lo ≤ c (v .far) (h .far)) × (c (v .far) (h .far) ≤ hi)
 
 -- at every row and column, ratios 1 to 4, for samples up to 65,535
 pub record LinearClaims : Type 0 where
   -- the float is within 16 / 256 of exactNum / exactDen
-  pub within : (l : Layout) (c : ℕ → ℕ → ℕ) → ((i j : ℕ) → c i j ≤ 65535) → (0 < l .rh) × (l .rh ≤ 4) → (0 < l .rv) × (l .rv ≤ 4) → (y x : ℕ)
+  pub within : (l : Layout) (c : ℕ → ℕ → ℕ) → ((j i : ℕ) → c j i ≤ 65535) → (0 < l .rh) × (l .rh ≤ 4) → (0 < l .rv) × (l .rv ≤ 4) → (y x : ℕ)
       → Near (linearSample l c y x) (exactNum c (rowSpot l y) (columnSpot l x)) 0 (exactDen (rowSpot l y) (columnSpot l x)) 16
   -- and lies between any two whole numbers that its four cells lie between
   pub spanned : (l : Layout) (c : ℕ → ℕ → ℕ) → (0 < l .rh) × (l .rh ≤ 4) → (0 < l .rv) × (l .rv ≤ 4) → (y x lo hi : ℕ) → hi ≤ 65535

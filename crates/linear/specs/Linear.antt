@@ -22,13 +22,13 @@ use Rattle.linear.specs.AcrossRows.{acrossBy}
 
 -- the cells of a column lerped down by a tap
 abbrev pub downBy : Tap → (ℕ → ℕ → ℕ) → ℕ → Float
-downBy t c i = lerpOf (f32 (c i (t .i0))) (f32 (c i (t .i1))) (t .f)
+downBy t c i = lerpOf (f32 (c (t .i0) i)) (f32 (c (t .i1) i)) (t .f)
 
 -- row y down, at cell i
 unfoldable pub linearDown : Layout → (ℕ → ℕ → ℕ) → ℕ → ℕ → Float
 linearDown l c y i = downBy (tapOf (l .rv) (l .ch) y) c i
 
--- row y, column x of the cells c, where c i j is column i of row j
+-- row y, column x of the cells c, where c j i is cell i of row j
 unfoldable pub linearSample : Layout → (ℕ → ℕ → ℕ) → ℕ → ℕ → Float
 linearSample l c y x = acrossBy (tapOf (l .rh) (l .cw) x) (linearDown l c y)
 

@@ -33,13 +33,13 @@ three-is : (op : Float → Float → Float) (a : Float) → op a a ≡ a → (n 
 unfolding three
 three-is op a e n i = rw (e, e) refl
 
-module _ (p : Picture) (k : Chroma) (c : ℕ) (o : Sound (p .layout)) (same : (i j : ℕ) → i < p .layout .cw → j < p .layout .ch → p .chroma k i j ≡ c) where
+module _ (p : Picture) (k : Chroma) (c : ℕ) (o : Sound (p .layout)) (same : (i j : ℕ) → i < p .layout .cw → j < p .layout .ch → p .chroma k j i ≡ c) where
   nine-is : (op : Float → Float → Float) → op (f32 c) (f32 c) ≡ f32 c → (i j : ℕ) → i < p .layout .cw → j < p .layout .ch → extreme p op k j i ≡ f32 c
   unfolding extreme extremeOf
   nine-is op e i j I J =
       let l = p .layout in
-      three-alike op (l .ch) (λ r. three op (l .cw) (λ q. f32 (p .chroma k q r)) i) (λ r. f32 c) j J
-      (λ r R. three-alike op (l .cw) (λ q. f32 (p .chroma k q r)) (λ q. f32 c) i I (λ q Q. ap f32 (same q r Q R)) ∙ three-is op (f32 c) e (l .cw) i)
+      three-alike op (l .ch) (λ r. three op (l .cw) (λ q. f32 (p .chroma k r q)) i) (λ r. f32 c) j J
+      (λ r R. three-alike op (l .cw) (λ q. f32 (p .chroma k r q)) (λ q. f32 c) i I (λ q Q. ap f32 (same q r Q R)) ∙ three-is op (f32 c) e (l .cw) i)
       ∙ three-is op (f32 c) e (l .ch) j
 
   -- the sample in column x of row y

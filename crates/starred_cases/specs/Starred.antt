@@ -29,9 +29,9 @@ pub data Case : Type 0 where
   -- a ratio, and its four phases
   Phases : ℕ → List Phase → Case
 
--- the samples of a list, row by row, n to a row
+-- cell i of row j of a list of samples, row by row, n to a row
 abbrev cellsOf : ℕ → List ℕ → ℕ → ℕ → ℕ
-cellsOf n cs i j = getD cs (j * n + i) 0
+cellsOf n cs j i = getD cs (j * n + i) 0
 
 unfoldable pub Holds : Case → Type 0
 Holds (Rounds x limit n) = roundClamped limit x ≡ n

@@ -14,16 +14,16 @@ use Rattle.image.specs.Samples.{Plane, sampleAt}
 use Rattle.image.specs.Picture.{shortPlane}
 use Rattle.upsample.specs.Weights.{even, weighed, oneAxis}
 
--- "Both axes: vertical sums 3·near + far, then the same across with b = 8 and 7 and >> 4"; c i j is column i of row j
+-- "Both axes: vertical sums 3·near + far, then the same across with b = 8 and 7 and >> 4"; c j i is cell i of row j
 unfoldable pub bothAxes : ℕ → ℕ → (ℕ → ℕ → ℕ) → ℕ → ℕ → ℕ
-bothAxes cw ch c x y = (weighed cw (λ i. weighed ch (c i) y) x + cond (even x) 8 7) / 16
+bothAxes cw ch c y x = (weighed cw (λ i. weighed ch (λ j. c j i) y) x + cond (even x) 8 7) / 16
 
--- the sample in column x of row y, by the ratios: (2,1), (1,2), and otherwise (2,2)
+-- the sample of row y, column x, by the ratios: (2,1), (1,2), and otherwise (2,2)
 unfoldable pub triangularSample : Layout → (ℕ → ℕ → ℕ) → ℕ → ℕ → ℕ
 triangularSample l c y x =
-    cond (eqb (l .rv) 1) (oneAxis (l .cw) (λ i. c i y) x)
-    (cond (eqb (l .rh) 1) (oneAxis (l .ch) (c x) y)
-    (bothAxes (l .cw) (l .ch) c x y))
+    cond (eqb (l .rv) 1) (oneAxis (l .cw) (c y) x)
+    (cond (eqb (l .rh) 1) (oneAxis (l .ch) (λ j. c j x) y)
+    (bothAxes (l .cw) (l .ch) c y x))
 
 -- 6: "triangular with ratios not (2,1), (1,2), (2,2), or rh 2 and cw at most 2"
 abbrev pub ratios : Layout → ℕ → ℕ → Bool

@@ -9,7 +9,7 @@ use Rattle.colour_rows.proofs.samples.luma_at.Statement.{statement}
 use Rattle.colour_rows.proofs.samples.luma_at.Tie as tie
 
 -- the sample lies within the plane
-inside : (c : tie.Start) → place (c .args .layout .«sample_bytes») (c .args .stride) (c .args .x) (c .args .row) + c .args .layout .«sample_bytes» ≤ length (c .args .plane .now)
+inside : (c : tie.Start) → place (c .args .layout .«sample_bytes») (c .args .stride) (c .args .row) (c .args .x) + c .args .layout .«sample_bytes» ≤ length (c .args .plane .now)
 inside c =
     let a = c .args in
     let l = a .layout in

@@ -9,7 +9,7 @@ use Rattle.guided_across.proofs.luma.row_sum.Statement.{statement}
 use Rattle.guided_across.proofs.luma.row_sum.Tie as tie
 
 abbrev Inv-loop : tie.InvT-loop
-Inv-loop plane stride x y n bytes t₀ i₀ t i = (i ≤ n) × (t ≤ 65535 * i) × Summed (λ dx. sampleAt bytes (planeOf plane stride) (x + dx) y) i t
+Inv-loop plane stride x y n bytes t₀ i₀ t i = (i ≤ n) × (t ≤ 65535 * i) × Summed (λ dx. sampleAt bytes (planeOf plane stride) y (x + dx)) i t
 
 abbrev μ-loop : tie.MeasureT-loop
 μ-loop plane stride x y n bytes t₀ i₀ t i = n - i

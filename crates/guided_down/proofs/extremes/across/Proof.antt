@@ -29,7 +29,7 @@ pick-word-requires-2 c κs = search needs
 returns : tie.Need-returns
 returns c =
     let a = c .before .before .before .before .before .before .before .before .args in
-    three-of (wholeOp (a .greatest)) (a .layout .cw) (λ q. sampleAt (a .layout .«sample_bytes») (planeOf (a .plane .now) (a .stride)) q (a .r)) (a .i) _ _ _ _ _ _ _
+    three-of (wholeOp (a .greatest)) (a .layout .cw) (λ q. sampleAt (a .layout .«sample_bytes») (planeOf (a .plane .now) (a .stride)) (a .r) q) (a .i) _ _ _ _ _ _ _
     (c .before .before .before .before .before .before .prev .ensures) (c .before .before .before .next .ensures) (c .before .before .before .before .before .whole-at .ensures) (c .before .before .before .before .whole-at2 .ensures) (c .before .before .whole-at3 .ensures) (c .before .pick-word .ensures) (c .pick-word2 .ensures)
 
 pub across-spec : {M : Type 1} → statement M

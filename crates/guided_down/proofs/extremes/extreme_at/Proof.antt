@@ -33,7 +33,7 @@ unfolding wholeExtreme
 returns c =
     let a = c .before .before .before .before .before .before .before .before .args in
     let p : Plane = record { bytes = a .plane .now; stride = a .stride } in
-    three-of (wholeOp (a .greatest)) (a .layout .ch) (λ r. threeN (wholeOp (a .greatest)) (a .layout .cw) (λ q. sampleAt (a .layout .«sample_bytes») p q r) (a .i)) (a .j) _ _ _ _ _ _ _
+    three-of (wholeOp (a .greatest)) (a .layout .ch) (λ r. threeN (wholeOp (a .greatest)) (a .layout .cw) (λ q. sampleAt (a .layout .«sample_bytes») p r q) (a .i)) (a .j) _ _ _ _ _ _ _
     (c .before .before .before .before .before .before .prev .ensures) (c .before .before .before .next .ensures) (c .before .before .before .before .before .across .ensures) (c .before .before .before .before .across2 .ensures) (c .before .before .across3 .ensures) (c .before .pick-word .ensures) (c .pick-word2 .ensures)
 
 pub extreme-at-spec : {M : Type 1} → statement M

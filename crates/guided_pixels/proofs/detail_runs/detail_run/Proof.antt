@@ -12,7 +12,7 @@ use Rattle.guided_pixels.proofs.detail_runs.detail_run.Statement.{state
 use Rattle.guided_pixels.proofs.detail_runs.detail_run.Tie as tie
 
 abbrev Inv-loop : tie.InvT-loop
-Inv-loop layout plane stride y s₀ src dst from n w h i₀ s i = (i ≤ n) × Run s₀ s (dst + from) i (λ k. detailOf layout (cellAt s₀ src) (f32 (sampleAt (layout .«sample_bytes») (planeOf plane stride) (from + k) y)) (from + k))
+Inv-loop layout plane stride y s₀ src dst from n w h i₀ s i = (i ≤ n) × Run s₀ s (dst + from) i (λ k. detailOf layout (cellAt s₀ src) (f32 (sampleAt (layout .«sample_bytes») (planeOf plane stride) y (from + k))) (from + k))
 
 abbrev μ-loop : tie.MeasureT-loop
 μ-loop layout plane stride y s₀ src dst from n w h i₀ s i = n - i
