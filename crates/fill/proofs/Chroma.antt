@@ -11,7 +11,9 @@ use Rattle.laws.proofs.Lists.{put-before}
 use Rattle.image.specs.declared.layout.Layout.{Layout}
 use Rattle.image.specs.Tests.{Sound}
 use Rattle.image.specs.Samples.{sampleAt}
-use Rattle.image.specs.Picture.{Chroma, Cb, Cr, Planes, chromaPlane, inside, pictureOf}
+use Rattle.image.specs.declared.chroma.Chroma.{Chroma}
+use Rattle.image.specs.declared.chroma.Chroma.the-variants.{Cb, Cr}
+use Rattle.image.specs.Picture.{Planes, chromaPlane, inside, pictureOf}
 use Rattle.image.proofs.Pictures.{inside-is}
 use Rattle.taps.specs.Taps.{tapOf, TapGiven}
 use Rattle.linear.specs.Linear.{linearDown, linearSample, linearRow}

@@ -7,7 +7,9 @@ use lib.Ieee.{Float}
 use Rattle.laws.specs.Refusals.{first, accepted}
 use Rattle.laws.specs.declared.answers.Answer.{Answer}
 use Rattle.image.specs.declared.layout.Layout.{Layout}
-use Rattle.image.specs.Picture.{Chroma, Cb, Cr, Picture, Planes, pictureOf}
+use Rattle.image.specs.declared.chroma.Chroma.{Chroma}
+use Rattle.image.specs.declared.chroma.Chroma.the-variants.{Cb, Cr}
+use Rattle.image.specs.Picture.{Picture, Planes, pictureOf}
 use Rattle.linear.specs.Linear.{linearSample, linearRow}
 use Rattle.guided.specs.Guided.{guidedSample}
 use Rattle.guided_rows.specs.CatchingUp.{guidedRows}

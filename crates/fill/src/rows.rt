@@ -12,6 +12,7 @@ ghost use Rattle.fill.specs.Fill.{fillColour, pixelRows, fillScratch};
 ghost use Rattle.fill.specs.Steps.{fillStep, FillLent};
 ghost use Rattle.image.specs.Samples.{planeOf};
 use crate::options::ChromaUpsampling;
+use image::Components;
 use image::Layout;
 use image::Strides;
 use kernels::YcbcrKernel;
@@ -39,7 +40,7 @@ fn chroma_row(
     n: usize,
     s: &mut [f32],
 )
-    requires { ⌜ Lent layout (planesOf (now y) (now cb) (now cr) strides) true ⌝ }
+    requires { ⌜ Lent layout (planesOf (now y) (now cb) (now cr) strides) Components.Both ⌝ }
     requires { ⌜ (first + n < layout .h) × (scratchNeed layout ≤ length (now s)) ⌝ }
     ensures { λ _. ⌜ now (s .exit) ≡ fillStep upsampling layout (planesOf (now (y .entry)) (now (cb .entry)) (now (cr .entry)) strides) first n (now (s .entry)) ⌝ }
 {
@@ -48,7 +49,7 @@ fn chroma_row(
             linear_pair(layout, cb, cr, strides, first + n, s);
         }
         ChromaUpsampling::LumaGuided => {
-            guided_rows::guided_step(layout, y, cb, cr, strides, true, first, n, s);
+            guided_rows::guided_step(layout, y, cb, cr, strides, Components::Both, first, n, s);
         }
     }
 }

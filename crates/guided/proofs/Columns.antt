@@ -9,7 +9,9 @@ use Rattle.laws.specs.Floats.{f32}
 use Rattle.laws.specs.Lists.{put}
 use Rattle.laws.proofs.Lists.{length-put, put-inside}
 use Rattle.image.specs.Tests.{Sound}
-use Rattle.image.specs.Picture.{Chroma, Cb, Cr, Picture}
+use Rattle.image.specs.declared.chroma.Chroma.{Chroma}
+use Rattle.image.specs.declared.chroma.Chroma.the-variants.{Cb, Cr}
+use Rattle.image.specs.Picture.{Picture}
 use Rattle.image.specs.Scratch.{scratchNeed, cellAt}
 use Rattle.guided.specs.Guided.{Across, Luma, Cell, acrossVal, downTo, detailOf, slope, guidedSample}
 use Rattle.guided.specs.Scratch.{finishedAt, detailAt, slotAt, columnAt, columnOf, Down, Slope, numAcross, numDown, readAcross, readDown, lumaColumn, detailRow, componentColumns}

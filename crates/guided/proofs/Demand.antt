@@ -14,7 +14,8 @@ use Rattle.laws.proofs.Refusals.{failed-accepted}
 use Rattle.laws.proofs.Lists.{table-at}
 use Rattle.image.specs.declared.layout.Layout.{Layout}
 use Rattle.image.specs.Samples.{sampleAt, sampleOf, place}
-use Rattle.image.specs.Picture.{Chroma, chromaPlane, inside, pictureOf, badPlanes}
+use Rattle.image.specs.declared.chroma.Chroma.{Chroma}
+use Rattle.image.specs.Picture.{chromaPlane, inside, pictureOf, badPlanes}
 use Rattle.image.proofs.Pictures.{sample-small}
 use Rattle.image.specs.Scratch.{scratchNeed}
 use Rattle.guided.specs.Guided.{guidedSample, guidedRow}

@@ -13,7 +13,8 @@ use Rattle.laws.specs.Floats.{f32}
 use Rattle.laws.proofs.Order.{not-nan-right}
 use Rattle.laws.proofs.Values.{whole-value}
 use Rattle.image.specs.declared.layout.Layout.{Layout}
-use Rattle.image.specs.Picture.{Chroma, Picture}
+use Rattle.image.specs.declared.chroma.Chroma.{Chroma}
+use Rattle.image.specs.Picture.{Picture}
 use Rattle.fround.specs.Rounding.{fmin, fmax}
 use Rattle.fround.proofs.Laws.{between}
 use Rattle.guided.specs.Guided.{three, extremeOf, extreme, valueOf, guidedSample}

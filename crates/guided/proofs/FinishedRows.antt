@@ -9,7 +9,8 @@ use lib.Ieee.{Float, nan}
 use Rattle.laws.specs.Floats.{f32}
 use Rattle.laws.proofs.Lists.{length-put, put-inside}
 use Rattle.image.specs.Tests.{Sound}
-use Rattle.image.specs.Picture.{Chroma, Picture}
+use Rattle.image.specs.declared.chroma.Chroma.{Chroma}
+use Rattle.image.specs.Picture.{Picture}
 use Rattle.fround.specs.Rounding.{fmin, fmax}
 use Rattle.image.specs.Scratch.{cellAt}
 use Rattle.guided.specs.Guided.{Luma, Cell, acrossVal, extreme, downTo, detailOf, valueOf, slope, guidedSample}

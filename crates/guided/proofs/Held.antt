@@ -9,7 +9,9 @@ use lib.ListN.{length, getD}
 use lib.Ieee.{Float}
 use Rattle.laws.specs.Lists.{put}
 use Rattle.laws.proofs.Lists.{length-put}
-use Rattle.image.specs.Picture.{Chroma, Cb, Cr, Picture}
+use Rattle.image.specs.declared.chroma.Chroma.{Chroma}
+use Rattle.image.specs.declared.chroma.Chroma.the-variants.{Cb, Cr}
+use Rattle.image.specs.Picture.{Picture}
 use Rattle.fround.specs.Rounding.{fmin, fmax}
 use Rattle.image.specs.Scratch.{scratchNeed, cellAt}
 use Rattle.guided.specs.Guided.{Across, Luma, LumaSum, SquareSum, Cell, CellSum, ProductSum, acrossVal, extreme, slope}

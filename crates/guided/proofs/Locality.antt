@@ -6,7 +6,8 @@ use native.Mathlib.Omega.{arith}
 use lib.Ieee.{Float}
 use Rattle.laws.specs.Floats.{f32, _⊕_, _⊗_}
 use Rattle.image.specs.Tests.{Sound}
-use Rattle.image.specs.Picture.{Chroma, Picture}
+use Rattle.image.specs.declared.chroma.Chroma.{Chroma}
+use Rattle.image.specs.Picture.{Picture}
 use Rattle.fround.specs.Rounding.{fmin, fmax}
 use Rattle.guided.specs.Guided.{sumTo, three, Across, Luma, LumaSum, SquareSum, Cell, CellSum, ProductSum, lumaOf, extremeOf, cellLuma, cellOf, acrossVal, extreme, slope, downTo, guidedSample}
 use Rattle.guided.specs.Events.{Near, AlikeNear}

@@ -14,7 +14,8 @@ use Rattle.laws.specs.Lists.{put}
 use Rattle.laws.proofs.Lists.{length-put, put-before, put-inside, put-after}
 use Rattle.laws.proofs.Rows.{row-fits}
 use Rattle.image.specs.declared.layout.Layout.{Layout}
-use Rattle.image.specs.Picture.{Chroma, Cb, Cr}
+use Rattle.image.specs.declared.chroma.Chroma.{Chroma}
+use Rattle.image.specs.declared.chroma.Chroma.the-variants.{Cb, Cr}
 use Rattle.image.specs.Scratch.{scratchNeed, cellAt}
 use Rattle.guided.specs.Scratch.{finishedAt, detailAt, pitch, bufferAt, slotAt, firstOf, columnAt}
 

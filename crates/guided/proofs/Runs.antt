@@ -13,7 +13,9 @@ use Rattle.laws.proofs.Lists.{take-put, table-same}
 use Rattle.image.specs.declared.layout.Layout.{Layout}
 use Rattle.image.specs.Tests.{Sound}
 use Rattle.image.specs.Samples.{sampleAt}
-use Rattle.image.specs.Picture.{Chroma, Cb, Cr, Planes, chromaPlane, inside, pictureOf, badPlanes}
+use Rattle.image.specs.declared.chroma.Chroma.{Chroma}
+use Rattle.image.specs.declared.chroma.Chroma.the-variants.{Cb, Cr}
+use Rattle.image.specs.Picture.{Planes, chromaPlane, inside, pictureOf, badPlanes}
 use Rattle.image.proofs.Pictures.{inside-is, padding-unseen}
 use Rattle.image.specs.Scratch.{cellAt}
 use Rattle.guided.specs.declared.state.Reader.{Reader}

@@ -9,7 +9,8 @@ use lib.ListN.{length}
 use lib.Ieee.{Float}
 use Rattle.laws.specs.Lists.{put}
 use Rattle.laws.proofs.Lists.{length-put}
-use Rattle.image.specs.Picture.{Chroma, Picture}
+use Rattle.image.specs.declared.chroma.Chroma.{Chroma}
+use Rattle.image.specs.Picture.{Picture}
 use Rattle.image.specs.Scratch.{scratchNeed, cellAt}
 use Rattle.guided.specs.Guided.{Across, LumaSum, SquareSum, CellSum, ProductSum, acrossVal, slope}
 use Rattle.guided.specs.Scratch.{bufferAt, slotAt, Down, Slope, Least, Greatest, numAcross, numDown, readAcross, readDown, parts, downs, downOf, downOver, horizontal, finish}

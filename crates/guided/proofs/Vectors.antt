@@ -6,7 +6,8 @@ use lib.Ieee.{binary32, add, sub, sum, neg, mul, div, round, size, span, climb, 
 use lib.Count.{trailingZeros}
 use Rattle.laws.specs.Lists.{table}
 use Rattle.image.specs.Samples.{sampleOf, sampleAt}
-use Rattle.image.specs.Picture.{Cb, Picture, inside, pictureOf}
+use Rattle.image.specs.declared.chroma.Chroma.the-variants.{Cb}
+use Rattle.image.specs.Picture.{Picture, inside, pictureOf}
 use Rattle.taps.specs.Taps.{spotAt, spotOf, tapOf, phaseOf}
 use Rattle.guided.specs.Guided.{sumTo, three, lumaOf, extremeOf, cellLuma, cellOf, acrossVal, extreme, epsilon, mean, slopeOf, downTo, acrossTo, detailOf, valueOf, slope, guidedSample, guidedRow}
 

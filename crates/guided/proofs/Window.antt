@@ -9,7 +9,8 @@ use lib.ListN.{length}
 use lib.Ieee.{Float}
 use Rattle.image.specs.declared.layout.Layout.{Layout}
 use Rattle.image.specs.Tests.{Sound}
-use Rattle.image.specs.Picture.{Chroma, Picture}
+use Rattle.image.specs.declared.chroma.Chroma.{Chroma}
+use Rattle.image.specs.Picture.{Picture}
 use Rattle.image.specs.Scratch.{scratchNeed}
 use Rattle.guided.specs.Scratch.{horizontal, finish, hsteps, hAt, fsteps}
 use Rattle.guided.specs.Calls.{topOf, lastOf, freshH, freshF, doneH, doneF}

@@ -15,7 +15,8 @@ use Rattle.laws.proofs.Refusals.{Failed, failed-accepted}
 use Rattle.image.specs.declared.layout.Layout.{Layout}
 use Rattle.image.specs.Tests.{badSize, badRatio, badSamples, divCeil, badChroma, layoutTests, badPlane}
 use Rattle.image.specs.Samples.{sampleOf, sampleAt}
-use Rattle.image.specs.Picture.{Cb, Cr, Planes, inside, pictureOf, shortPlane, badPlanes}
+use Rattle.image.specs.declared.chroma.Chroma.the-variants.{Cb, Cr}
+use Rattle.image.specs.Picture.{Planes, inside, pictureOf, shortPlane, badPlanes}
 use Rattle.taps.specs.Taps.{spotAt, spotOf, tapOf, phaseOf}
 use Rattle.image.specs.Scratch.{scratchNeed}
 use Rattle.guided.specs.declared.state.Reader.{Reader}

@@ -13,7 +13,9 @@ use Rattle.laws.specs.Refusals.{Test, first, accepted}
 use Rattle.image.specs.declared.layout.Layout.{Layout}
 use Rattle.image.specs.Tests.{layoutTests}
 use Rattle.image.specs.Samples.{Plane}
-use Rattle.image.specs.Picture.{Chroma, Cb, Cr, Picture, Planes, chromaPlane, pictureOf, badPlanes}
+use Rattle.image.specs.declared.chroma.Chroma.{Chroma}
+use Rattle.image.specs.declared.chroma.Chroma.the-variants.{Cb, Cr}
+use Rattle.image.specs.Picture.{Picture, Planes, chromaPlane, pictureOf, badPlanes}
 use Rattle.fround.specs.Rounding.{sameFloat}
 use Rattle.taps.specs.declared.phases.Phase.{Phase}
 use Rattle.taps.specs.Taps.{tapOf, phaseAt, phasesOf}

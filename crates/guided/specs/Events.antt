@@ -10,7 +10,9 @@ use Rattle.laws.specs.Floats.{f32}
 use Rattle.laws.specs.Refusals.{accepted}
 use Rattle.image.specs.declared.layout.Layout.{Layout}
 use Rattle.image.specs.Samples.{sampleAt}
-use Rattle.image.specs.Picture.{Chroma, Cb, Cr, Picture, Planes, chromaPlane, pictureOf}
+use Rattle.image.specs.declared.chroma.Chroma.{Chroma}
+use Rattle.image.specs.declared.chroma.Chroma.the-variants.{Cb, Cr}
+use Rattle.image.specs.Picture.{Picture, Planes, chromaPlane, pictureOf}
 use Rattle.guided.specs.declared.state.Reader.{Reader}
 use Rattle.guided.specs.declared.state.Reply.{Reply}
 use Rattle.guided.specs.Guided.{guidedRow}

@@ -6,7 +6,8 @@ use lib.Ieee.{Float}
 use Rattle.laws.specs.Floats.{f32, _⊕_, _⊖_, _⊗_, _⊘_}
 use Rattle.laws.specs.Lists.{table}
 use Rattle.image.specs.declared.layout.Layout.{Layout}
-use Rattle.image.specs.Picture.{Chroma, Picture}
+use Rattle.image.specs.declared.chroma.Chroma.{Chroma}
+use Rattle.image.specs.Picture.{Picture}
 use Rattle.fround.specs.Rounding.{fmin, fmax}
 use Rattle.taps.specs.declared.positions.Tap.{Tap}
 use Rattle.taps.specs.declared.phases.Phase.{Phase}

@@ -12,7 +12,9 @@ use Rattle.laws.specs.Lists.{put}
 use Rattle.laws.proofs.Lists.{put-same, put-inside, put-before}
 use Rattle.image.specs.declared.layout.Layout.{Layout}
 use Rattle.image.specs.Samples.{Plane, sampleAt}
-use Rattle.image.specs.Picture.{Chroma, Cb, Cr, Picture, Planes, chromaPlane, pictureOf}
+use Rattle.image.specs.declared.chroma.Chroma.{Chroma}
+use Rattle.image.specs.declared.chroma.Chroma.the-variants.{Cb, Cr}
+use Rattle.image.specs.Picture.{Picture, Planes, chromaPlane, pictureOf}
 use Rattle.image.proofs.Pictures.{inside-is}
 use Rattle.image.specs.Scratch.{scratchNeed, cellAt}
 use Rattle.guided.specs.Guided.{three, lumaOf, cellLuma, cellOf, acrossVal}
@@ -21,7 +23,8 @@ use Rattle.guided_across.specs.Sums.{loadRun, cellsAt, productsAt, three
 use Rattle.guided_across.specs.Luma.{lumaRow}
 use Rattle.guided_across.specs.declared.across.Slots.{Slots}
 use Rattle.guided_across.specs.Parts.{SlotsGiven, statRows, lumaPart, chromaPart}
-use Rattle.guided_window.specs.Lent.{components}
+use Rattle.image.specs.declared.chroma.Components.the-variants.{CbAlone, Both}
+use Rattle.guided_window.specs.Lent.{componentsOf}
 use Rattle.guided_across.proofs.Threes.{three-same}
 use Rattle.guided_across.proofs.Areas.{luma-inside}
 use Rattle.guided.proofs.Places.{slot-fits, slot-order}
@@ -145,22 +148,22 @@ module _ (l : Layout) (ps : Planes) (j : ℕ) where
   unfolding chromaAcross
   luma-kept s o = stat-kept l 3 j s (λ i. cellOf picture Cb j i) (λ i. luma i ⊗ cellOf picture Cb j i) luma 0 (lit< tt) o
 
-  one-is : (s : List Float) → chromaAcross Cb (lumaAcross s) ≡ horizontal picture (components false) j s
+  one-is : (s : List Float) → chromaAcross Cb (lumaAcross s) ≡ horizontal picture (componentsOf CbAlone) j s
   unfolding chromaAcross lumaAcross statRows horizontal parts chromaParts acrossOver acrossVal pictureOf
   one-is s = refl
 
   pub horizontal-one : (s : List Float) → j < l .ch → scratchNeed l ≤ length s
-      → chromaPart l (sampleAt (l .«sample_bytes») (ps .cb)) Cb j (lumaPart l (sampleAt (l .«sample_bytes») (ps .y)) j s) ≡ horizontal picture (components false) j s
+      → chromaPart l (sampleAt (l .«sample_bytes») (ps .cb)) Cb j (lumaPart l (sampleAt (l .«sample_bytes») (ps .y)) j s) ≡ horizontal picture (componentsOf CbAlone) j s
   horizontal-one s d h =
       ap (chromaPart l (sampleAt (l .«sample_bytes») (ps .cb)) Cb j) (luma-across s) ∙ chroma-across Cb (lumaAcross s) d (luma-row s h) ∙ one-is s
 
-  both-is : (s : List Float) → chromaAcross Cr (chromaAcross Cb (lumaAcross s)) ≡ horizontal picture (components true) j s
+  both-is : (s : List Float) → chromaAcross Cr (chromaAcross Cb (lumaAcross s)) ≡ horizontal picture (componentsOf Both) j s
   unfolding chromaAcross lumaAcross statRows horizontal parts chromaParts acrossOver acrossVal pictureOf
   both-is s = refl
 
   pub horizontal-both : (s : List Float) → j < l .ch → scratchNeed l ≤ length s
       → chromaPart l (sampleAt (l .«sample_bytes») (ps .cr)) Cr j (chromaPart l (sampleAt (l .«sample_bytes») (ps .cb)) Cb j (lumaPart l (sampleAt (l .«sample_bytes») (ps .y)) j s))
-      ≡ horizontal picture (components true) j s
+      ≡ horizontal picture (componentsOf Both) j s
   horizontal-both s d h =
       ap (λ (xs : List Float). chromaPart l (sampleAt (l .«sample_bytes») (ps .cr)) Cr j (chromaPart l (sampleAt (l .«sample_bytes») (ps .cb)) Cb j xs)) (luma-across s)
       ∙ ap (chromaPart l (sampleAt (l .«sample_bytes») (ps .cr)) Cr j) (chroma-across Cb (lumaAcross s) d (luma-row s h))

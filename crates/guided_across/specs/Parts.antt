@@ -6,7 +6,7 @@ use lib.Ieee.{Float}
 use Rattle.laws.specs.Floats.{f32, _⊕_, _⊗_}
 use Rattle.laws.specs.Lists.{put}
 use Rattle.image.specs.declared.layout.Layout.{Layout}
-use Rattle.image.specs.Picture.{Chroma}
+use Rattle.image.specs.declared.chroma.Chroma.{Chroma}
 use Rattle.image.specs.Scratch.{scratchNeed, cellAt}
 use Rattle.guided.specs.Guided.{three, lumaOf}
 use Rattle.guided.specs.Scratch.{slotAt, firstOf}

@@ -8,7 +8,7 @@ ghost use Rattle.image.specs.Picture.{Planes, pictureOf, planesOf};
 ghost use Rattle.image.specs.Scratch.{scratchNeed};
 ghost use Rattle.guided.specs.Scratch.{horizontal};
 ghost use Rattle.guided_across.specs.Luma.{Cells};
-ghost use Rattle.guided_window.specs.Lent.{chromaOf, ChromaCells, Lent, components};
+ghost use Rattle.guided_window.specs.Lent.{ChromaCells, Lent, componentsOf};
 ghost use Rattle.guided_across.specs.Parts.{SlotsGiven, lumaPart, chromaPart};
 use crate::luma::luma_row;
 use crate::sums::load_row;
@@ -16,6 +16,8 @@ use crate::sums::product_sum_row;
 use crate::sums::sum_row;
 use guided_window::first_of;
 use guided_window::slot_at;
+use image::Chroma;
+use image::Components;
 use image::Layout;
 use image::Strides;
 
@@ -53,13 +55,13 @@ fn luma_part(layout: Layout, plane: &[u8], stride: usize, j: usize, s: &mut [f32
 }
 
 // A component's rows of chroma row j: the samples, their sums, and the sums of their products with the luma that scratch holds.
-fn chroma_part(layout: Layout, plane: &[u8], stride: usize, cr: bool, j: usize, s: &mut [f32])
+fn chroma_part(layout: Layout, plane: &[u8], stride: usize, k: Chroma, j: usize, s: &mut [f32])
     requires { ⌜ ChromaCells layout (planeOf (now plane) stride) ⌝ }
     requires { ⌜ (j < layout .ch) × (scratchNeed layout ≤ length (now s)) ⌝ }
-    ensures { λ _. ⌜ now (s .exit) ≡ chromaPart layout (sampleAt (layout .«sample_bytes») (planeOf (now (plane .entry)) stride)) (chromaOf cr) j (now (s .entry)) ⌝ }
+    ensures { λ _. ⌜ now (s .exit) ≡ chromaPart layout (sampleAt (layout .«sample_bytes») (planeOf (now (plane .entry)) stride)) k j (now (s .entry)) ⌝ }
 {
     let y = slot_at(layout, 0, j);
-    let t = slots_at(layout, first_of(cr), j);
+    let t = slots_at(layout, first_of(k), j);
     let c = t.at;
     let cw = layout.cw;
     load_row(plane, layout.sample_bytes, j * stride, cw, s, c);
@@ -67,25 +69,25 @@ fn chroma_part(layout: Layout, plane: &[u8], stride: usize, cr: bool, j: usize, 
     product_sum_row(s, y, c, cw, t.products);
 }
 
-// Inner: chroma row j across: luma's rows, those of Cb, and where `both` holds those of Cr.
+// Inner: chroma row j across: luma's rows, those of Cb, and those of Cr where both are asked for.
 pub fn horizontal(
     layout: Layout,
     y: &[u8],
     cb: &[u8],
     cr: &[u8],
     strides: Strides,
-    both: bool,
+    components: Components,
     j: usize,
     s: &mut [f32],
 )
-    requires { ⌜ Lent layout (planesOf (now y) (now cb) (now cr) strides) both ⌝ }
+    requires { ⌜ Lent layout (planesOf (now y) (now cb) (now cr) strides) components ⌝ }
     requires { ⌜ (j < layout .ch) × (scratchNeed layout ≤ length (now s)) ⌝ }
-    ensures { λ _. ⌜ now (s .exit) ≡ horizontal (pictureOf layout (planesOf (now (y .entry)) (now (cb .entry)) (now (cr .entry)) strides)) (components both) j (now (s .entry)) ⌝ }
+    ensures { λ _. ⌜ now (s .exit) ≡ horizontal (pictureOf layout (planesOf (now (y .entry)) (now (cb .entry)) (now (cr .entry)) strides)) (componentsOf components) j (now (s .entry)) ⌝ }
 {
     luma_part(layout, y, strides.y, j, s);
-    chroma_part(layout, cb, strides.cb, false, j, s);
-    if !both {
+    chroma_part(layout, cb, strides.cb, Chroma::Cb, j, s);
+    let Components::Both = components else {
         return;
-    }
-    chroma_part(layout, cr, strides.cr, true, j, s);
+    };
+    chroma_part(layout, cr, strides.cr, Chroma::Cr, j, s);
 }

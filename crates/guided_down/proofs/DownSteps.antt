@@ -9,7 +9,9 @@ use Rattle.laws.specs.Lists.{put}
 use Rattle.laws.proofs.Lists.{put-same}
 use Rattle.image.specs.declared.layout.Layout.{Layout}
 use Rattle.image.specs.Samples.{Plane, sampleAt}
-use Rattle.image.specs.Picture.{Chroma, Cb, Cr, Planes, chromaPlane, inside, pictureOf}
+use Rattle.image.specs.declared.chroma.Chroma.{Chroma}
+use Rattle.image.specs.declared.chroma.Chroma.the-variants.{Cb, Cr}
+use Rattle.image.specs.Picture.{Planes, chromaPlane, inside, pictureOf}
 use Rattle.image.proofs.Pictures.{inside-is}
 use Rattle.fround.specs.Rounding.{fmin, fmax}
 use Rattle.guided.specs.Guided.{extremeOf, extreme}

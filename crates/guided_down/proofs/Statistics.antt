@@ -14,7 +14,7 @@ use Rattle.guided_down.specs.declared.slopes.Stats.{Stats}
 use Rattle.guided_down.specs.Slopes.{slopeBy, meanAt, slopeAt, slopeRun, Inside, AllInside, Apart, ClearOf, Clear, statsOf, slopeRow}
 use lib.Dec.{lit<}
 use Rattle.image.specs.declared.layout.Layout.{Layout}
-use Rattle.image.specs.Picture.{Chroma}
+use Rattle.image.specs.declared.chroma.Chroma.{Chroma}
 use Rattle.guided.specs.Guided.{three, mean, slopeOf, epsilon}
 use Rattle.guided.specs.Scratch.{slotAt, firstOf, Slope, numDown, readAcross}
 use Rattle.guided_window.specs.Buffers.{windowOf}

@@ -5,7 +5,7 @@ use Prim.Native.Nat.{ℕ}
 use lib.Ieee.{Float}
 use Rattle.image.specs.declared.layout.Layout.{Layout}
 use Rattle.image.specs.Samples.{Plane}
-use Rattle.image.specs.Picture.{Chroma}
+use Rattle.image.specs.declared.chroma.Chroma.{Chroma}
 use Rattle.guided.specs.Scratch.{slotAt, Least, Greatest, numDown}
 use Rattle.guided_down.specs.Extremes.{extremeRow}
 use Rattle.guided_down.specs.Slopes.{slopeRow}

@@ -8,7 +8,7 @@ use Rattle.laws.specs.Lists.{put}
 use Rattle.fround.specs.Rounding.{fmax}
 use Rattle.image.specs.Scratch.{cellAt}
 use Rattle.image.specs.declared.layout.Layout.{Layout}
-use Rattle.image.specs.Picture.{Chroma}
+use Rattle.image.specs.declared.chroma.Chroma.{Chroma}
 use Rattle.guided.specs.Guided.{LumaSum, SquareSum, CellSum, ProductSum, slopeOf}
 use Rattle.guided.specs.Scratch.{slotAt, Slope, numAcross, numDown, readAcross}
 use Rattle.guided_window.specs.Buffers.{windowOf}

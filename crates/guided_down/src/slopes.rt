@@ -7,7 +7,6 @@ ghost use Rattle.laws.specs.Lists.{put};
 ghost use Rattle.laws.specs.Floats.{f32, _⊕_, _⊗_, _⊘_};
 ghost use Rattle.guided.specs.Guided.{epsilon};
 ghost use Rattle.guided_down.specs.Slopes.{slopeBy, meanAt, slopeAt, slopeRun, Inside, AllInside, Clear, statsOf, slopeRow};
-ghost use Rattle.guided_window.specs.Lent.{chromaOf};
 ghost use Rattle.image.specs.Tests.{Sound};
 ghost use Rattle.image.specs.Scratch.{scratchNeed};
 use guided::Geometry;
@@ -15,6 +14,7 @@ use guided_window::Window;
 use guided_window::first_of;
 use guided_window::slot_at;
 use guided_window::window_at;
+use image::Chroma;
 use image::Layout;
 
 // The sums that a slope is made of: of luma, its squares, a component, and its products with luma.
@@ -128,11 +128,11 @@ fn slope_cells(s: &mut [f32], t: Stats, eps: f32, n: usize, dst: usize)
 }
 
 // The sums round chroma row j that a component's slopes are made of.
-fn stats_at(layout: Layout, cr: bool, j: usize) -> Stats
+fn stats_at(layout: Layout, k: Chroma, j: usize) -> Stats
     requires { ⌜ Sound layout × (j < layout .ch) ⌝ }
-    ensures { λ t. ⌜ t ≡ statsOf layout (chromaOf cr) j ⌝ }
+    ensures { λ t. ⌜ t ≡ statsOf layout k j ⌝ }
 {
-    let first = first_of(cr);
+    let first = first_of(k);
     Stats {
         y: window_at(layout, 1, j),
         yy: window_at(layout, 2, j),
@@ -142,11 +142,11 @@ fn stats_at(layout: Layout, cr: bool, j: usize) -> Stats
 }
 
 // Inner: the slopes of a component's chroma row j, from the sums that scratch holds, to their row buffer.
-pub fn slope_row(layout: Layout, cr: bool, j: usize, s: &mut [f32])
+pub fn slope_row(layout: Layout, k: Chroma, j: usize, s: &mut [f32])
     requires { ⌜ Sound layout × (j < layout .ch) × (scratchNeed layout ≤ length (now s)) ⌝ }
-    ensures { λ _. ⌜ now (s .exit) ≡ slopeRow layout (chromaOf cr) j (now (s .entry)) ⌝ }
+    ensures { λ _. ⌜ now (s .exit) ≡ slopeRow layout k j (now (s .entry)) ⌝ }
 {
-    let t = stats_at(layout, cr, j);
-    let dst = slot_at(layout, first_of(cr) + 3, j);
+    let t = stats_at(layout, k, j);
+    let dst = slot_at(layout, first_of(k) + 3, j);
     slope_cells(s, t, epsilon_of(layout), layout.cw, dst);
 }

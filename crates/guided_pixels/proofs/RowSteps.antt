@@ -7,7 +7,9 @@ use Rattle.laws.specs.Floats.{f32}
 use Rattle.laws.proofs.Lists.{put-same}
 use Rattle.image.specs.declared.layout.Layout.{Layout}
 use Rattle.image.specs.Samples.{sampleAt}
-use Rattle.image.specs.Picture.{Chroma, Cb, Cr, Planes, pictureOf}
+use Rattle.image.specs.declared.chroma.Chroma.{Chroma}
+use Rattle.image.specs.declared.chroma.Chroma.the-variants.{Cb, Cr}
+use Rattle.image.specs.Picture.{Planes, pictureOf}
 use Rattle.image.proofs.Pictures.{inside-is}
 use Rattle.image.specs.Scratch.{cellAt}
 use Rattle.guided.specs.Guided.{detailOf}

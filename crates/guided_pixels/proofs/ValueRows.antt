@@ -11,7 +11,8 @@ use Rattle.laws.specs.Lists.{put}
 use Rattle.laws.proofs.Lists.{put-same}
 use Rattle.image.specs.declared.layout.Layout.{Layout}
 use Rattle.image.specs.Tests.{Sound}
-use Rattle.image.specs.Picture.{Chroma, Cb, Cr}
+use Rattle.image.specs.declared.chroma.Chroma.{Chroma}
+use Rattle.image.specs.declared.chroma.Chroma.the-variants.{Cb, Cr}
 use Rattle.fround.specs.Rounding.{fmin, fmax}
 use Rattle.image.specs.Scratch.{cellAt, scratchNeed}
 use Rattle.guided.specs.Guided.{acrossTo, valueOf}

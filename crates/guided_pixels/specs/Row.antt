@@ -3,7 +3,8 @@ use mathlib.Core.List.{List}
 use Prim.Native.Nat.{ℕ, _+_, _/_}
 use lib.Ieee.{Float}
 use Rattle.image.specs.declared.layout.Layout.{Layout}
-use Rattle.image.specs.Picture.{Chroma, Picture}
+use Rattle.image.specs.declared.chroma.Chroma.{Chroma}
+use Rattle.image.specs.Picture.{Picture}
 use Rattle.guided.specs.Guided.{Cell}
 use Rattle.guided.specs.Scratch.{numAcross, Slope, numDown, columnOf, lumaColumn, detailRow, componentsOver}
 use Rattle.guided_pixels.specs.Columns.{downColumn}

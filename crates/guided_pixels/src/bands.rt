@@ -4,8 +4,8 @@ ghost use Prim.Native.Nat.{_≤_};
 ghost use Rattle.image.specs.Tests.{Sound};
 ghost use Rattle.fround.specs.Rounding.{fmin, fmax};
 ghost use Rattle.guided.specs.Scratch.{finishedAt, columnOf};
-ghost use Rattle.guided_window.specs.Lent.{chromaOf};
 ghost use Rattle.guided_pixels.specs.Values.{bandsOf};
+use image::Chroma;
 use image::Layout;
 
 // Where a component's two rows of cells of a picture row begin, and its extremes of a chroma row.
@@ -17,29 +17,32 @@ pub struct Bands {
 }
 
 // Inner: the number of a component's first row of cells.
-pub fn column_of(cr: bool) -> usize
-    ensures { λ r. ⌜ (r ≡ columnOf (chromaOf cr)) × (r ≤ 3) ⌝ }
+pub fn column_of(k: Chroma) -> usize
+    ensures { λ r. ⌜ (r ≡ columnOf k) × (r ≤ 3) ⌝ }
 {
-    if cr { 3 } else { 1 }
+    match k {
+        Chroma::Cb => 1,
+        Chroma::Cr => 3,
+    }
 }
 
 // Inner: where a component's finished row begins.
-pub fn finished_at(layout: Layout, cr: bool) -> usize
-    ensures { λ r. ⌜ r ≡ finishedAt layout (chromaOf cr) ⌝ }
+pub fn finished_at(layout: Layout, k: Chroma) -> usize
+    ensures { λ r. ⌜ r ≡ finishedAt layout k ⌝ }
 {
-    if cr {
-        return layout.w;
+    match k {
+        Chroma::Cb => 0,
+        Chroma::Cr => layout.w,
     }
-    0
 }
 
 // Inner: where they begin, the extremes being those of chroma row j.
-pub fn bands_of(layout: Layout, cr: bool, j: usize) -> Bands
+pub fn bands_of(layout: Layout, k: Chroma, j: usize) -> Bands
     requires { ⌜ Sound layout ⌝ }
-    ensures { λ t. ⌜ t ≡ bandsOf layout (chromaOf cr) j ⌝ }
+    ensures { λ t. ⌜ t ≡ bandsOf layout k j ⌝ }
 {
-    let m = column_of(cr);
-    let n = guided_window::first_of(cr);
+    let m = column_of(k);
+    let n = guided_window::first_of(k);
     Bands {
         cells: crate::columns::column_at(layout, m),
         slopes: crate::columns::column_at(layout, m + 1),

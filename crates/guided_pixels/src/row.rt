@@ -7,44 +7,53 @@ ghost use Rattle.image.specs.Samples.{Plane, planeOf};
 ghost use Rattle.image.specs.Picture.{Planes, pictureOf};
 ghost use Rattle.image.specs.Scratch.{scratchNeed};
 ghost use Rattle.guided_across.specs.Luma.{Cells};
-ghost use Rattle.guided_window.specs.Lent.{chromaOf, components};
+ghost use Rattle.guided_window.specs.Lent.{componentsOf};
 ghost use Rattle.guided_pixels.specs.Row.{downsOf, componentRow, windowRow};
 use crate::bands::column_of;
 use crate::columns::down_column;
 use crate::details::detail_row;
 use crate::values::value_row;
+use image::Chroma;
+use image::Components;
 use image::Layout;
 
 // A component's samples and slopes, lerped down for row y.
-fn downs(layout: Layout, cr: bool, y: usize, s: &mut [f32])
+fn downs(layout: Layout, k: Chroma, y: usize, s: &mut [f32])
     requires { ⌜ Sound layout × (y < layout .h) × (scratchNeed layout ≤ length (now s)) ⌝ }
-    ensures { λ _. ⌜ now (s .exit) ≡ downsOf layout (chromaOf cr) y (now (s .entry)) ⌝ }
+    ensures { λ _. ⌜ now (s .exit) ≡ downsOf layout k y (now (s .entry)) ⌝ }
 {
-    let n = guided_window::first_of(cr);
-    let m = column_of(cr);
+    let n = guided_window::first_of(k);
+    let m = column_of(k);
     down_column(layout, n, m, y, s);
     down_column(layout, n + 3, m + 1, y, s);
 }
 
 // A component's rows of cells of row y, and its finished row.
-fn component(layout: Layout, cr: bool, y: usize, s: &mut [f32])
+fn component(layout: Layout, k: Chroma, y: usize, s: &mut [f32])
     requires { ⌜ Sound layout × (y < layout .h) × (scratchNeed layout ≤ length (now s)) ⌝ }
-    ensures { λ _. ⌜ now (s .exit) ≡ componentRow layout (chromaOf cr) y (now (s .entry)) ⌝ }
+    ensures { λ _. ⌜ now (s .exit) ≡ componentRow layout k y (now (s .entry)) ⌝ }
 {
-    downs(layout, cr, y, s);
-    value_row(layout, cr, y / layout.rv, s);
+    downs(layout, k, y, s);
+    value_row(layout, k, y / layout.rv, s);
 }
 
-// Inner: row `row` of Cb, and where `both` holds of Cr, from the window that scratch holds: no chroma plane is looked at.
-pub fn guided_row(layout: Layout, y: &[u8], y_stride: usize, both: bool, row: usize, s: &mut [f32])
+// Inner: row `row` of Cb, and of Cr where both are asked for, from the window that scratch holds: no chroma plane is looked at.
+pub fn guided_row(
+    layout: Layout,
+    y: &[u8],
+    y_stride: usize,
+    components: Components,
+    row: usize,
+    s: &mut [f32],
+)
     requires { ⌜ Cells layout (planeOf (now y) «y_stride») × (row < layout .h) × (scratchNeed layout ≤ length (now s)) ⌝ }
-    ensures { λ _. ⌜ ((cb cr : Plane) → now (s .exit) ≡ windowRow (pictureOf layout (record { y = planeOf (now (y .entry)) «y_stride»; cb = cb; cr = cr })) (components both) row (now (s .entry))) ⌝ }
+    ensures { λ _. ⌜ ((cb cr : Plane) → now (s .exit) ≡ windowRow (pictureOf layout (record { y = planeOf (now (y .entry)) «y_stride»; cb = cb; cr = cr })) (componentsOf components) row (now (s .entry))) ⌝ }
 {
     down_column(layout, 0, 0, row, s);
     detail_row(layout, y, y_stride, row, s);
-    component(layout, false, row, s);
-    if !both {
+    component(layout, Chroma::Cb, row, s);
+    let Components::Both = components else {
         return;
-    }
-    component(layout, true, row, s);
+    };
+    component(layout, Chroma::Cr, row, s);
 }

@@ -5,7 +5,6 @@ ghost use lib.ListN.{length};
 ghost use Rattle.image.specs.Tests.{Sound};
 ghost use Rattle.image.specs.Scratch.{scratchNeed};
 ghost use Rattle.taps.specs.Taps.{phasesOf};
-ghost use Rattle.guided_window.specs.Lent.{chromaOf};
 ghost use Rattle.guided_pixels.specs.Values.{BandsInside, valueAt, valueRun, valueRow};
 use crate::bands::Bands;
 use crate::bands::bands_of;
@@ -14,6 +13,7 @@ use crate::bands::limited;
 use crate::pairs::cell_at;
 use crate::value_runs::value_run;
 use crate::value_twos::value_twos;
+use image::Chroma;
 use image::Layout;
 use taps::Phase;
 
@@ -119,11 +119,11 @@ fn value_cells(layout: Layout, s: &mut [f32], t: Bands, dst: usize)
 }
 
 // Inner: a component's finished row, from its rows of cells, its extremes of chroma row j, and the detail.
-pub fn value_row(layout: Layout, cr: bool, j: usize, s: &mut [f32])
+pub fn value_row(layout: Layout, k: Chroma, j: usize, s: &mut [f32])
     requires { ⌜ Sound layout × (scratchNeed layout ≤ length (now s)) ⌝ }
-    ensures { λ _. ⌜ now (s .exit) ≡ valueRow layout (chromaOf cr) j (now (s .entry)) ⌝ }
+    ensures { λ _. ⌜ now (s .exit) ≡ valueRow layout k j (now (s .entry)) ⌝ }
 {
-    let t = bands_of(layout, cr, j);
-    let dst = finished_at(layout, cr);
+    let t = bands_of(layout, k, j);
+    let dst = finished_at(layout, k);
     value_cells(layout, s, t, dst);
 }

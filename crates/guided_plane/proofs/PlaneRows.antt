@@ -14,10 +14,12 @@ use Rattle.laws.specs.Lists.{put}
 use Rattle.laws.specs.Refusals.{Test, first}
 use Rattle.laws.proofs.Lists.{put-same}
 use Rattle.laws.proofs.Refusals.{accepted-failed, failed-both}
+use Rattle.image.specs.declared.chroma.Components.the-variants.{CbAlone}
 use Rattle.image.specs.declared.layout.Layout.{Layout}
 use Rattle.image.specs.Tests.{layoutTests, Sound}
 use Rattle.image.specs.Samples.{Plane}
-use Rattle.image.specs.Picture.{Cb, Picture, shortPlane}
+use Rattle.image.specs.declared.chroma.Chroma.the-variants.{Cb}
+use Rattle.image.specs.Picture.{Picture, shortPlane}
 use Rattle.image.proofs.Layouts.{neither, sound}
 use Rattle.fround.specs.Rounding.{roundClamped}
 use Rattle.image.specs.Scratch.{scratchNeed}
@@ -41,7 +43,7 @@ stored-is p s y at before after out w L Y =
 -- ---- acceptance
 
 -- what an accepted call may rely on
-pub ready : (l : Layout) (y c : Plane) (space room : ℕ) → first (guidedTests l y c space room) ≡ Accepted → Lent l (planesWith y c) false × ((scratchNeed l ≤ space) × (l .w * l .h ≤ room))
+pub ready : (l : Layout) (y c : Plane) (space room : ℕ) → first (guidedTests l y c space room) ≡ Accepted → Lent l (planesWith y c) CbAlone × ((scratchNeed l ≤ space) × (l .w * l .h ≤ room))
 unfolding guidedTests shortPair
 ready l y c space room e =
     let rest : List Test = (shortPair l y c, 7) ∷ (ltb space (scratchNeed l), 9) ∷ (ltb room (l .w * l .h), 10) ∷ [] in

@@ -12,7 +12,8 @@ use Rattle.laws.specs.declared.answers.Answer.{Answer}
 use Rattle.image.specs.declared.layout.Layout.{Layout}
 use Rattle.image.specs.Tests.{layoutTests}
 use Rattle.image.specs.Samples.{Plane}
-use Rattle.image.specs.Picture.{Cb, Picture, Planes, pictureOf, shortPlane}
+use Rattle.image.specs.declared.chroma.Chroma.the-variants.{Cb}
+use Rattle.image.specs.Picture.{Picture, Planes, pictureOf, shortPlane}
 use Rattle.fround.specs.Rounding.{roundClamped}
 use Rattle.image.specs.Scratch.{scratchNeed}
 use Rattle.guided.specs.Guided.{guidedSample}

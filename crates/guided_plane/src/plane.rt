@@ -6,7 +6,8 @@ ghost use Prim.Native.Nat.{_*_, _≤_, _<_};
 ghost use lib.ListN.{length};
 ghost use Rattle.laws.specs.Refusals.{first};
 ghost use Rattle.image.specs.Tests.{Sound};
-ghost use Rattle.image.specs.Picture.{Cb, pictureOf};
+ghost use Rattle.image.specs.declared.chroma.Chroma.the-variants.{Cb};
+ghost use Rattle.image.specs.Picture.{pictureOf};
 ghost use Rattle.image.specs.Scratch.{scratchNeed};
 ghost use Rattle.linear.specs.Stores.{storeRun};
 ghost use Rattle.guided_window.specs.Lent.{Lent};
@@ -14,6 +15,7 @@ ghost use Rattle.guided_rows.specs.CatchingUp.{guidedStep, guidedRows};
 ghost use Rattle.guided_plane.specs.Plane.{planesWith, shortPair, guidedTests, guidedPlane, GuidedGiven};
 ghost use Rattle.image.specs.Samples.{planeOf};
 use guided_rows::guided_step;
+use image::Components;
 use image::Layout;
 use image::Strides;
 use laws::Answer;
@@ -67,7 +69,7 @@ fn plane_row(
     s: &mut [f32],
     out: &mut [u16],
 )
-    requires { ⌜ Lent layout (planesWith (planeOf (now y) «y_stride») (planeOf (now c) «c_stride»)) false ⌝ }
+    requires { ⌜ Lent layout (planesWith (planeOf (now y) «y_stride») (planeOf (now c) «c_stride»)) Components.CbAlone ⌝ }
     requires { ⌜ (row < layout .h) × (scratchNeed layout ≤ length (now s)) × (layout .w * layout .h ≤ length (now out)) ⌝ }
     ensures { λ _. ⌜ now (s .exit) ≡ guidedStep (pictureOf layout (planesWith (planeOf (now (y .entry)) «y_stride») (planeOf (now (c .entry)) «c_stride»))) (Cb ∷ []) 0 row (now (s .entry)) ⌝ }
     ensures { λ _. ⌜ now (out .exit) ≡ storeRun (guidedStep (pictureOf layout (planesWith (planeOf (now (y .entry)) «y_stride») (planeOf (now (c .entry)) «c_stride»))) (Cb ∷ []) 0 row (now (s .entry))) 0 (layout .w) (layout .maxval) (row * layout .w) (now (out .entry)) ⌝ }
@@ -77,7 +79,7 @@ fn plane_row(
         cb: c_stride,
         cr: c_stride,
     };
-    guided_step(layout, y, c, c, strides, false, 0, row, s);
+    guided_step(layout, y, c, c, strides, Components::CbAlone, 0, row, s);
     linear::store_row(s, 0, layout.w, layout.maxval, out, row * layout.w);
 }
 
@@ -91,7 +93,7 @@ fn plane_rows(
     s: &mut [f32],
     out: &mut [u16],
 )
-    requires { ⌜ Lent layout (planesWith (planeOf (now y) «y_stride») (planeOf (now c) «c_stride»)) false ⌝ }
+    requires { ⌜ Lent layout (planesWith (planeOf (now y) «y_stride») (planeOf (now c) «c_stride»)) Components.CbAlone ⌝ }
     requires { ⌜ (scratchNeed layout ≤ length (now s)) × (layout .w * layout .h ≤ length (now out)) ⌝ }
     ensures { λ _. ⌜ now (out .exit) ≡ guidedPlane (pictureOf layout (planesWith (planeOf (now (y .entry)) «y_stride») (planeOf (now (c .entry)) «c_stride»))) (now (out .entry)) ⌝ }
     ensures { λ _. ⌜ now (s .exit) ≡ guidedRows (pictureOf layout (planesWith (planeOf (now (y .entry)) «y_stride») (planeOf (now (c .entry)) «c_stride»))) (Cb ∷ []) 0 (layout .h) (now (s .entry)) ⌝ }

@@ -5,7 +5,8 @@ use Prim.Native.Nat.{ℕ, suc, _+_, _-_, _≤_, _<_, min, max}
 use native.Mathlib.Omega.{arith}
 use lib.ListN.{length}
 use lib.Ieee.{Float}
-use Rattle.image.specs.Picture.{Chroma, Picture}
+use Rattle.image.specs.declared.chroma.Chroma.{Chroma}
+use Rattle.image.specs.Picture.{Picture}
 use Rattle.guided.proofs.Window.{length-hsteps, length-fsteps}
 use Rattle.guided.specs.Scratch.{horizontal, finish, hsteps, hAt, fsteps}
 

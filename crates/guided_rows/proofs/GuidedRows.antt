@@ -8,7 +8,8 @@ use native.Mathlib.Omega.{arith}
 use lib.ListN.{length}
 use lib.Ieee.{Float}
 use Rattle.image.specs.Tests.{Sound}
-use Rattle.image.specs.Picture.{Chroma, Picture}
+use Rattle.image.specs.declared.chroma.Chroma.{Chroma}
+use Rattle.image.specs.Picture.{Picture}
 use Rattle.image.specs.Scratch.{scratchNeed, cellAt}
 use Rattle.guided.specs.Guided.{guidedSample}
 use Rattle.guided.specs.Scratch.{finishedAt}

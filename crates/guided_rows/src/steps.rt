@@ -7,10 +7,11 @@ ghost use Rattle.image.specs.Picture.{pictureOf, planesOf};
 ghost use Rattle.image.specs.Scratch.{scratchNeed};
 ghost use Rattle.guided.specs.Calls.{doneF};
 ghost use Rattle.guided.specs.Scratch.{hsteps, fsteps, rowSteps};
-ghost use Rattle.guided_window.specs.Lent.{Lent, components};
+ghost use Rattle.guided_window.specs.Lent.{Lent, componentsOf};
 ghost use Rattle.guided_rows.specs.CatchingUp.{beforeH, beforeF, guidedStep};
 use guided_down::finish;
 use guided_pixels::guided_row;
+use image::Components;
 use image::Layout;
 use image::Strides;
 use reader_state::Counters;
@@ -22,18 +23,18 @@ fn across_rows(
     cb: &[u8],
     cr: &[u8],
     strides: Strides,
-    both: bool,
+    components: Components,
     from: usize,
     to: usize,
     s: &mut [f32],
 )
-    requires { ⌜ Lent layout (planesOf (now y) (now cb) (now cr) strides) both ⌝ }
+    requires { ⌜ Lent layout (planesOf (now y) (now cb) (now cr) strides) components ⌝ }
     requires { ⌜ (to ≤ layout .ch) × (scratchNeed layout ≤ length (now s)) ⌝ }
-    ensures { λ _. ⌜ now (s .exit) ≡ hsteps (pictureOf layout (planesOf (now (y .entry)) (now (cb .entry)) (now (cr .entry)) strides)) (components both) from (to - from) (now (s .entry)) ⌝ }
+    ensures { λ _. ⌜ now (s .exit) ≡ hsteps (pictureOf layout (planesOf (now (y .entry)) (now (cb .entry)) (now (cr .entry)) strides)) (componentsOf components) from (to - from) (now (s .entry)) ⌝ }
 {
     let mut j = from;
     while j < to {
-        guided_across::horizontal(layout, y, cb, cr, strides, both, j, s);
+        guided_across::horizontal(layout, y, cb, cr, strides, components, j, s);
         j += 1;
     }
 }
@@ -51,48 +52,48 @@ pub fn catch_up(
     cb: &[u8],
     cr: &[u8],
     strides: Strides,
-    both: bool,
+    components: Components,
     h: usize,
     f: usize,
     to: usize,
     s: &mut [f32],
 )
-    requires { ⌜ Lent layout (planesOf (now y) (now cb) (now cr) strides) both ⌝ }
+    requires { ⌜ Lent layout (planesOf (now y) (now cb) (now cr) strides) components ⌝ }
     requires { ⌜ (to ≤ layout .ch) × (scratchNeed layout ≤ length (now s)) ⌝ }
-    ensures { λ _. ⌜ now (s .exit) ≡ fsteps (pictureOf layout (planesOf (now (y .entry)) (now (cb .entry)) (now (cr .entry)) strides)) (components both) h f (to - f) (now (s .entry)) ⌝ }
+    ensures { λ _. ⌜ now (s .exit) ≡ fsteps (pictureOf layout (planesOf (now (y .entry)) (now (cb .entry)) (now (cr .entry)) strides)) (componentsOf components) h f (to - f) (now (s .entry)) ⌝ }
 {
     let ch = layout.ch;
     let mut h_next = h;
     let mut j = f;
     while j < to {
         let end = laws::least(j + 2, ch);
-        across_rows(layout, y, cb, cr, strides, both, h_next, end, s);
-        finish(layout, cb, cr, strides, both, j, s);
+        across_rows(layout, y, cb, cr, strides, components, h_next, end, s);
+        finish(layout, cb, cr, strides, components, j, s);
         h_next = greatest(h_next, end);
         j += 1;
     }
 }
 
-// Inner: all the steps of a picture row over scratch, h and f being the next chroma rows to sum across and to finish. Cb's row alone, or both.
+// Inner: all the steps of a picture row over scratch, h and f being the next chroma rows to sum across and to finish. The components are Cb alone, or both.
 pub fn row_steps(
     layout: Layout,
     y: &[u8],
     cb: &[u8],
     cr: &[u8],
     strides: Strides,
-    both: bool,
+    components: Components,
     h: usize,
     f: usize,
     row: usize,
     s: &mut [f32],
 )
-    requires { ⌜ Lent layout (planesOf (now y) (now cb) (now cr) strides) both ⌝ }
+    requires { ⌜ Lent layout (planesOf (now y) (now cb) (now cr) strides) components ⌝ }
     requires { ⌜ (row < layout .h) × (scratchNeed layout ≤ length (now s)) ⌝ }
-    ensures { λ _. ⌜ now (s .exit) ≡ rowSteps (pictureOf layout (planesOf (now (y .entry)) (now (cb .entry)) (now (cr .entry)) strides)) (components both) h f (doneF layout row - f) row (now (s .entry)) ⌝ }
+    ensures { λ _. ⌜ now (s .exit) ≡ rowSteps (pictureOf layout (planesOf (now (y .entry)) (now (cb .entry)) (now (cr .entry)) strides)) (componentsOf components) h f (doneF layout row - f) row (now (s .entry)) ⌝ }
 {
     let done = reader_state::done_counters(layout, row);
-    catch_up(layout, y, cb, cr, strides, both, h, f, done.f_next, s);
-    guided_row(layout, y, strides.y, both, row, s);
+    catch_up(layout, y, cb, cr, strides, components, h, f, done.f_next, s);
+    guided_row(layout, y, strides.y, components, row, s);
 }
 
 // The counters before row first + n of a run of rows that begins at first: those of a reader sought there, then those that the row before leaves.
@@ -107,21 +108,21 @@ fn counters_before(layout: Layout, first: usize, n: usize) -> Counters
     reader_state::done_counters(layout, first + (n - 1))
 }
 
-// Inner: row first + n of a run of rows that begins at first, over the scratch that the rows before it left. Cb's row alone, or both.
+// Inner: row first + n of a run of rows that begins at first, over the scratch that the rows before it left. The components are Cb alone, or both.
 pub fn guided_step(
     layout: Layout,
     y: &[u8],
     cb: &[u8],
     cr: &[u8],
     strides: Strides,
-    both: bool,
+    components: Components,
     first: usize,
     n: usize,
     s: &mut [f32],
 )
-    requires { ⌜ Lent layout (planesOf (now y) (now cb) (now cr) strides) both ⌝ }
+    requires { ⌜ Lent layout (planesOf (now y) (now cb) (now cr) strides) components ⌝ }
     requires { ⌜ (first + n < layout .h) × (scratchNeed layout ≤ length (now s)) ⌝ }
-    ensures { λ _. ⌜ now (s .exit) ≡ guidedStep (pictureOf layout (planesOf (now (y .entry)) (now (cb .entry)) (now (cr .entry)) strides)) (components both) first n (now (s .entry)) ⌝ }
+    ensures { λ _. ⌜ now (s .exit) ≡ guidedStep (pictureOf layout (planesOf (now (y .entry)) (now (cb .entry)) (now (cr .entry)) strides)) (componentsOf components) first n (now (s .entry)) ⌝ }
 {
     let k = counters_before(layout, first, n);
     row_steps(
@@ -130,7 +131,7 @@ pub fn guided_step(
         cb,
         cr,
         strides,
-        both,
+        components,
         k.h_next,
         k.f_next,
         first + n,

@@ -4,9 +4,9 @@ ghost use Prim.Native.Nat.{_≤_, _<_};
 ghost use Rattle.image.specs.Tests.{Sound};
 ghost use Rattle.guided.specs.Scratch.{pitch, firstOf};
 ghost use Rattle.guided_window.specs.Buffers.{SlotGiven, windowOf};
-ghost use Rattle.guided_window.specs.Lent.{chromaOf};
 use crate::neighbours::next;
 use crate::neighbours::prev;
+use image::Chroma;
 use image::Layout;
 
 // Where one row buffer of chroma rows r - 1, r and r + 1 begins, edges repeated.
@@ -25,10 +25,13 @@ pub fn pitch_of(cw: usize) -> usize
 }
 
 // Inner: the number of a component's first row buffer.
-pub fn first_of(cr: bool) -> usize
-    ensures { λ r. ⌜ (r ≡ firstOf (chromaOf cr)) × (r ≤ 9) ⌝ }
+pub fn first_of(k: Chroma) -> usize
+    ensures { λ r. ⌜ (r ≡ firstOf k) × (r ≤ 9) ⌝ }
 {
-    if cr { 9 } else { 3 }
+    match k {
+        Chroma::Cb => 3,
+        Chroma::Cr => 9,
+    }
 }
 
 // Inner: where buffer n of chroma row r begins.

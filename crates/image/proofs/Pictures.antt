@@ -9,7 +9,8 @@ use lib.ListN.{getD}
 use borrow.Author.Tests.{lt-ltb, ltb-true}
 use Rattle.image.specs.declared.layout.Layout.{Layout}
 use Rattle.image.specs.Samples.{sampleOf, sampleAt}
-use Rattle.image.specs.Picture.{Chroma, Picture, Planes, chromaPlane, inside, pictureOf}
+use Rattle.image.specs.declared.chroma.Chroma.{Chroma}
+use Rattle.image.specs.Picture.{Picture, Planes, chromaPlane, inside, pictureOf}
 
 -- inside the picture stands the sample itself
 pub inside-is : (w h : ℕ) (f : ℕ → ℕ → ℕ) (x y : ℕ) → x < w → y < h → inside w h f y x ≡ f y x

@@ -5,12 +5,11 @@ use Prim.Native.Nat.{ℕ}
 use lib.Dec.{ltb}
 use lib.ListN.{length}
 use Rattle.image.specs.declared.layout.Layout.{Layout}
+use Rattle.image.specs.declared.chroma.Chroma.{Chroma}
+use Rattle.image.specs.declared.chroma.Chroma.the-variants.{Cb, Cr}
 use Rattle.image.specs.Tests.{badPlane}
 use Rattle.image.specs.declared.strides.Strides.{Strides}
 use Rattle.image.specs.Samples.{Plane, planeOf, sampleAt}
-
-pub data Chroma : Type 0 where
-  Cb Cr : Chroma
 
 -- `luma y x` and `chroma k y x`: row y, column x. They are 0 outside the picture.
 pub record Picture : Type 0 where

@@ -7,6 +7,7 @@ use crate::copies::copy_rows;
 use guided::Reader;
 use guided::Reply;
 use guided_rows::row_steps;
+use image::Components;
 use image::Strides;
 
 // Row `row` of Cb and of Cr to the front of the outputs: the guided rows of the picture that was opened, whatever was read before.
@@ -35,7 +36,7 @@ pub fn row(
         cb,
         cr,
         strides,
-        true,
+        Components::Both,
         reader.h_next,
         reader.f_next,
         row,

@@ -6,7 +6,8 @@ use lib.Dec.{T}
 use lib.Ieee.{Float, lt}
 use Rattle.laws.specs.Floats.{f32}
 use Rattle.laws.proofs.Order.{lt-asym}
-use Rattle.image.specs.Picture.{Chroma, Picture}
+use Rattle.image.specs.declared.chroma.Chroma.{Chroma}
+use Rattle.image.specs.Picture.{Picture}
 use Rattle.fround.specs.Rounding.{fmin, fmax}
 use Rattle.image.specs.Tests.{Sound}
 use Rattle.guided.proofs.Congruence.{three-cong}

@@ -1,6 +1,5 @@
 use Rattle.guided_across.proofs.ReadBack.{chroma-steps}
 use Rattle.guided.proofs.Places.{first-few, slot-order}
-use Rattle.guided_window.specs.Lent.{chromaOf}
 use Rattle.guided_across.specs.Sums.{cellsAt, productsAt, threeRow}
 use Rattle.image.proofs.Planes.{short-holds, row-inside}
 use mathlib.Core.Path.{ap, _∙_}
@@ -20,7 +19,7 @@ row c = let l = c .args .layout in row-inside (short-holds l (l .cw) (l .ch) (pl
 behind : (c : tie.After-slots-at) → c .before .before .slot-at .result + c .before .before .before .before .before .args .layout .cw ≤ c .slots-at .result .at
 behind c =
     let a = c .before .before .before .before .before .args in
-    let f = first-few (chromaOf (a .cr)) in
+    let f = first-few (a .k) in
     let h = slot-order (a .layout) 0 (c .before .first-of .result) (a .j) (omega arith) in
     omega arith
 
@@ -56,7 +55,7 @@ returns c =
     let t = c .before .before .before .before .before .before .before .before .before .before .before .before .slots-at .result in
     c .before .before .product-sum-row .ensures
     ∙ ap (threeRow (productsAt y (t .at)) (l .cw) (t .products)) (c .before .before .before .before .before .before .sum-row .ensures ∙ ap (threeRow (cellsAt (t .at)) (l .cw) (t .sums)) (c .before .before .before .before .before .before .before .before .before .before .load-row .ensures))
-    ∙ chroma-steps l (planeOf (a .plane .now) (a .stride)) (chromaOf (a .cr)) (a .j) _ y t (a .s .now) (c .before .before .before .before .before .before .before .before .before .before .before .before .slots-at .ensures) (c .before .before .before .before .before .before .before .before .before .before .before .before .before .first-of .ensures .0) (c .before .before .before .before .before .before .before .before .before .before .before .before .before .before .slot-at .ensures .is) (behind (c .before .before .before .before .before .before .before .before .before .before .before .before)) (omega arith)
+    ∙ chroma-steps l (planeOf (a .plane .now) (a .stride)) (a .k) (a .j) _ y t (a .s .now) (c .before .before .before .before .before .before .before .before .before .before .before .before .slots-at .ensures) (c .before .before .before .before .before .before .before .before .before .before .before .before .before .first-of .ensures .0) (c .before .before .before .before .before .before .before .before .before .before .before .before .before .before .slot-at .ensures .is) (behind (c .before .before .before .before .before .before .before .before .before .before .before .before)) (omega arith)
 
 pub chroma-part-spec : {M : Type 1} → statement M
 chroma-part-spec =

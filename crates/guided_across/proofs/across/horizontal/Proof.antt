@@ -1,12 +1,12 @@
 use Rattle.guided_across.proofs.ReadBack.{horizontal-one, horizontal-both}
 use Rattle.guided_across.specs.Parts.{chromaPart}
-use Rattle.guided_window.specs.Lent.{components}
+use Rattle.guided_window.specs.Lent.{componentsOf}
 use Rattle.guided.specs.Scratch.{horizontal}
-use Rattle.image.specs.Picture.{Cb, Cr, Planes, pictureOf, planesOf}
+use Rattle.image.specs.declared.chroma.Chroma.the-variants.{Cb, Cr}
+use Rattle.image.specs.Picture.{Planes, pictureOf, planesOf}
 use Rattle.image.specs.Samples.{sampleAt}
-use mathlib.Core.Bool.{Bool}
+use Rattle.image.specs.declared.chroma.Components.{Components}
 use mathlib.Core.Path.{sym, ap, _∙_}
-use borrow.Author.Tests.{not-true, not-false}
 use native.Mathlib.Omega.{arith}
 use borrow.Author.Needs.{needs}
 use Rattle.guided_across.proofs.across.horizontal.Statement.{statement}
@@ -21,33 +21,39 @@ luma-part-requires c κs = let o = c .before .before .before .before .before .pr
 chroma-part-requires : tie.Need-chroma-part-requires
 chroma-part-requires c κs = let o = c .before .before .before .before .before .before .before .before .before .pre .0 in (record { sound = o .sound; plane = o .cb }, omega arith)
 
+enum-told : tie.Need-enum-told
+enum-told c = search needs
+
+enum-told-2 : tie.Need-enum-told-2
+enum-told-2 c = search needs
+
 same-length : tie.Need-same-length
 same-length c = search needs
 
 returns : tie.Need-returns
 returns c =
-    let a = c .before .before .before .before .before .before .before .before .before .before .before .before .before .args in
+    let a = c .before .before .before .before .before .before .before .before .before .before .before .before .before .before .args in
     let l = a .layout in
-    let ps = planes (c .before .before .before .before .before .before .before .before .before .before .before .before .before) in
-    c .before .before .before .chroma-part .ensures ∙ ap (chromaPart l (sampleAt (l .«sample_bytes») (ps .cb)) Cb (a .j)) (c .before .before .before .before .before .before .before .luma-part .ensures)
+    let ps = planes (c .before .before .before .before .before .before .before .before .before .before .before .before .before .before) in
+    c .before .before .before .before .chroma-part .ensures ∙ ap (chromaPart l (sampleAt (l .«sample_bytes») (ps .cb)) Cb (a .j)) (c .before .before .before .before .before .before .before .before .luma-part .ensures)
     ∙ horizontal-one l ps (a .j) (a .s .now) (omega arith) (omega arith)
-    ∙ ap (λ (b : Bool). horizontal (pictureOf l ps) (components b) (a .j) (a .s .now)) (sym (not-true (a .both) (c .if1 .taken)))
+    ∙ ap (λ (ks : Components). horizontal (pictureOf l ps) (componentsOf ks) (a .j) (a .s .now)) (sym (c .enum-told2 .given .1))
 
 chroma-part-requires-2 : tie.Need-chroma-part-requires-2
-chroma-part-requires-2 c κs = let o = c .before .before .before .before .before .before .before .before .before .before .before .before .before .before .pre .0 in (record { sound = o .sound; plane = o .cr (not-false _ (c .before .if1 .left)) }, omega arith)
+chroma-part-requires-2 c κs = let o = c .before .before .before .before .before .before .before .before .before .before .before .before .before .before .before .pre .0 in (record { sound = o .sound; plane = o .cr (c .before .enum-told .given .1) }, omega arith)
 
 same-length-2 : tie.Need-same-length-2
 same-length-2 c = search needs
 
 returns-2 : tie.Need-returns-2
 returns-2 c =
-    let a = c .before .before .before .before .before .before .before .before .before .before .before .before .before .before .before .before .before .args in
+    let a = c .before .before .before .before .before .before .before .before .before .before .before .before .before .before .before .before .before .before .args in
     let l = a .layout in
-    let ps = planes (c .before .before .before .before .before .before .before .before .before .before .before .before .before .before .before .before .before) in
+    let ps = planes (c .before .before .before .before .before .before .before .before .before .before .before .before .before .before .before .before .before .before) in
     c .before .before .chroma-part2 .ensures
-    ∙ ap (chromaPart l (sampleAt (l .«sample_bytes») (ps .cr)) Cr (a .j)) (c .before .before .before .before .before .before .before .chroma-part .ensures ∙ ap (chromaPart l (sampleAt (l .«sample_bytes») (ps .cb)) Cb (a .j)) (c .before .before .before .before .before .before .before .before .before .before .before .luma-part .ensures))
+    ∙ ap (chromaPart l (sampleAt (l .«sample_bytes») (ps .cr)) Cr (a .j)) (c .before .before .before .before .before .before .before .before .chroma-part .ensures ∙ ap (chromaPart l (sampleAt (l .«sample_bytes») (ps .cb)) Cb (a .j)) (c .before .before .before .before .before .before .before .before .before .before .before .before .luma-part .ensures))
     ∙ horizontal-both l ps (a .j) (a .s .now) (omega arith) (omega arith)
-    ∙ ap (λ (b : Bool). horizontal (pictureOf l ps) (components b) (a .j) (a .s .now)) (sym (not-false (a .both) (c .before .before .before .before .if1 .left)))
+    ∙ ap (λ (ks : Components). horizontal (pictureOf l ps) (componentsOf ks) (a .j) (a .s .now)) (sym (c .before .before .before .before .enum-told .given .1))
 
 pub horizontal-spec : {M : Type 1} → statement M
 horizontal-spec =
@@ -55,6 +61,8 @@ horizontal-spec =
     (tie.spec
     luma-part-requires
     chroma-part-requires
+    enum-told
+    enum-told-2
     same-length
     returns
     chroma-part-requires-2

@@ -2,7 +2,6 @@ use mathlib.Core.Path.{ap, _∙_}
 use mathlib.Core.Bool.{true, false}
 use borrow.Author.Needs.{needs}
 use Rattle.image.specs.Samples.{Plane}
-use Rattle.guided_window.specs.Lent.{chromaOf}
 use Rattle.guided_down.specs.Extremes.{extremeRow}
 use Rattle.guided_down.proofs.DownSteps.{down-row-are}
 use Rattle.guided_down.proofs.finishing.down_row.Statement.{statement}
@@ -44,7 +43,7 @@ returns c =
     let g = c .before .before .before .before .before .before .before .before .before .before .before .before .slot-at2 in
     let m = c .before .before .before .before .before .before .before .before .before .before .before .before .before .slot-at in
     c .before .before .extreme-row2 .ensures ∙ ap (extremeRow l p true (a .j) (g .result)) (c .before .before .before .before .before .before .extreme-row .ensures ∙ ap (extremeRow l p false (a .j) (m .result)) (c .before .before .before .before .before .before .before .before .before .before .slope-row .ensures))
-    ∙ down-row-are l p (chromaOf (a .cr)) (a .j) _ _ _ (a .s .now) (n .ensures .0) (m .ensures .is) (g .ensures .is)
+    ∙ down-row-are l p (a .k) (a .j) _ _ _ (a .s .now) (n .ensures .0) (m .ensures .is) (g .ensures .is)
 
 pub down-row-spec : {M : Type 1} → statement M
 down-row-spec =

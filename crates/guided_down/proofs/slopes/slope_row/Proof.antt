@@ -1,5 +1,4 @@
 use Rattle.guided_down.proofs.Statistics.{row-ready, row-slopes}
-use Rattle.guided_window.specs.Lent.{chromaOf}
 use mathlib.Core.Path.{_∙_}
 use native.Mathlib.Omega.{arith}
 use borrow.Author.Needs.{needs}
@@ -22,7 +21,7 @@ epsilon-of-requires : tie.Need-epsilon-of-requires
 epsilon-of-requires c κs = search needs
 
 slope-cells-requires : tie.Need-slope-cells-requires
-slope-cells-requires c κs = let a = c .before .before .before .before .before .before .args in row-ready (a .layout) (chromaOf (a .cr)) (a .j) _ _ _ (c .before .before .before .first-of .ensures .0) (c .before .before .before .before .stats-at .ensures) (c .before .before .slot-at .ensures .is) _ (omega arith)
+slope-cells-requires c κs = let a = c .before .before .before .before .before .before .args in row-ready (a .layout) (a .k) (a .j) _ _ _ (c .before .before .before .first-of .ensures .0) (c .before .before .before .before .stats-at .ensures) (c .before .before .slot-at .ensures .is) _ (omega arith)
 
 same-length : tie.Need-same-length
 same-length c = search needs
@@ -30,7 +29,7 @@ same-length c = search needs
 returns : tie.Need-returns
 returns c =
     let a = c .before .before .before .before .before .before .before .before .before .args in
-    c .before .before .slope-cells .ensures ∙ row-slopes (a .layout) (chromaOf (a .cr)) (a .j) _ _ _ (c .before .before .before .before .before .before .first-of .ensures .0) (c .before .before .before .before .before .before .before .stats-at .ensures) (c .before .before .before .before .before .slot-at .ensures .is) _ (a .s .now) (c .before .before .before .epsilon-of .ensures)
+    c .before .before .slope-cells .ensures ∙ row-slopes (a .layout) (a .k) (a .j) _ _ _ (c .before .before .before .before .before .before .first-of .ensures .0) (c .before .before .before .before .before .before .before .stats-at .ensures) (c .before .before .before .before .before .slot-at .ensures .is) _ (a .s .now) (c .before .before .before .epsilon-of .ensures)
 
 pub slope-row-spec : {M : Type 1} → statement M
 slope-row-spec =

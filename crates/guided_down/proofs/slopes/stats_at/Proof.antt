@@ -1,5 +1,4 @@
 use Rattle.guided_down.proofs.Statistics.{stats-are}
-use Rattle.guided_window.specs.Lent.{chromaOf}
 use borrow.Author.Needs.{needs}
 use Rattle.guided_down.proofs.slopes.stats_at.Statement.{statement}
 use Rattle.guided_down.proofs.slopes.stats_at.Tie as tie
@@ -26,7 +25,7 @@ window-at-requires-4 : tie.Need-window-at-requires-4
 window-at-requires-4 c κs = search needs
 
 returns : tie.Need-returns
-returns c = let a = c .before .before .before .before .before .args in stats-are (a .layout) (chromaOf (a .cr)) (a .j) _ _ _ _ _ (c .before .before .before .before .first-of .ensures .0) (c .before .before .before .window-at .ensures) (c .before .before .window-at2 .ensures) (c .before .window-at3 .ensures) (c .window-at4 .ensures)
+returns c = let a = c .before .before .before .before .before .args in stats-are (a .layout) (a .k) (a .j) _ _ _ _ _ (c .before .before .before .before .first-of .ensures .0) (c .before .before .before .window-at .ensures) (c .before .before .window-at2 .ensures) (c .before .window-at3 .ensures) (c .window-at4 .ensures)
 
 pub stats-at-spec : {M : Type 1} → statement M
 stats-at-spec =

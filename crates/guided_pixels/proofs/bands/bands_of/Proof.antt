@@ -1,4 +1,3 @@
-use Rattle.guided_window.specs.Lent.{chromaOf}
 use borrow.Author.Needs.{needs}
 use Rattle.guided_pixels.proofs.bands.bands_of.Statement.{statement}
 use Rattle.guided_pixels.proofs.ValueRows.{bands-are}
@@ -34,7 +33,7 @@ slot-at-requires-2 c κs = search needs
 returns : tie.Need-returns
 returns c =
     let a = c .before .before .before .before .before .before .args in
-    bands-are (a .layout) (chromaOf (a .cr)) (a .j) _ _ _ _ _ _ (c .before .before .before .before .before .column-of .ensures .0) (c .before .before .before .before .first-of .ensures .0) (c .before .before .before .column-at .ensures .is) (c .before .before .column-at2 .ensures .is) (c .before .slot-at .ensures .is) (c .slot-at2 .ensures .is)
+    bands-are (a .layout) (a .k) (a .j) _ _ _ _ _ _ (c .before .before .before .before .before .column-of .ensures .0) (c .before .before .before .before .first-of .ensures .0) (c .before .before .before .column-at .ensures .is) (c .before .before .column-at2 .ensures .is) (c .before .slot-at .ensures .is) (c .slot-at2 .ensures .is)
 
 pub bands-of-spec : {M : Type 1} → statement M
 bands-of-spec =

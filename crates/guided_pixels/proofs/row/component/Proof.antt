@@ -1,7 +1,6 @@
 use mathlib.Core.Path.{ap, _∙_}
 use Prim.Native.Nat.{_/_}
 use borrow.Author.Needs.{needs}
-use Rattle.guided_window.specs.Lent.{chromaOf}
 use Rattle.guided_pixels.specs.Values.{valueRow}
 use Rattle.guided_pixels.specs.Row.{componentRow}
 use Rattle.guided_pixels.proofs.row.component.Statement.{statement}
@@ -23,7 +22,7 @@ returns : tie.Need-returns
 unfolding componentRow
 returns c =
     let a = c .before .before .before .before .before .before .before .before .before .before .args in
-    c .before .before .value-row .ensures ∙ ap (valueRow (a .layout) (chromaOf (a .cr)) (a .y / a .layout .rv)) (c .before .before .before .before .before .before .before .downs .ensures)
+    c .before .before .value-row .ensures ∙ ap (valueRow (a .layout) (a .k) (a .y / a .layout .rv)) (c .before .before .before .before .before .before .before .downs .ensures)
 
 pub component-spec : {M : Type 1} → statement M
 component-spec =

@@ -1,4 +1,3 @@
-use Rattle.guided_window.specs.Lent.{chromaOf}
 use Rattle.guided_pixels.specs.Columns.{downColumn}
 use Rattle.guided_pixels.proofs.RowSteps.{downs-are}
 use mathlib.Core.Path.{ap, _∙_}
@@ -33,7 +32,7 @@ returns c =
     let a = c .before .before .before .before .before .before .before .before .before .before .before .args in
     let n = c .before .before .before .before .before .before .before .before .before .first-of in
     let m = c .before .before .before .before .before .before .before .before .column-of in
-    c .before .before .down-column2 .ensures ∙ ap (downColumn (a .layout) (n .result + 3) (m .result + 1) (a .y)) (c .before .before .before .before .before .before .down-column .ensures) ∙ downs-are (a .layout) (chromaOf (a .cr)) (a .y) _ _ (a .s .now) (n .ensures .0) (m .ensures .0)
+    c .before .before .down-column2 .ensures ∙ ap (downColumn (a .layout) (n .result + 3) (m .result + 1) (a .y)) (c .before .before .before .before .before .before .down-column .ensures) ∙ downs-are (a .layout) (a .k) (a .y) _ _ (a .s .now) (n .ensures .0) (m .ensures .0)
 
 pub downs-spec : {M : Type 1} → statement M
 downs-spec =

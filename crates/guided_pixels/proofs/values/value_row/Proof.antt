@@ -3,7 +3,6 @@ use native.Mathlib.Omega.{arith}
 use borrow.Author.Needs.{needs}
 use Rattle.guided_pixels.proofs.values.value_row.Statement.{statement}
 use Rattle.guided_pixels.proofs.ValueRows.{bands-inside, value-line}
-use Rattle.guided_window.specs.Lent.{chromaOf}
 use Rattle.guided.proofs.Places.{finished-place}
 use Rattle.guided_pixels.proofs.values.value_row.Tie as tie
 
@@ -15,7 +14,7 @@ finished-at-requires c κs = search needs
 
 value-cells-requires : tie.Need-value-cells-requires
 value-cells-requires c κs = let a = c .before .before .before .before .args in
-    let k = chromaOf (a .cr) in
+    let k = a .k in
     let e = c .before .finished-at .ensures in
     ((c .before .before .before .before .pre .0, bands-inside (a .layout) k (a .j) _ _ (c .before .before .bands-of .ensures) (omega arith)), omega (arith, e, finished-place (a .layout) k))
 
@@ -23,7 +22,7 @@ same-length : tie.Need-same-length
 same-length c = search needs
 
 returns : tie.Need-returns
-returns c = let a = c .before .before .before .before .before .before .before .args in c .before .before .value-cells .ensures ∙ value-line (a .layout) (chromaOf (a .cr)) (a .j) _ _ (a .s .now) (c .before .before .before .before .before .bands-of .ensures) (c .before .before .before .before .finished-at .ensures)
+returns c = let a = c .before .before .before .before .before .before .before .args in c .before .before .value-cells .ensures ∙ value-line (a .layout) (a .k) (a .j) _ _ (a .s .now) (c .before .before .before .before .before .bands-of .ensures) (c .before .before .before .before .finished-at .ensures)
 
 pub value-row-spec : {M : Type 1} → statement M
 value-row-spec =

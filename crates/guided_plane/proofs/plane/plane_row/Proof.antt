@@ -7,7 +7,8 @@ use lib.ListN.{length}
 use lib.Ieee.{Float}
 use borrow.Author.Needs.{needs}
 use Rattle.laws.proofs.Rows.{row-fits}
-use Rattle.image.specs.Picture.{Cb, Picture, pictureOf}
+use Rattle.image.specs.declared.chroma.Chroma.the-variants.{Cb}
+use Rattle.image.specs.Picture.{Picture, pictureOf}
 use Rattle.image.proofs.Layouts.{area}
 use Rattle.linear.specs.Stores.{storeRun}
 use Rattle.guided.proofs.Places.{front-fits}

@@ -3,7 +3,8 @@ use mathlib.Core.List.{[], _∷_}
 use Prim.Native.Nat.{_-_, _*_, _≤_}
 use native.Mathlib.Omega.{arith}
 use Rattle.laws.proofs.Lists.{Rows, rows-none, rows-more, rows-end}
-use Rattle.image.specs.Picture.{Cb, Picture, pictureOf}
+use Rattle.image.specs.declared.chroma.Chroma.the-variants.{Cb}
+use Rattle.image.specs.Picture.{Picture, pictureOf}
 use Rattle.fround.specs.Rounding.{roundClamped}
 use Rattle.guided.specs.Guided.{guidedSample}
 use Rattle.guided_plane.specs.Plane.{planesWith, guidedPlane}

@@ -1,5 +1,5 @@
 use Rattle.image.specs.Picture.{pictureOf, planesOf}
-use Rattle.guided_window.specs.Lent.{components}
+use Rattle.guided_window.specs.Lent.{componentsOf}
 use Rattle.guided_rows.proofs.Catching.{HRun, hrun-none, hrun-more, hrun-length, hrun-end}
 use Prim.Native.Nat.{_-_}
 use native.Mathlib.Omega.{arith}
@@ -8,10 +8,10 @@ use Rattle.guided.proofs.Acceptance.{both}
 use Rattle.guided_rows.proofs.steps.across_rows.Tie as tie
 
 abbrev Inv-loop : tie.InvT-loop
-Inv-loop layout y cb cr strides both from to s₀ j₀ s j = HRun (pictureOf layout (planesOf y cb cr strides)) (components both) from to s₀ j s
+Inv-loop layout y cb cr strides components from to s₀ j₀ s j = HRun (pictureOf layout (planesOf y cb cr strides)) (componentsOf components) from to s₀ j s
 
 abbrev μ-loop : tie.MeasureT-loop
-μ-loop layout y cb cr strides both from to s₀ j₀ s j = to - j
+μ-loop layout y cb cr strides components from to s₀ j₀ s j = to - j
 
 loop-holds : tie.Need-loop-holds Inv-loop μ-loop
 loop-holds c = hrun-none _ _ _ _ _

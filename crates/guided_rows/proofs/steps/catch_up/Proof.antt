@@ -1,7 +1,7 @@
 use Rattle.image.specs.Scratch.{scratchNeed}
 use Rattle.image.specs.Picture.{pictureOf, planesOf}
 use Rattle.guided.proofs.Window.{length-hsteps}
-use Rattle.guided_window.specs.Lent.{components}
+use Rattle.guided_window.specs.Lent.{componentsOf}
 use Rattle.guided_rows.proofs.Catching.{FRun, frun-none, frun-more, frun-length, frun-end}
 use borrow.Author.Needs.{needs}
 use mathlib.Core.Path.{ap, _∙_}
@@ -13,10 +13,10 @@ use Rattle.guided.proofs.Acceptance.{both}
 use Rattle.guided_rows.proofs.steps.catch_up.Tie as tie
 
 abbrev Inv-loop : tie.InvT-loop
-Inv-loop layout y cb cr strides both h f to s₀ ch h-next₀ j₀ s h-next j = FRun (pictureOf layout (planesOf y cb cr strides)) (components both) h f to s₀ h-next j s
+Inv-loop layout y cb cr strides components h f to s₀ ch h-next₀ j₀ s h-next j = FRun (pictureOf layout (planesOf y cb cr strides)) (componentsOf components) h f to s₀ h-next j s
 
 abbrev μ-loop : tie.MeasureT-loop
-μ-loop layout y cb cr strides both h f to s₀ ch h-next₀ j₀ s h-next j = to - j
+μ-loop layout y cb cr strides components h f to s₀ ch h-next₀ j₀ s h-next j = to - j
 
 abbrev start : (c : tie.At-loop Inv-loop μ-loop) → tie.Start Inv-loop μ-loop
 start c = c .before .before .before .before .before

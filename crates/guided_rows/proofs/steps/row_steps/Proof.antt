@@ -1,6 +1,6 @@
 use Rattle.guided.specs.Calls.{doneF}
 use Rattle.image.specs.Picture.{Planes, pictureOf, planesOf}
-use Rattle.guided_window.specs.Lent.{components}
+use Rattle.guided_window.specs.Lent.{componentsOf}
 use Rattle.guided.specs.Scratch.{fsteps, rowSteps}
 use Rattle.guided_pixels.specs.Row.{windowRow}
 use Rattle.guided.proofs.Taken.{taken}
@@ -45,7 +45,7 @@ returns c =
     let a = start d .args in
     let ps : Planes = planesOf (a .y .now) (a .cb .now) (a .cr .now) (a .strides) in
     let p = pictureOf (a .layout) ps in
-    let ks = components (a .both) in
+    let ks = componentsOf (a .components) in
     c .before .before .guided-row .ensures (ps .cb) (ps .cr)
     ∙ ap (windowRow p ks (a .row)) (c .before .before .before .before .before .before .catch-up .ensures ∙ ap (λ (n : ℕ). fsteps p ks (a .h) (a .f) (n - a .f) (a .s .now)) (d .done-counters .ensures .1))
 

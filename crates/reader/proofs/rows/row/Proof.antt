@@ -1,3 +1,4 @@
+use Rattle.image.specs.declared.chroma.Components.the-variants.{Both}
 use mathlib.Core.Path.{_≡_, refl, sym, ap, _∙_}
 use mathlib.Core.Bool.{true}
 use Prim.Native.Nat.{_*_, _≤_}
@@ -41,7 +42,7 @@ handed c =
     let k = call (c .before .before) in
     row-handed k (accepted-failed (rowTests k) (sym (c .before .before .row-answer .ensures) ∙ accepted-is _ (passed c)))
 
-lent : (c : tie.Else1) → (let k = call (c .before .before) in Lent (layoutOf (k .reader)) (k .planes) true)
+lent : (c : tie.Else1) → (let k = call (c .before .before) in Lent (layoutOf (k .reader)) (k .planes) Both)
 unfolding badPlanes
 lent c =
     let h = handed c in
