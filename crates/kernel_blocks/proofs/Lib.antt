@@ -2,12 +2,12 @@
 pub mod Blocks
 pub mod Chromas
 pub mod FixedBytes
+pub mod GreenQuotient
 pub mod Greens
+pub mod GridBits
 pub mod Lumas
-pub mod Nearby
-pub mod Offsets
 pub mod Packed
 pub mod Puts
+pub mod RedAndBlue
 pub mod Signed
 pub mod Stored
-pub mod Tints

@@ -3,7 +3,7 @@ ghost use mathlib.Core.Path.{_≡_};
 ghost use Prim.Native.Nat.{ℕ, _≤_};
 ghost use Rattle.kernels.specs.Kernels.{centred, greenOffset};
 ghost use Rattle.kernels.specs.Forms.{chromaOffset, Biased};
-ghost use Rattle.kernel_blocks.specs.Floating.{Centred, Chroma, Tint, Tinted, OnGrid, Margin, greenBits, Sure};
+ghost use Rattle.kernel_blocks.specs.Floating.{Centred, Chroma, Multiplier, IsMultiplier, OnGrid, Margin, greenBits, Sure};
 use kernels::Bias;
 
 // Inner: floats far up, which are 256 apart.
@@ -24,8 +24,8 @@ impl Grid {
 //
 // The float product is near enough for every chroma, and `tie` sends blue's halves up.
 pub fn chroma_offset(k: f32, tie: f32, x: f32) -> u32
-    requires { ⌜ Tinted k tie × Chroma x ⌝ }
-    ensures { λ r. ⌜ ((m c : ℕ) → Tint k tie m → Centred x c → OnGrid (chromaOffset m (centred c)) r) ⌝ }
+    requires { ⌜ IsMultiplier k tie × Chroma x ⌝ }
+    ensures { λ r. ⌜ ((m c : ℕ) → Multiplier k tie m → Centred x c → OnGrid (chromaOffset m (centred c)) r) ⌝ }
 {
     f32::to_bits(Grid::MIDDLE + (k * x + tie))
 }
@@ -75,7 +75,7 @@ pub fn green_offset(cb: f32, cr: f32) -> u32
 }
 
 // Inner: the same, by the near form where there is no doubt. The doubt is a block's, so that one form serves it whole.
-pub fn green_by(cb: f32, cr: f32, doubt: u32) -> u32
+pub fn green_by_doubt(cb: f32, cr: f32, doubt: u32) -> u32
     requires { ⌜ Chroma cb × Chroma cr × (doubt ≡ 0 → Sure cb cr) ⌝ }
     ensures { λ q. ⌜ ((b r : ℕ) → Centred cb b → Centred cr r → OnGrid (greenOffset (centred b) (centred r)) q) ⌝ }
 {

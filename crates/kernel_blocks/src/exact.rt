@@ -5,19 +5,19 @@ ghost use lib.IntN.{pos};
 ghost use lib.ListN.{getD};
 ghost use lib.Ieee.{nan};
 ghost use Rattle.kernels.specs.Forms.{plusChroma};
-ghost use Rattle.kernel_blocks.specs.Floating.{Centred, Chroma, Tint, Tinted, Lowered, Luma, Sure};
+ghost use Rattle.kernel_blocks.specs.Floating.{Centred, Chroma, Multiplier, IsMultiplier, Lowered, Luma, Sure};
 ghost use Rattle.kernel_blocks.specs.Blocks.{BlockOf, InLimits, Pixels, Greens};
 use crate::chroma_offsets::Grid;
 use crate::chroma_offsets::chroma_offset;
-use crate::chroma_offsets::green_by;
+use crate::chroma_offsets::green_by_doubt;
 use crate::chroma_offsets::green_doubt;
 use crate::limits::limit_sum;
 use crate::stores::Block;
 
 // What red and blue multiply chroma by, and what sends halves up: 3/1024 for blue. Red has none, and -0 changes nothing.
-struct Tints;
+struct Multipliers;
 
-impl Tints {
+impl Multipliers {
     const RED: f32 = 1.402;
 
     const BLUE: f32 = 1.772;
@@ -49,8 +49,8 @@ fn lowered(y: [u32; Block::LEN]) -> [i32; Block::LEN]
 
 // The red or the blue row.
 fn chroma_row(k: f32, tie: f32, y: [i32; Block::LEN], x: [f32; Block::LEN]) -> [u8; Block::LEN]
-    requires { ⌜ Tinted k tie × ((i : ℕ) → i < 16 → Luma (getD y i (pos 0)) × Chroma (getD x i nan)) ⌝ }
-    ensures { λ r. ⌜ ((i : ℕ) → i < 16 → (m l c : ℕ) → Tint k tie m → Lowered (getD y i (pos 0)) l → Centred (getD x i nan) c → getD r i 0 ≡ plusChroma m l c) ⌝ }
+    requires { ⌜ IsMultiplier k tie × ((i : ℕ) → i < 16 → Luma (getD y i (pos 0)) × Chroma (getD x i nan)) ⌝ }
+    ensures { λ r. ⌜ ((i : ℕ) → i < 16 → (m l c : ℕ) → Multiplier k tie m → Lowered (getD y i (pos 0)) l → Centred (getD x i nan) c → getD r i 0 ≡ plusChroma m l c) ⌝ }
 {
     let mut row = [0u8; Block::LEN];
     for i in 0..Block::LEN {
@@ -79,7 +79,7 @@ fn green_row(y: [i32; Block::LEN], cb: [f32; Block::LEN], cr: [f32; Block::LEN])
     let d = doubt(cb, cr);
     let mut row = [0u8; Block::LEN];
     for i in 0..Block::LEN {
-        row[i] = limit_sum(y[i], green_by(cb[i], cr[i], d));
+        row[i] = limit_sum(y[i], green_by_doubt(cb[i], cr[i], d));
     }
     row
 }
@@ -94,8 +94,8 @@ pub fn rgb_block(
     ensures { λ r. ⌜ BlockOf r y cb cr ⌝ }
 {
     let low = lowered(y);
-    let red = chroma_row(Tints::RED, Tints::NO_TIE, low, cr);
+    let red = chroma_row(Multipliers::RED, Multipliers::NO_TIE, low, cr);
     let green = green_row(low, cb, cr);
-    let blue = chroma_row(Tints::BLUE, Tints::BLUE_TIE, low, cb);
+    let blue = chroma_row(Multipliers::BLUE, Multipliers::BLUE_TIE, low, cb);
     [red, green, blue]
 }

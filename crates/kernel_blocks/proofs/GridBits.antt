@@ -10,7 +10,7 @@ use lib.Ieee.{Float, nan, inf, fin, binary32, up, down, round, neg, sub, isNan, 
 use lib.Ieee.Fits.{down-pos}
 use lib.Ieee.Exact.{HasValue}
 use lib.Ieee.Nearest.{closest, closest-mono}
-use Rattle.laws.specs.Floats.{_⊕_, _⊖_, over, under, Close, Near}
+use Rattle.laws.specs.Floats.{_⊕_, _⊖_, over, under, Close, NearFraction}
 use Rattle.laws.proofs.Halves.{Half, closest-half}
 use Rattle.laws.proofs.Values.{value-no-nan}
 use Rattle.laws.proofs.Operators.{add-up, add-down}
@@ -80,7 +80,7 @@ pub record Bits (x : Float) (a b c e : ℕ) : Type 0 where
   pub counts : Counts (toBits binary32 x) a b c e
 
 module _ (a b c e : ℕ) (w : Small a b c e) where
-  pub plus-bits : (p : Float) → Near p a b c e → Bits (middle ⊕ p) a b c e
+  pub plus-bits : (p : Float) → NearFraction p a b c e → Bits (middle ⊕ p) a b c e
   plus-bits nan h = absurd h
   plus-bits (inf s) h = absurd h
   plus-bits (fin s m x) h =
@@ -105,6 +105,6 @@ module _ (a b c e : ℕ) (w : Small a b c e) where
       within false M D A l e = omega arith
       within true M D A l e = omega arith
 
-  pub minus-bits : (p : Float) → Near p b a c e → Bits (middle ⊖ p) a b c e
+  pub minus-bits : (p : Float) → NearFraction p b a c e → Bits (middle ⊖ p) a b c e
   unfolding sub
   minus-bits p h = plus-bits (neg p) (neg-near p b a c e h)
