@@ -1,4 +1,6 @@
 -- A chroma's float is a whole number, c - 32768: its products, and its bits on the grid of whole numbers.
+-- `centred-value` carries it, by whether c lies below the centre. A product is then one rounding (`scaled`), and the sum with 2 ^ 23 and the
+-- centre is exact, so that laws' `grid-bits` reads c off its bits.
 use mathlib.Core.Path.{_≡_, refl, sym, ap, _∙_, subst}
 use mathlib.Core.Bool.{Bool, true, false, not}
 use Prim.Native.Nat.{ℕ, _+_, _-_, _*_, _≤_, _<_}

@@ -1,4 +1,6 @@
 -- Green: where the offsets with a margin added and taken away round alike, that is the exact offset.
+-- The float sum with its margin is within 6 / 256 of the exact one, and the margin is 8 / 256. So the two bounds of GridBits, one from each side,
+-- leave one whole number, the exact quotient: that is `settled`, the one hard step, and linear.
 use mathlib.Core.Path.{_≡_, refl, sym, subst}
 use mathlib.Core.Bool.{true, false, not}
 use Prim.Native.Nat.{ℕ, _+_, _-_, _*_, _/_, _≤_}

@@ -1,4 +1,6 @@
 -- The bits of a sum with 1.5 * 2 ^ 31 count the multiple of 256 nearest to the other number.
+-- The sum is one rounding of a fraction (`summed`), and laws' `on-grid` and `grid-bits` at j = 8 say to which multiple and with what bits.
+-- The hard step is `counted`, where the rounding's half of 256 and the slack of the other number add up.
 use mathlib.Core.Path.{_≡_, refl, sym, ap, subst}
 use mathlib.Core.Bool.{Bool, true, false, not}
 use Prim.Native.Nat.{ℕ, _+_, _-_, _*_, _≤_, _<_}

@@ -1,4 +1,4 @@
--- Laws that the proofs and other crates cite.
+-- Laws of blocks: the offsets in floats (RedAndBlue, Greens, GridBits), the fixed kernel (FixedBytes), stored pixels (Puts, Stored, Packed).
 pub mod Blocks
 pub mod Chromas
 pub mod FixedBytes

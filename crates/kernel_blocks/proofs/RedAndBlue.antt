@@ -1,4 +1,6 @@
 -- Chroma as a float times a multiplier is near enough to the exact offset, but for a few chromas close to a half, each of which is computed.
+-- Off those edges the float's slack of 3 / 256 can't reach the next step (`steady`). At an edge lies at most one chroma for each step (`edge-at`),
+-- so that 360 steps of red and 455 of blue, computed in `checked`, are all of them.
 use mathlib.Core.Path.{_≡_, refl, sym, ap, _∙_, subst}
 use mathlib.Core.Bool.{Bool, true, false, not, _&&_}
 use mathlib.Core.Logic.{_⊎_, inl, inr}

@@ -12,7 +12,7 @@ pub record Centred (x : Float) (c : ℕ) : Type 0 where
   pub most : c ≤ 65536
   pub is : x ≡ f32 c ⊖ f32 32768
 
--- x is some chroma
+-- x is the float of some chroma
 abbrev pub Chroma : Float → Type 0
 Chroma x = (c : ℕ) × Centred x c
 
@@ -30,11 +30,12 @@ blueTie = fin false 3 (negsuc 9)
 abbrev pub noTie : Float
 noTie = fin true 0 (pos 0)
 
--- a colour's two, and its multiplier in thousandths
+-- the float that red or blue multiplies chroma by, what sends its halves up, and its multiplier in thousandths
 pub data Multiplier : Float → Float → ℕ → Type 0 where
   forRed : Multiplier red1402 noTie 1402
   forBlue : Multiplier blue1772 blueTie 1772
 
+-- k and tie are red's or blue's
 abbrev pub IsMultiplier : Float → Float → Type 0
 IsMultiplier k tie = (m : ℕ) × Multiplier k tie m
 
@@ -42,16 +43,17 @@ IsMultiplier k tie = (m : ℕ) × Multiplier k tie m
 abbrev pub middle : Float
 middle = fin false 3 (pos 30)
 
--- r is the offset z above those bits; no offset passes 227
+-- r is the offset z plus the bits of `middle`; no offset passes 227
 pub record OnGrid (z : ℤ) (r : ℕ) : Type 0 where
   pub is : Biased z 1329594368 r
   pub most : r ≤ 1329594595
 
--- z is the luma y below those bits
+-- z is the luma y less the bits of `middle`, so that its sum with an offset on the grid is luma and the offset
 pub record Lowered (z : ℤ) (y : ℕ) : Type 0 where
   pub most : y ≤ 65535
   pub is : z ≡ pos y -ℤ pos 1329594368
 
+-- z is some luma, lowered so
 abbrev pub Luma : ℤ → Type 0
 Luma z = (y : ℕ) × Lowered z y
 

@@ -1,4 +1,6 @@
 -- A float's nearness to a fraction, through roundings and operators: each adds 1 / 256 below 2 ^ 17, and nothing where it is exact.
+-- `round-near` carries it: below 2 ^ 17 the digits that are kept are 2 ^ -7 apart at most, and `closest-half` is within half of that.
+-- An operator is then one rounding of a fraction that the laws of Fractions put together, `sum-near` by the signs of the two parts.
 use mathlib.Core.Path.{_≡_, refl, sym, ap, _∙_, subst}
 use mathlib.Core.Bool.{Bool, true, false, not, _&&_, cond}
 use Prim.Native.Nat.{ℕ, _+_, _-_, _*_, _/_, _^_, _≤_, _<_}

@@ -4,14 +4,14 @@ ghost use mathlib.Core.Bool.{_&&_, _||_};
 ghost use Prim.Native.Nat.{min};
 ghost use Rattle.laws.specs.Numbers.{outsideOf};
 
-// Inner: a or b.
+// Inner: whether at least one of two tests applies.
 pub fn either(a: bool, b: bool) -> bool
     ensures { λ r. ⌜ r ≡ (a || b) ⌝ }
 {
     if a { true } else { b }
 }
 
-// Inner: a and b.
+// Inner: whether both of two tests apply.
 pub fn both(a: bool, b: bool) -> bool
     ensures { λ r. ⌜ r ≡ (a && b) ⌝ }
 {

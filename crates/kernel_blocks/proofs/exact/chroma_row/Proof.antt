@@ -1,3 +1,5 @@
+-- The loop's invariant is `Filled`: each byte so far is the exact kernel's, for the luma and the chroma that the two arrays stand for there.
+-- A turn is `byte-is`, by which the grid's bits in the offset and in the lowered luma cancel.
 use mathlib.Core.Path.{_≡_, refl}
 use Prim.Native.Nat.{ℕ, _-_, _≤_}
 use native.Mathlib.Omega.{arith}

@@ -1,3 +1,5 @@
+-- The loop's invariant is `Filled`: each byte so far is the exact kernel's green, for the luma and the chroma that the arrays stand for there.
+-- A turn is `byte-is` over `green_by_doubt`, which may be called because a block's doubt of 0 makes green sure at each of its pixels.
 use mathlib.Core.Path.{_≡_, refl}
 use Prim.Native.Nat.{ℕ, _-_, _≤_}
 use native.Mathlib.Omega.{arith}
