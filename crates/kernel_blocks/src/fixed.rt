@@ -52,7 +52,7 @@ fn fixed_red(y: u16, cr: u8) -> u8
     plus(y, c + part as u16, 179)
 }
 
-// Green of one pixel: its multiplier 46,802 of Cr is 65,536 - 18,734, taken of what Cr leaves of 255, so that the part is added.
+// Green of one pixel: its multiplier 46,802 of Cr is 65,536 - 18,734, taken of what Cr leaves of 255, with which green rises.
 //
 // 9,517 is 80 * 65,536 + 65,535 - (128 * 22,554 + 127 * 18,734 + 32,768): the centre and the half, rounded up since the part is
 // subtracted. 160 is the greatest part, so that the difference is not below 0, and the bias 207 is 160 + 127 - 80.

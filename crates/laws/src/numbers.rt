@@ -25,7 +25,7 @@ pub fn outside(lo: usize, hi: usize, x: usize) -> bool
     either(x < lo, hi < x)
 }
 
-// Inner: the smaller of two numbers.
+// Inner: the smaller of two numbers, where a length or a place is cut off at another.
 pub fn least(a: usize, b: usize) -> usize
     ensures { λ r. ⌜ r ≡ min a b ⌝ }
 {
