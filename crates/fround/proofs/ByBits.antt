@@ -1,4 +1,6 @@
 -- A value below 2 ^ 24, rounded from its bit pattern.
+-- `bits-val` carries it: by the library's `ofBits-toBits` the digits s and the exponent of the pattern are the value, so that it is
+-- s / 2 ^ K, which `up-halves` rounds by a shift. The bounds on the exponent's field are read off the number of digits of the value.
 use mathlib.Core.Path.{_≡_, refl, sym, ap, _∙_, subst}
 use Prim.Native.Nat.{ℕ, suc, _+_, _-_, _*_, _/_, _%_, _^_, _≤_, _<_}
 use native.Mathlib.Nat.{le-of-eq, lt-of-lt-of-le, lt-of-le-of-lt, not-le-of-lt, zero-lt-suc, mul-comm, mul-assoc, mul-right-comm, mul-left-comm, add-mul, mul-pos, mul-lt-mul-of-pos-right, lt-of-mul-lt-mul-right, div-lt-iff-lt-mul, eq-of-mul-eq-mul-right, mod-eq-of-lt}

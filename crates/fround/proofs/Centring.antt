@@ -1,4 +1,6 @@
 -- Halves up from two sums on the grid: ties go to even in c + 2 ^ 23, and to odd in c + (2 ^ 23 + 1) - 1, so that the larger went up.
+-- The fact is `both`, over whole numbers, by the three orders of the remainder and a half. The rest carries it through the sums, the
+-- larger of two floats (`max-val`) and the last difference, whose sign `less-centre` splits on.
 use mathlib.Core.Path.{_≡_, refl, sym, ap, _∙_, subst}
 use Prim.Native.Nat.{ℕ, _+_, _-_, _*_, _/_, _%_, _≤_, _<_, max, compare, Ordering, Ordering·lt, Ordering·eq, Ordering·gt}
 use native.Mathlib.Nat.{le-trans, le-of-eq, zero-lt-suc, mul-one, add-mul-div-right, add-mul-mod-self-right, div-add-mod', mod-lt, lt-of-mul-lt-mul-right, le-of-mul-le-mul-right, mul-pos}

@@ -1,4 +1,6 @@
--- What callers ask of the definitions: a rounding is within its limit, keeps whole numbers and the order; a value raised to lo and lowered to hi lies between.
+-- What callers ask of the definitions: a rounding is within its limit, keeps whole numbers and the order; a value raised to lo and lowered to hi
+-- lies between. By the cases of a float: of two fractions `round-mono` is laws' `up-mono`, and its odd case is a value at most a negative one,
+-- which is a zero. Two floats of the same bits are equal because both fit the format, so that their bits can be read back.
 use mathlib.Core.Path.{_≡_, refl, sym, ap, _∙_}
 use mathlib.Core.Bool.{Bool, true, false, not, _&&_, true≢false, cond}
 use Prim.Native.Nat.{ℕ, _*_, _≤_, min, zero-le}

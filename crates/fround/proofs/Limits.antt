@@ -1,4 +1,6 @@
 -- x limited to 0 .. max by two comparisons, and what the limit does to the rounding.
+-- `low` and `high` go by the cases of x: what is limited rounds to the limit, and the rest is left. The hard step is in `high`, where
+-- a comparison with the float of max becomes one of x's fraction with max (`cross-lt`, `cross-le`).
 use mathlib.Core.Path.{_≡_, refl, sym, ap, _∙_, subst}
 use Prim.Native.Nat.{ℕ, _*_, _≤_, _<_, min, zero-le}
 use native.Mathlib.Nat.{le-of-eq, le-trans, le-of-lt, lt-of-lt-of-le, mul-one, mul-right-comm, lt-of-mul-lt-mul-right, le-of-mul-le-mul-right}

@@ -1,4 +1,6 @@
 -- The grid: c + 2 ^ 23 rounds c to the nearest whole number, ties to even, and the test for one half mends the ties that went down.
+-- laws' `on-grid` gives the sum, and `side` the three places of c about its whole number. The hard step is `test`: c less that number is
+-- rounded to itself (`round-kept`), so that it equals one half exactly where a tie went down.
 use mathlib.Core.Path.{_≡_, refl, sym, ap, _∙_, subst}
 use Prim.Native.Nat.{ℕ, zero, suc, _+_, _-_, _*_, _%_, _^_, _≤_, _<_}
 use native.Mathlib.Nat.{le-trans, le-of-eq, le-of-lt, lt-of-le-of-lt, lt-irrefl, zero-lt-suc, mul-one, one-mul, mul-comm, mul-assoc, mul-right-comm, mul-le-mul-right, eq-of-mul-eq-mul-right, add-zero}

@@ -19,7 +19,7 @@ fmax a b = cond (lt b a) a b
 abbrev pub origin : Float
 origin = fin false 0 (pos 0)
 
--- x limited to 0 .. max by those two
+-- x limited to 0 .. max by `fmax` and `fmin`, by which a not-a-number gives 0
 abbrev pub clamped : ℕ → Float → Float
 clamped max x = fmin (fmax x origin) (f32 max)
 

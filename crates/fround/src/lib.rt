@@ -1,23 +1,28 @@
-// Rounding floats to whole samples: the original's src/jpeg/fround.rs. Nothing here is public outside the project: the roundings are inner.
+// Rounding floats to whole samples: the original's src/jpeg/fround.rs, and document 01's 'Rounding'.
+//
+// It gives two roundings that limit, by the grid and from the bits, a third for chroma in 256ths, and fmin and fmax by comparison.
+// Roundings are inner in document 01, so no public crate passes them on. specs/Rounding says what each gives, proofs/Laws has what
+// callers ask of it.
 ghost use mathlib.Core.Path.{_≡_};
 ghost use Prim.Native.Nat.{_≤_, min};
 ghost use lib.Ieee.{add, binary32};
 ghost use Rattle.laws.specs.Floats.{f32, _⊖_, _⊗_};
 ghost use Rattle.fround.specs.Rounding.{fmin, fmax, clamped, roundClamped, sameFloat, Rounded};
 
+// The constants of the roundings.
 pub struct Rounding;
 
 impl Rounding {
     // 2^23: an f32 at or above it has a unit in the last place of 1.
     pub const GRID: f32 = 8_388_608.0;
 
-    // 2^22: the largest limit of the grid rounding.
+    // 2^22, half of GRID: the largest limit of the grid rounding. A sum with GRID then stays below 2^24, where the unit is still 1.
     pub const LIMIT: u32 = 4_194_304;
 
-    // 65,535 in 256ths: the largest limit of the rounding from the bits.
+    // 65,535 * 256, the greatest sample in 256ths: the largest limit of the rounding from the bits.
     pub const WIDE: u32 = 16_776_960;
 
-    // 2^23 again, as the weight of the exponent's field in a bit pattern: the digits lie below it.
+    // 2^23, GRID as a whole number: the weight of the exponent's field in a bit pattern, below which the digits lie.
     pub const FIELD: u32 = 8_388_608;
 }
 
@@ -48,6 +53,7 @@ pub fn same_float(x: f32, y: f32) -> bool
     y != y
 }
 
+// The smaller of two limits, as a function: the roundings then have no branches that meet, which the prover would have to join.
 fn least(a: u32, b: u32) -> u32
     ensures { λ r. ⌜ r ≡ min a b ⌝ }
 {
@@ -86,9 +92,11 @@ pub fn round_clamped_by_grid(x: f32, max: u32) -> u32
     }
 }
 
-// Inner: the same past the grid's limit, from the float's bits. A max over WIDE counts as WIDE.
+// Inner: x limited to 0..=max, and that to the nearest whole number, halves up, from the float's bits. A max over WIDE counts as WIDE.
 //
-// The exponent's field e says how many of the 24 digits s lie below one: 150 - e. One more of them is kept, and halved upward.
+// It serves limits past LIMIT, up to which alone the grid keeps every whole number. The exponent's field e says how many of the
+// 24 digits s lie below one: 150 - e, since 150 is the field of GRID, whose digits are all whole. One more of them is kept, and
+// halved upward. 126 is the field of one half, so that below it the result is 0.
 pub fn round_clamped_by_bits(x: f32, max: u32) -> u32
     ensures { λ r. do limit ← ⟦Rounding::WIDE⟧ .entry; ⌜ Rounded (min max limit) x r ⌝ }
 {
@@ -105,6 +113,7 @@ pub fn round_clamped_by_bits(x: f32, max: u32) -> u32
 // Inner: v in 256ths, limited to 0..=65536 and that to the nearest whole number, halves up; less 32,768, the centre of chroma.
 //
 // On the grid a tie goes to the even neighbour, and one further up to the odd one: the larger of the two went up.
+// 8,388,609 is GRID + 1, and 8,421,376 is GRID + 32,768, so that the last difference leaves the grid and centres at once.
 pub fn centred_256ths(v: f32) -> f32
     ensures { λ r. ⌜ r ≡ f32 (roundClamped 65536 (v ⊗ f32 256)) ⊖ f32 32768 ⌝ }
 {

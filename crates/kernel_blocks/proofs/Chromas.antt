@@ -1,4 +1,6 @@
 -- A chroma's float is a whole number, c - 32768: its products, and its bits on the grid of whole numbers.
+-- `centred-value` carries it, by whether c lies below the centre. A product is then one rounding (`scaled`), and the sum with 2 ^ 23 and the
+-- centre is exact, so that laws' `grid-bits` reads c off its bits.
 use mathlib.Core.Path.{_≡_, refl, sym, ap, _∙_, subst}
 use mathlib.Core.Bool.{Bool, true, false, not}
 use Prim.Native.Nat.{ℕ, _+_, _-_, _*_, _≤_, _<_}
@@ -9,7 +11,7 @@ use lib.Dec.{T, ltb, ltb→lt, nltb→le}
 use lib.Ieee.{Float, fin, binary32, round, isNan, toBits}
 use lib.Ieee.Back.{round-whole}
 use lib.Ieee.Exact.{HasValue}
-use Rattle.laws.specs.Floats.{f32, _⊕_, _⊗_, over, under, Close, Near}
+use Rattle.laws.specs.Floats.{f32, _⊕_, _⊗_, over, under, Close, NearFraction}
 use Rattle.laws.proofs.Values.{whole-value, value-no-nan}
 use Rattle.laws.proofs.Operators.{add-up, add-down, sub-up, sub-down, mul-by}
 use Rattle.laws.proofs.Nearness.{mild-step}
@@ -51,11 +53,11 @@ centred-value {x} {c} h = go (ltb c 32768) (ltb→lt c 32768) (nltb→le c 32768
         }
 
 -- times F / G, at most 2
-pub scaled : (k x : Float) (F G c : ℕ) → HasValue k false F G → 0 < G → F ≤ 2 * G → Centred x c → Near (k ⊗ x) (F * c) (F * 32768) G 1
+pub scaled : (k x : Float) (F G c : ℕ) → HasValue k false F G → 0 < G → F ≤ 2 * G → Centred x c → NearFraction (k ⊗ x) (F * c) (F * 32768) G 1
 scaled k x F G c v z l h =
     let w = centred-value h in
     let m : F * c ≤ F * 65536 = mul-le-mul-left F (h .most) in
-    subst (λ (y : Float). Near y (F * c) (F * 32768) G 1) (sym (mul-by binary32 k x (w .s) F G (w .M) 1 z (zero-lt-suc 0) v (w .is)))
+    subst (λ (y : Float). NearFraction y (F * c) (F * 32768) G 1) (sym (mul-by binary32 k x (w .s) F G (w .M) 1 z (zero-lt-suc 0) v (w .is)))
     (mild-step (F * c) (F * 32768) G 0 (record { some = z; top = omega arith; bottom = omega arith; few = omega arith }) (w .s) (F * w .M) (G * 1) (mul-pos z (zero-lt-suc 0)) (exact (w .s) (w .M) (w .at)))
   where
     exact : (s : Bool) (M : ℕ) → over s M + 32768 ≡ under s M + c → Close (over s (F * M)) (under s (F * M)) (G * 1) (F * c) (F * 32768) G 0

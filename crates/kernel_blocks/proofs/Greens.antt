@@ -1,4 +1,6 @@
 -- Green: where the offsets with a margin added and taken away round alike, that is the exact offset.
+-- The float sum with its margin is within 6 / 256 of the exact one, and the margin is 8 / 256. So the two bounds of GridBits, one from each side,
+-- leave one whole number, the exact quotient: that is `settled`, the one hard step, and linear.
 use mathlib.Core.Path.{_≡_, refl, sym, subst}
 use mathlib.Core.Bool.{true, false, not}
 use Prim.Native.Nat.{ℕ, _+_, _-_, _*_, _/_, _≤_}
@@ -6,12 +8,12 @@ use native.Mathlib.Omega.{arith}
 use lib.IntN.{negsuc}
 use lib.Dec.{T, lit<}
 use lib.Ieee.{Float, fin, isNan}
-use Rattle.laws.specs.Floats.{_⊕_, _⊖_, _⊗_, Near}
+use Rattle.laws.specs.Floats.{_⊕_, _⊖_, _⊗_, NearFraction}
 use Rattle.laws.proofs.Nearness.{mild-step, near-chain, value-near, add-near}
 use Rattle.kernels.specs.Kernels.{centred, greenOffset}
 use Rattle.kernels.proofs.Channels.{green-biased}
-use Rattle.kernel_blocks.specs.Floating.{Centred, OnGrid, middle, slant, margin, lessMargin, Margin, added, taken, greenBits, Sure}
-use Rattle.kernel_blocks.proofs.Nearby.{Counts, Bits, minus-bits}
+use Rattle.kernel_blocks.specs.Floating.{Centred, OnGrid, middle, greenTaken, margin, lessMargin, Margin, added, taken, greenBits, Sure}
+use Rattle.kernel_blocks.proofs.GridBits.{Counts, Bits, minus-bits}
 use Rattle.kernel_blocks.proofs.Chromas.{scaled}
 use Rattle.kernel_blocks.proofs.Lumas.{on-grid-from}
 
@@ -27,8 +29,8 @@ abbrev slack : ℕ
 slack = 587000
 
 module _ {x y : Float} {b r : ℕ} (h : Centred x b) (k : Centred y r) where
-  slant-near : Near (slant x y) (parts b r) (parts 32768 32768) unit 5
-  slant-near =
+  green-taken-near : NearFraction (greenTaken x y) (parts b r) (parts 32768 32768) unit 5
+  green-taken-near =
       let l = h .most in
       let m = k .most in
       let u = fin false 5773649 (negsuc 23) in
@@ -39,18 +41,18 @@ module _ {x y : Float} {b r : ℕ} (h : Centred x b) (k : Centred y r) where
       (near-chain (v ⊗ y) (11981219 * r) (11981219 * 32768) 16777216 (13414336 * r) (13414336 * 32768) unit 1 1 (lit< tt) (scaled v y 11981219 16777216 r (refl, refl) (lit< tt) (omega arith) k) (omega arith))
 
   -- with (p - n) / unit added
-  green-bits : (t : Float) (p n : ℕ) → Near t p n unit 0 → p ≤ slack → n ≤ slack → Bits (middle ⊖ (slant x y ⊕ t)) (parts 32768 32768 + n) (parts b r + p) unit 6
+  green-bits : (t : Float) (p n : ℕ) → NearFraction t p n unit 0 → p ≤ slack → n ≤ slack → Bits (middle ⊖ (greenTaken x y ⊕ t)) (parts 32768 32768 + n) (parts b r + p) unit 6
   green-bits t p n w f g =
       let l = h .most in
       let m = k .most in
-      minus-bits (parts 32768 32768 + n) (parts b r + p) unit 6 (record { some = lit< tt; top = omega arith; bottom = omega arith }) (slant x y ⊕ t)
-      (add-near (slant x y) t (parts b r) (parts 32768 32768) p n unit 5 0 6
-      (mild-step (parts b r + p) (parts 32768 32768 + n) unit 5 (record { some = lit< tt; top = omega arith; bottom = omega arith; few = omega arith })) slant-near w)
+      minus-bits (parts 32768 32768 + n) (parts b r + p) unit 6 (record { some = lit< tt; top = omega arith; bottom = omega arith }) (greenTaken x y ⊕ t)
+      (add-near (greenTaken x y) t (parts b r) (parts 32768 32768) p n unit 5 0 6
+      (mild-step (parts b r + p) (parts 32768 32768 + n) unit 5 (record { some = lit< tt; top = omega arith; bottom = omega arith; few = omega arith })) green-taken-near w)
 
-  above : Bits (middle ⊖ (slant x y ⊕ margin)) (parts 32768 32768 + 0) (parts b r + slack) unit 6
+  above : Bits (middle ⊖ (greenTaken x y ⊕ margin)) (parts 32768 32768 + 0) (parts b r + slack) unit 6
   above = green-bits margin slack 0 (value-near margin false slack unit (refl, refl)) (omega arith) (omega arith)
 
-  below : Bits (middle ⊖ (slant x y ⊕ lessMargin)) (parts 32768 32768 + slack) (parts b r + 0) unit 6
+  below : Bits (middle ⊖ (greenTaken x y ⊕ lessMargin)) (parts 32768 32768 + slack) (parts b r + 0) unit 6
   below = green-bits lessMargin 0 slack (value-near lessMargin true slack unit (refl, refl)) (omega arith) (omega arith)
 
   pub green-sure : Sure x y → OnGrid (greenOffset (centred b) (centred r)) (greenBits x y margin)
@@ -65,7 +67,7 @@ module _ {x y : Float} {b r : ℕ} (h : Centred x b) (k : Centred y r) where
 
 -- what the code asks of the sum: that it is a number, and that its bits are an i32's
 module _ {x y : Float} {b r : ℕ} (h : Centred x b) (k : Centred y r) where
-  pub green-number : {t : Float} → Margin t → T (not (isNan (middle ⊖ (slant x y ⊕ t))))
+  pub green-number : {t : Float} → Margin t → T (not (isNan (middle ⊖ (greenTaken x y ⊕ t))))
   green-number added = above h k .number
   green-number taken = below h k .number
 

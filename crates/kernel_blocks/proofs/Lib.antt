@@ -1,13 +1,13 @@
--- Laws that the proofs and other crates cite.
+-- Laws of blocks: the offsets in floats (RedAndBlue, Greens, GridBits), the fixed kernel (FixedBytes), stored pixels (Puts, Stored, Packed).
 pub mod Blocks
 pub mod Chromas
 pub mod FixedBytes
+pub mod GreenQuotient
 pub mod Greens
+pub mod GridBits
 pub mod Lumas
-pub mod Nearby
-pub mod Offsets
 pub mod Packed
 pub mod Puts
+pub mod RedAndBlue
 pub mod Signed
 pub mod Stored
-pub mod Tints

@@ -1,4 +1,6 @@
 -- Laws of stored pixels: chaining runs, comparing them, reading a channel back, and what is left as it was.
+-- Inductions on the number of pixels over the library's laws of `set`. The hard one is `pixels-channel`: a byte of an earlier pixel is none of
+-- a later one's three, since pixels begin at least three bytes apart.
 use mathlib.Core.Path.{_≡_, _∙_, refl, ap}
 use mathlib.Core.Logic.{_≢_, inl, inr}
 use mathlib.Core.List.{List}

@@ -1,4 +1,6 @@
 -- A loop that stores pixels: its invariant is `Stored`, and its steps are `stored-none`, `stored-more`, `stored-over` and `stored-end`.
+-- The hard one is `stored-over`, a last block that overlaps what is stored: it is split where that ends (`pixels-over`), its first part
+-- changes nothing (`pixels-again`), and the rest chains on (`pixels-add`).
 use mathlib.Core.Path.{_≡_, refl, sym, ap, _∙_}
 use mathlib.Core.List.{List}
 use Prim.Native.Nat.{ℕ, zero, suc, _+_, _-_, _*_, _≤_, _<_}

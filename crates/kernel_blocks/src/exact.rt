@@ -1,23 +1,23 @@
-// Sixteen pixels of the exact kernel at maxval 255, a colour row at a time.
+// Sixteen pixels of the exact kernel at maxval 255, a colour row after the other, so that each loop becomes wide instructions.
 ghost use mathlib.Core.Path.{_≡_};
 ghost use Prim.Native.Nat.{ℕ, _<_, _≤_};
 ghost use lib.IntN.{pos};
 ghost use lib.ListN.{getD};
 ghost use lib.Ieee.{nan};
 ghost use Rattle.kernels.specs.Forms.{plusChroma};
-ghost use Rattle.kernel_blocks.specs.Floating.{Centred, Chroma, Tint, Tinted, Lowered, Luma, Sure};
+ghost use Rattle.kernel_blocks.specs.Floating.{Centred, Chroma, Multiplier, IsMultiplier, Lowered, Luma, Sure};
 ghost use Rattle.kernel_blocks.specs.Blocks.{BlockOf, InLimits, Pixels, Greens};
 use crate::chroma_offsets::Grid;
 use crate::chroma_offsets::chroma_offset;
-use crate::chroma_offsets::green_by;
+use crate::chroma_offsets::green_by_doubt;
 use crate::chroma_offsets::green_doubt;
 use crate::limits::limit_sum;
 use crate::stores::Block;
 
-// What red and blue multiply chroma by, and what sends halves up: 3/1024 for blue. Red has none, and -0 changes nothing.
-struct Tints;
+// What red and blue multiply chroma by, and what sends their halves up: 3/1024 for blue. Red has no halves, and -0 changes nothing.
+struct Multipliers;
 
-impl Tints {
+impl Multipliers {
     const RED: f32 = 1.402;
 
     const BLUE: f32 = 1.772;
@@ -27,7 +27,7 @@ impl Tints {
     const BLUE_TIE: f32 = 0.002_929_687_5;
 }
 
-// Luma below the grid's bits.
+// Luma less the grid's bits, which an offset carries: their sum is then luma and the offset.
 fn lower(y: u32) -> i32
     requires { ⌜ y ≤ 65535 ⌝ }
     ensures { λ r. ⌜ Lowered r y ⌝ }
@@ -35,7 +35,7 @@ fn lower(y: u32) -> i32
     y as i32 - Grid::BITS as i32
 }
 
-// Sixteen of them, for the three rows.
+// The luma of a block less the grid's bits, once for all three rows.
 fn lowered(y: [u32; Block::LEN]) -> [i32; Block::LEN]
     requires { ⌜ ((k : ℕ) → k < 16 → getD y k 0 ≤ 65535) ⌝ }
     ensures { λ r. ⌜ ((k : ℕ) → k < 16 → Lowered (getD r k (pos 0)) (getD y k 0)) ⌝ }
@@ -47,10 +47,14 @@ fn lowered(y: [u32; Block::LEN]) -> [i32; Block::LEN]
     row
 }
 
-// The red or the blue row.
+// The red or the blue row of a block, by its multiplier k; x is the chroma that it takes.
 fn chroma_row(k: f32, tie: f32, y: [i32; Block::LEN], x: [f32; Block::LEN]) -> [u8; Block::LEN]
-    requires { ⌜ Tinted k tie × ((i : ℕ) → i < 16 → Luma (getD y i (pos 0)) × Chroma (getD x i nan)) ⌝ }
-    ensures { λ r. ⌜ ((i : ℕ) → i < 16 → (m l c : ℕ) → Tint k tie m → Lowered (getD y i (pos 0)) l → Centred (getD x i nan) c → getD r i 0 ≡ plusChroma m l c) ⌝ }
+    requires { ⌜ IsMultiplier k tie × ((i : ℕ) → i < 16 → Luma (getD y i (pos 0)) × Chroma (getD x i nan)) ⌝ }
+    ensures { λ r. ⌜ ((i : ℕ) → i < 16 → (m l c : ℕ)
+        → Multiplier k tie m
+        → Lowered (getD y i (pos 0)) l
+        → Centred (getD x i nan) c
+        → getD r i 0 ≡ plusChroma m l c) ⌝ }
 {
     let mut row = [0u8; Block::LEN];
     for i in 0..Block::LEN {
@@ -59,7 +63,7 @@ fn chroma_row(k: f32, tie: f32, y: [i32; Block::LEN], x: [f32; Block::LEN]) -> [
     row
 }
 
-// 0 where green is sure at every pixel.
+// 0 where green is sure at every pixel of a block. The pixels' doubts are joined without a branch, sixteen at a time.
 fn doubt(cb: [f32; Block::LEN], cr: [f32; Block::LEN]) -> u32
     requires { ⌜ ((i : ℕ) → i < 16 → Chroma (getD cb i nan) × Chroma (getD cr i nan)) ⌝ }
     ensures { λ r. ⌜ (r ≡ 0 → (i : ℕ) → i < 16 → Sure (getD cb i nan) (getD cr i nan)) ⌝ }
@@ -71,7 +75,7 @@ fn doubt(cb: [f32; Block::LEN], cr: [f32; Block::LEN]) -> u32
     d
 }
 
-// The green row.
+// The green row of a block, whose doubt decides the form of all sixteen.
 fn green_row(y: [i32; Block::LEN], cb: [f32; Block::LEN], cr: [f32; Block::LEN]) -> [u8; Block::LEN]
     requires { ⌜ Pixels y cb cr ⌝ }
     ensures { λ r. ⌜ Greens r y cb cr ⌝ }
@@ -79,7 +83,7 @@ fn green_row(y: [i32; Block::LEN], cb: [f32; Block::LEN], cr: [f32; Block::LEN])
     let d = doubt(cb, cr);
     let mut row = [0u8; Block::LEN];
     for i in 0..Block::LEN {
-        row[i] = limit_sum(y[i], green_by(cb[i], cr[i], d));
+        row[i] = limit_sum(y[i], green_by_doubt(cb[i], cr[i], d));
     }
     row
 }
@@ -94,8 +98,8 @@ pub fn rgb_block(
     ensures { λ r. ⌜ BlockOf r y cb cr ⌝ }
 {
     let low = lowered(y);
-    let red = chroma_row(Tints::RED, Tints::NO_TIE, low, cr);
+    let red = chroma_row(Multipliers::RED, Multipliers::NO_TIE, low, cr);
     let green = green_row(low, cb, cr);
-    let blue = chroma_row(Tints::BLUE, Tints::BLUE_TIE, low, cb);
+    let blue = chroma_row(Multipliers::BLUE, Multipliers::BLUE_TIE, low, cb);
     [red, green, blue]
 }

@@ -1,11 +1,11 @@
-// Numbers limited to one byte, in a form for many at a time.
+// Numbers limited to one byte, in a form that compiles to wide instructions.
 ghost use mathlib.Core.Path.{_≡_};
 ghost use Prim.Native.Nat.{_≤_};
 ghost use lib.IntN.{pos, _+ℤ_};
 ghost use Rattle.laws.specs.Differences.{limit};
 ghost use Rattle.kernel_blocks.specs.Floating.{Luma};
 
-// z limited to 0..=255. Signed and with the upper limit first, so that sixteen of them compile to packs that limit.
+// A number limited to 0..=255. It is signed and its upper limit comes first, so that sixteen of them compile to packs that limit.
 fn limit_byte(z: i32) -> u8
     ensures { λ r. ⌜ r ≡ limit 255 z ⌝ }
 {
@@ -18,7 +18,9 @@ fn limit_byte(z: i32) -> u8
     z as u8
 }
 
-// Inner: luma below the grid's bits plus an offset above them, limited to 0..=255. No constant stands beside the limits: it would be moved into them, and they would not become packs.
+// Inner: luma less the grid's bits plus an offset that carries them, limited to 0..=255.
+//
+// No constant stands beside the limits: it would be moved into them, and they would not become packs.
 pub fn limit_sum(y: i32, offset: u32) -> u8
     requires { ⌜ Luma y × (offset ≤ 2147483647) ⌝ }
     ensures { λ r. ⌜ r ≡ limit 255 (y +ℤ pos offset) ⌝ }

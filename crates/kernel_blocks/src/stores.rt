@@ -5,14 +5,14 @@ ghost use lib.ListN.{length};
 ghost use Rattle.kernel_blocks.specs.Stores.{pixel, pixels, blockPixel};
 ghost use Rattle.kernels.specs.Kernels.{rgb};
 
-// A block of pixels.
+// How many pixels a block has: document 01's block length, named with the thing that it belongs to.
 pub struct Block;
 
 impl Block {
     pub const LEN: usize = 16;
 }
 
-// Inner: the colour bytes of the pixel that starts at `at`.
+// Inner: stores the colour bytes of the pixel that starts at `at`.
 pub fn put_pixel(dst: &mut [u8], at: usize, r: u8, g: u8, b: u8)
     requires { ⌜ at + 3 ≤ length (now dst) ⌝ }
     ensures { λ _. ⌜ now (dst .exit) ≡ pixel (now (dst .entry)) at (rgb r g b) ⌝ }
@@ -22,7 +22,7 @@ pub fn put_pixel(dst: &mut [u8], at: usize, r: u8, g: u8, b: u8)
     dst[at + 2] = b;
 }
 
-// Inner: the pixels of a block from `at` on, `size` bytes each. Called with the size as a constant, it compiles to wide stores.
+// Inner: stores the pixels of a block from `at` on, `size` bytes each. Called with the size as a constant, it compiles to wide stores.
 pub fn put_block(dst: &mut [u8], at: usize, size: usize, rows: [[u8; Block::LEN]; 3])
     requires { do n ← ⟦Block::LEN⟧; ⌜ (3 ≤ size) × (at + n * size ≤ length (now dst)) ⌝ }
     ensures { λ _. do n ← ⟦Block::LEN⟧ .entry; ⌜ now (dst .exit) ≡ pixels (now (dst .entry)) at size (blockPixel rows) n ⌝ }

@@ -14,7 +14,9 @@ fn word(a: u8, b: u8, c: u8, d: u8) -> u32
     (a as u32) + 256 * (b as u32) + 65_536 * (c as u32) + 16_777_216 * (d as u32)
 }
 
-// The word at p with its three colour bytes cleared. `low` has their bits: a number that the compiler knows would make it read the fourth bytes one by one.
+// The word at p with its three colour bytes cleared.
+//
+// `low` has their bits, 2^24 - 1: a number that the compiler knows would make it read the fourth bytes one by one.
 fn fourth(dst: &[u8], p: usize, low: u32) -> u32
     requires { ⌜ (low ≡ 16777215) × (p + 4 ≤ length (now dst)) ⌝ }
     ensures { λ r. ⌜ (r ≡ 16777216 * getD (now (dst .entry)) (p + 3) 0) × (r < 4294967296) ⌝ }
@@ -26,7 +28,8 @@ fn fourth(dst: &[u8], p: usize, low: u32) -> u32
 // The words of a block's pixels, with the fourth bytes that dst holds.
 fn words(dst: &[u8], at: usize, low: u32, rows: [[u8; Block::LEN]; 3]) -> [u32; Block::LEN]
     requires { ⌜ (low ≡ 16777215) × (at + 64 ≤ length (now dst)) ⌝ }
-    ensures { λ r. ⌜ ((k : ℕ) → k < 16 → Word (getD r k 0) (blockPixel rows k) (getD (now (dst .entry)) (at + k * 4 + 3) 0)) ⌝ }
+    ensures { λ r. ⌜ ((k : ℕ) → k < 16
+        → Word (getD r k 0) (blockPixel rows k) (getD (now (dst .entry)) (at + k * 4 + 3) 0)) ⌝ }
 {
     let mut w = [0u32; Block::LEN];
     for i in 0..Block::LEN {
@@ -36,10 +39,13 @@ fn words(dst: &[u8], at: usize, low: u32, rows: [[u8; Block::LEN]; 3]) -> [u32; 
     w
 }
 
-// The bytes of a word, from p on.
+// Stores the four bytes of a word from p on, the lowest first.
 fn put_word(dst: &mut [u8], p: usize, w: u32)
     requires { ⌜ p + 4 ≤ length (now dst) ⌝ }
-    ensures { λ _. ⌜ now (dst .exit) ≡ set (pixel (now (dst .entry)) p (rgb (w % 256) (w / 256 % 256) (w / 65536 % 256))) (p + 3) (w / 16777216) ⌝ }
+    ensures { λ _. ⌜ now (dst .exit) ≡ set
+        (pixel (now (dst .entry)) p (rgb (w % 256) (w / 256 % 256) (w / 65536 % 256)))
+        (p + 3)
+        (w / 16777216) ⌝ }
 {
     dst[p] = (w % 256) as u8;
     dst[p + 1] = (w / 256 % 256) as u8;
@@ -47,7 +53,7 @@ fn put_word(dst: &mut [u8], p: usize, w: u32)
     dst[p + 3] = (w / 16_777_216) as u8;
 }
 
-// Inner: the pixels of a block from `at` on, four bytes each.
+// Inner: stores the pixels of a block from `at` on, four bytes each, by words; `low` is 2^24 - 1, as its caller computed it.
 pub fn put_words(dst: &mut [u8], at: usize, low: u32, rows: [[u8; Block::LEN]; 3])
     requires { ⌜ (low ≡ 16777215) × (at + 64 ≤ length (now dst)) ⌝ }
     ensures { λ _. ⌜ now (dst .exit) ≡ pixels (now (dst .entry)) at 4 (blockPixel rows) 16 ⌝ }

@@ -1,4 +1,6 @@
 -- Each channel of the exact kernel over natural numbers, as the code computes it; red and blue once, over their multiplier.
+-- A formula below zero too is built as a difference of natural numbers by the laws of Differences, in the formula's own order. The hard step
+-- is `rounded`: the bias goes into the numerator as a multiple of the divisor, so that the floor is a plain quotient.
 use mathlib.Core.Path.{_≡_, refl, _∙_}
 use Prim.Native.Nat.{ℕ, _+_, _*_, _-_, _/_, _<_, _≤_, min}
 use native.Mathlib.Nat.{le-trans, mul-le-mul-left, mul-le-mul-right}

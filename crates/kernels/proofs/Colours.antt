@@ -1,4 +1,6 @@
 -- A colour from its three channels, and what the tests of the single-pixel calls leave.
+-- Equal channels make equal colours, and chroma may be limited first since `centred` limits it anyway (`centred-limited`). That both forms
+-- agree at maxval 255 (`same-255`) is by their quotients of natural numbers, in which 255 cancels.
 use mathlib.Core.Path.{_≡_, refl}
 use mathlib.Core.Bool.{Bool, false, _||_}
 use mathlib.Core.List.{List, [], _∷_}

@@ -1,4 +1,4 @@
--- Laws that the proofs and other crates cite.
+-- Laws of the kernels: each channel over natural numbers, colours put together, worked cases, and T.871's coefficients.
 pub mod Cases
 pub mod Channels
 pub mod Colours

@@ -1,4 +1,4 @@
-// The exact kernel for one pixel, a division for each channel.
+// The exact kernel for one pixel: T.871's equations in whole numbers, with one division for each channel.
 ghost use mathlib.Core.Path.{_≡_};
 ghost use Prim.Native.Nat.{_+_, _*_, _/_, _≤_, min};
 ghost use Rattle.kernels.specs.Kernels.{exact255, exactAt};
@@ -25,7 +25,7 @@ fn limit_chroma(c: u32) -> u32
     if c <= 65_536 { c } else { 65_536 }
 }
 
-// Red or blue at maxval 255.
+// Red or blue at maxval 255: k is its multiplier in thousandths, c the chroma in 256ths that it takes.
 fn plain_chroma(k: u32, bias: u32, y: u32, c: u32) -> u8
     requires { ⌜ Suits k bias × (y ≤ 65535) × (c ≤ 65536) ⌝ }
     ensures { λ r. ⌜ r ≡ plusChroma k y c ⌝ }
@@ -33,7 +33,10 @@ fn plain_chroma(k: u32, bias: u32, y: u32, c: u32) -> u8
     limit8(y + raised(k, bias, c) / 256_000, bias)
 }
 
-// Green at maxval 255, numerator and denominator halved. The first number raises it by the bias, a half and the centre.
+// Green at maxval 255, with numerator and denominator halved: 101,004, 209,599 and 75,136,000 are half of 202,008, 419,198 and 150,272,000.
+//
+// The first number raises the quotient by its bias and a half and takes chroma from its centre:
+// 137 * 75,136,000 + 37,568,000 + 32,768 * (101,004 + 209,599).
 fn plain_green(y: u32, cb: u32, cr: u32) -> u8
     requires { ⌜ (y ≤ 65535) × (cb ≤ 65536) × (cr ≤ 65536) ⌝ }
     ensures { λ r. ⌜ r ≡ exact255 y cb cr .green ⌝ }
@@ -42,7 +45,7 @@ fn plain_green(y: u32, cb: u32, cr: u32) -> u8
     limit8(y + (n / 75_136_000) as u32, Bias::GREEN)
 }
 
-// Inner: the exact kernel at maxval 255.
+// Inner: the exact kernel at maxval 255, for luma of at most 65,535 and any chroma in 256ths.
 pub fn ycbcr_frac_to_rgb8_8bit(y: u32, cb256: u32, cr256: u32) -> Rgb
     requires { ⌜ y ≤ 65535 ⌝ }
     ensures { λ p. ⌜ colourOf p ≡ exact255 y cb256 cr256 ⌝ }
@@ -64,7 +67,7 @@ fn centre(d: u64) -> u64
     256 * ((d + 1) / 2)
 }
 
-// Red or blue at any maxval d.
+// Red or blue at any maxval d: 255 * (256,000 y + k (c - centre)) over 256,000 d, both doubled, and a half added, which is 256,000 d then.
 fn chroma_at(k: u64, d: u64, y: u64, c: u64) -> u8
     requires { ⌜ (k ≤ 1772) × (1 ≤ d) × (d ≤ 65535) × (y ≤ 65535) × (c ≤ 16776960) ⌝ }
     ensures { λ r. ⌜ r ≡ chromaAt k d y c ⌝ }
@@ -76,7 +79,8 @@ fn chroma_at(k: u64, d: u64, y: u64, c: u64) -> u8
     )
 }
 
-// Green at any maxval d.
+// Green at any maxval d, as red and blue: 255 * (150,272,000 y - 202,008 (cb - centre) - 419,198 (cr - centre)) over 150,272,000 d,
+// both doubled, and a half added. 621,206 is 202,008 + 419,198.
 fn green_at(d: u64, y: u64, cb: u64, cr: u64) -> u8
     requires { ⌜ (1 ≤ d) × (d ≤ 65535) × (y ≤ 65535) × (cb ≤ 16776960) × (cr ≤ 16776960) ⌝ }
     ensures { λ r. ⌜ r ≡ exactAt d y cb cr .green ⌝ }
@@ -88,7 +92,7 @@ fn green_at(d: u64, y: u64, cb: u64, cr: u64) -> u8
     )
 }
 
-// Inner: the exact kernel at another maxval.
+// Inner: the exact kernel at a maxval other than 255, at which the fraction with luma is rounded as one.
 pub fn ycbcr_frac_to_rgb8_at(y: u32, cb256: u32, cr256: u32, maxval: u32) -> Rgb
     requires { ⌜ (y ≤ 65535) × (cb256 ≤ 16776960) × (cr256 ≤ 16776960) × (1 ≤ maxval) × (maxval ≤ 65535) ⌝ }
     ensures { λ p. ⌜ colourOf p ≡ exactAt maxval y cb256 cr256 ⌝ }

@@ -1,4 +1,6 @@
-// The fixed kernel for one pixel: 65,536ths, with multipliers of their own.
+// The fixed kernel for one pixel, on whole chroma, with multipliers in 65,536ths.
+//
+// It is no form of the exact kernel: blue of (230, 3, 128) is 8 by it and 9 by that.
 ghost use mathlib.Core.Path.{_≡_};
 ghost use Prim.Native.Nat.{_+_, _*_, _<_, _≤_};
 ghost use Rattle.kernels.specs.Kernels.{fixed255};
@@ -7,7 +9,7 @@ use crate::bytes::Rgb;
 use crate::bytes::limit8;
 use crate::offsets::Bias;
 
-// What chroma is multiplied by, in 65,536ths.
+// What chroma is multiplied by, in 65,536ths: document 01's four numbers.
 struct Fixed;
 
 impl Fixed {
@@ -20,7 +22,7 @@ impl Fixed {
     const CB_TO_B: u64 = 116_130;
 }
 
-// Red or blue; the bias keeps the sum from going below 0.
+// Red or blue by its multiplier k; the bias keeps the sum from going below 0, 32,768 is the half and 128 the centre of chroma.
 fn fixed_chroma(k: u64, bias: u32, y: u32, c: u32) -> u8
     requires { ⌜ (k ≤ 116130) × (bias ≤ 227) × (128 * k < 65536 * bias + 32768) × (y ≤ 65535) × (c ≤ 65535) ⌝ }
     ensures { λ r. ⌜ r ≡ plusFixed k y c ⌝ }
@@ -29,7 +31,10 @@ fn fixed_chroma(k: u64, bias: u32, y: u32, c: u32) -> u8
     limit8(y + (n >> 16) as u32, bias)
 }
 
-// Green. The first number raises the sum by the bias, 69,356, a half and the centre.
+// Green, whose two parts are summed before the shift.
+//
+// The bias 69,356 is 22,554 + 46,802, so that no chroma of sixteen bits takes the sum below 0. The first number raises by it, by a half
+// and by the centre: 65,536 * 69,356 + 32,768 + 128 * 69,356.
 fn fixed_green(y: u32, cb: u32, cr: u32) -> u8
     requires { ⌜ (y ≤ 65535) × (cb ≤ 65535) × (cr ≤ 65535) ⌝ }
     ensures { λ r. ⌜ r ≡ fixed255 y cb cr .green ⌝ }
@@ -38,7 +43,7 @@ fn fixed_green(y: u32, cb: u32, cr: u32) -> u8
     limit8(y + (n >> 16) as u32, 69_356)
 }
 
-// Inner: the fixed kernel at maxval 255; whole chroma.
+// Inner: the fixed kernel, which is for maxval 255, on whole chroma.
 pub fn ycbcr_to_rgb8_fixed(y: u32, cb: u32, cr: u32) -> Rgb
     requires { ⌜ (y ≤ 65535) × (cb ≤ 65535) × (cr ≤ 65535) ⌝ }
     ensures { λ p. ⌜ colourOf p ≡ fixed255 y cb cr ⌝ }

@@ -1,4 +1,8 @@
-// kernels.
+// The colour of one pixel: the kernels of the original's src/convert.rs and document 01's section of that name, after ITU-T T.871.
+//
+// `ycbcr_frac_to_rgb8` and `ycbcr_to_rgb8_fixed16` are public: they look at their arguments and answer a `Pixel`. The kernels behind them,
+// which owe that look to their callers, are for colour_rows. Sixteen pixels at a time are in kernel_blocks; specs/T871 and specs/Kernels
+// have the formulas.
 mod bytes;
 mod calls;
 mod exact;

@@ -1,8 +1,6 @@
-// The colour of one pixel: what the kernels of the original's src/convert.rs give, their laws, and the small steps they are made of.
+// The answer of a single-pixel call.
 
-use crate::bytes::Rgb;
-
-// A colour, or the number of a refusal.
+// Red, green and blue, or the number of a refusal.
 pub enum Pixel {
     Rgb(u8, u8, u8),
     Refused(u8),

@@ -1,20 +1,25 @@
 // Sixteen values at a time: a block of them is made by value, and stored when all that it is made from was read.
+//
+// The original leaves this to the compiler, which knows that its slices don't overlap. Here a loop that read and stored in turn would
+// not become wide loads and stores, and one over a block by value does. proofs/Filled is the invariant of a loop that makes a block.
 ghost use mathlib.Core.Path.{_≡_};
 ghost use Prim.Native.Nat.{_+_, _≤_};
 ghost use lib.Ieee.{nan};
 ghost use lib.ListN.{length, getD};
 ghost use Rattle.laws.specs.Lists.{put};
 
+// How much a block has.
 pub struct Lanes;
 
 impl Lanes {
-    // The cells of a block at ratio 2, and its values.
+    // The chroma cells that a block at ratio 2 lies over: half of PIXELS.
     pub const CELLS: usize = 8;
 
+    // The values of a block, document 01's block length.
     pub const PIXELS: usize = 16;
 }
 
-// Inner: a block of values, to s from `at` on.
+// Inner: stores a block of values in s, from `at` on.
 pub fn put_block(s: &mut [f32], at: usize, block: [f32; Lanes::PIXELS])
     requires { ⌜ at + 16 ≤ length (now s) ⌝ }
     ensures { λ _. ⌜ now (s .exit) ≡ put (now (s .entry)) at 16 (λ k. getD block k nan) ⌝ }

@@ -1,4 +1,6 @@
 -- Laws of differences: sums, products, the floor of a quotient and limits, so that a formula over whole numbers below zero too is shown by `omega`.
+-- Each is linear once the sign of z is known. The hard step is `floored` below zero, where the floor has to come out of the quotient and
+-- the remainder of what z lies below zero by.
 use mathlib.Core.Path.{_≡_, refl, sym, _∙_, ap}
 use mathlib.Core.Bool.{Bool, true, false, cond}
 use Prim.Native.Nat.{ℕ, zero, suc, _+_, _*_, _-_, _/_, _%_, _<_, _≤_, min}

@@ -1,4 +1,6 @@
 -- Signed fractions (p - n) / c within e / 256 of each other: sums, products by a fraction below 1, and chains. Nothing here is about floats.
+-- Each law is two inequalities, linear once they are multiplied by the other side's denominators. The hard one is the product, `times`:
+-- a chain of the error of (p - n) / c, which a factor below 1 doesn't raise (`grown`), and the error of the factor itself (`nudged`).
 use mathlib.Core.Path.{_≡_, ap}
 use Prim.Native.Nat.{ℕ, _+_, _*_, _≤_, _<_}
 use native.Mathlib.Nat.{mul-le-mul-right, le-of-mul-le-mul-right, mul-pos}

@@ -1,4 +1,6 @@
 -- A number from 2 ^ (23 + j) up to 2 ^ (24 + j) is rounded to a multiple of 2 ^ j, the nearest, ties to even; and its bits count those multiples.
+-- In units of 2 ^ -149 it has 173 + j digits (`units-size`), of which 149 + j are dropped. That number put into the library's `grid` is
+-- `on-grid`, and put into `toBits` it is `grid-bits`.
 use mathlib.Core.Path.{_≡_, sym, ap, _∙_, subst}
 use mathlib.Core.Bool.{true≢false, true, false}
 use Prim.Native.Nat.{ℕ, suc, _+_, _-_, _*_, _/_, _^_, _≤_, _<_}

@@ -1,4 +1,6 @@
 -- Laws of halves up, and against the ties to even of IEEE rounding (`closest`). Whole numbers alone: no floats here.
+-- All are read off the whole part and the remainder of a / d, in three cases: the remainder below, at or above one half. The hard one is
+-- `side`: at a tie `closest` goes up or down by whether the whole part is odd, and halves up goes up in both.
 use mathlib.Core.Path.{_≡_, refl, sym, ap, _∙_, subst}
 use Prim.Native.Nat.{ℕ, zero, suc, _+_, _-_, _*_, _/_, _%_, _≤_, _<_, compare, Ordering, Ordering·lt, Ordering·eq, Ordering·gt}
 use native.Mathlib.Nat.{mul-left-comm, mul-comm, one-mul, suc-mul, mul-pos, zero-lt-suc, le-of-suc-le-suc, le-div-iff-mul-le, div-lt-iff-lt-mul, div-add-mod', mod-lt, div-div-eq-div-mul, add-mul-div-right, add-mul-mod-self-right, mul-le-mul-right}

@@ -1,4 +1,6 @@
--- Laws of `put` and `table`: reading a run back, chaining runs, comparing them, and the three steps of a loop that writes one.
+-- Laws of `put`, `rows` and `table`: reading a run back, chaining runs, comparing them, and the steps of a loop that writes one.
+-- Inductions on the run's length over the library's laws of `set`. The hard one is `put-over`, a block that overlaps the run before it:
+-- its first part writes what stands there already (`put-again`), and the rest chains on.
 use mathlib.Core.Path.{_≡_, refl, sym, ap, _∙_}
 use mathlib.Core.Logic.{inl, inr}
 use mathlib.Core.List.{List, [], _∷_, _++_}

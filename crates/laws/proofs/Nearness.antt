@@ -1,4 +1,6 @@
 -- A float's nearness to a fraction, through roundings and operators: each adds 1 / 256 below 2 ^ 17, and nothing where it is exact.
+-- `round-near` carries it: below 2 ^ 17 the digits that are kept are 2 ^ -7 apart at most, and `closest-half` is within half of that.
+-- An operator is then one rounding of a fraction that the laws of Fractions put together, `sum-near` by the signs of the two parts.
 use mathlib.Core.Path.{_≡_, refl, sym, ap, _∙_, subst}
 use mathlib.Core.Bool.{Bool, true, false, not, _&&_, cond}
 use Prim.Native.Nat.{ℕ, _+_, _-_, _*_, _/_, _^_, _≤_, _<_}
@@ -11,7 +13,7 @@ use lib.Ieee.Digits.{size-le}
 use lib.Ieee.Fits.{round-is, down-pos}
 use lib.Ieee.Exact.{HasValue, units-val, round-exact}
 use lib.Ieee.Nearest.{closest}
-use Rattle.laws.specs.Floats.{f32, Close, Near, Is, over, under}
+use Rattle.laws.specs.Floats.{f32, Close, NearFraction, IsFraction, over, under}
 use Rattle.laws.proofs.Halves.{Half, closest-half}
 use Rattle.laws.proofs.Values.{whole-value}
 use Rattle.laws.proofs.Fractions.{plus, chain, widen, aim, times, shift, flip, Takes}
@@ -38,7 +40,7 @@ small G R C z zp r h = le-of-mul-le-mul-right (go r h) zp
     go : R ≤ 0x2_0000 * C → 2 * (G * C) ≤ 2 * (R * (z * 128)) + C * z → G * C ≤ 0x200_0000 * z * C
     go r h = omega (arith, mul-le-mul-right (z * 128) r)
 
-near-of : (x : Float) (s : Bool) (G R C z : ℕ) → 0 < z → HasValue x s G (z * 128) → Half (G * C) (R * (z * 128)) (C * z) → Near x (over s R) (under s R) C 1
+near-of : (x : Float) (s : Bool) (G R C z : ℕ) → 0 < z → HasValue x s G (z * 128) → Half (G * C) (R * (z * 128)) (C * z) → NearFraction x (over s R) (under s R) C 1
 near-of nan s G R C z zp v h = absurd v
 near-of (inf t) s G R C z zp v h = absurd v
 near-of (fin t m e) s G R C z zp v h =
@@ -49,7 +51,7 @@ near-of (fin t m e) s G R C z zp v h =
     go false M D w = omega arith
     go true M D w = omega arith
 
-pub round-near : (s : Bool) (R C : ℕ) → 0 < C → R < 0x2_0000 * C → Near (round binary32 s R C) (over s R) (under s R) C 1
+pub round-near : (s : Bool) (R C : ℕ) → 0 < C → R < 0x2_0000 * C → NearFraction (round binary32 s R C) (over s R) (under s R) C 1
 round-near s R C zp r =
     let n = R * 2 ^ 149 in
     let k = size (n / C) - 24 in
@@ -67,7 +69,7 @@ round-near s R C zp r =
     regroup : (q c p : ℕ) → q * (c * p) ≡ q * p * c
     regroup q c p = omega arith
 
-pub near-chain : (x : Float) (Q M C p n c d e : ℕ) → 0 < C → Near x Q M C d → Close Q M C p n c e → Near x p n c (d + e)
+pub near-chain : (x : Float) (Q M C p n c d e : ℕ) → 0 < C → NearFraction x Q M C d → Close Q M C p n c e → NearFraction x p n c (d + e)
 near-chain nan Q M C p n c d e z h k = absurd h
 near-chain (inf s) Q M C p n c d e z h k = absurd h
 near-chain (fin s m x) Q M C p n c d e z h k = chain (over s (m * up x)) (under s (m * up x)) (down x) Q M C p n c e d z h k
@@ -92,28 +94,28 @@ sized : (s : Bool) (R C p n c e : ℕ) → 0 < C → Mild p n c e → Close (ove
 sized false R C p n c e z l h = bound R C p n c e z (l .some) (l .top) (l .few) (h .hi)
 sized true R C p n c e z l h = bound R C n p c e z (l .some) (l .bottom) (l .few) (h .lo)
 
-pub rounded : (s : Bool) (R C p n c e : ℕ) → 0 < C → Mild p n c e → Close (over s R) (under s R) C p n c e → Near (round binary32 s R C) p n c (1 + e)
+pub rounded : (s : Bool) (R C p n c e : ℕ) → 0 < C → Mild p n c e → Close (over s R) (under s R) C p n c e → NearFraction (round binary32 s R C) p n c (1 + e)
 rounded s R C p n c e z l h = near-chain (round binary32 s R C) (over s R) (under s R) C p n c 1 e z (round-near s R C z (sized s R C p n c e z l h)) h
 
 -- ---- the sum: a size and a sign are rounded. `step` says what rounding does to a number that is close to (p - n) / c
 abbrev pub Step : ℕ → ℕ → ℕ → ℕ → ℕ → Type 0
-Step p n c e r = (s : Bool) (R C : ℕ) → 0 < C → Close (over s R) (under s R) C p n c e → Near (round binary32 s R C) p n c r
+Step p n c e r = (s : Bool) (R C : ℕ) → 0 < C → Close (over s R) (under s R) C p n c e → NearFraction (round binary32 s R C) p n c r
 
 pub mild-step : (p n c e : ℕ) → Mild p n c e → Step p n c e (1 + e)
 mild-step p n c e l s R C z h = rounded s R C p n c e z l h
 
-pub sum-near : (p n c e r : ℕ) → Step p n c e r → (s : Bool) (A : ℕ) (t : Bool) (B C : ℕ) → 0 < C → Close (over s A + over t B) (under s A + under t B) C p n c e → Near (sum binary32 s A t B C) p n c r
+pub sum-near : (p n c e r : ℕ) → Step p n c e r → (s : Bool) (A : ℕ) (t : Bool) (B C : ℕ) → 0 < C → Close (over s A + over t B) (under s A + under t B) C p n c e → NearFraction (sum binary32 s A t B C) p n c r
 unfolding sum
 sum-near p n c e r l false A false B C z h = l false (A + B) C z h
 sum-near p n c e r l true A true B C z h = l true (A + B) C z h
 sum-near p n c e r l false A true B C z h = go (ltb A B) (ltb→lt A B) (nltb→le A B)
   where
-    go : (b : Bool) → (T b → A < B) → (T (not b) → B ≤ A) → Near (cond b (round binary32 true (B - A) C) (round binary32 false (A - B) C)) p n c r
+    go : (b : Bool) → (T b → A < B) → (T (not b) → B ≤ A) → NearFraction (cond b (round binary32 true (B - A) C) (round binary32 false (A - B) C)) p n c r
     go true f g = l true (B - A) C z (shift (A + 0) (0 + B) C p n c e 0 (B - A) (omega (arith, f tt)) h)
     go false f g = l false (A - B) C z (shift (A + 0) (0 + B) C p n c e (A - B) 0 (omega (arith, g tt)) h)
 sum-near p n c e r l true A false B C z h = go (ltb A B) (ltb→lt A B) (nltb→le A B) (ltb B A) (nltb→le B A)
   where
-    go : (b : Bool) → (T b → A < B) → (T (not b) → B ≤ A) → (d : Bool) → (T (not d) → A ≤ B) → Near (cond b (round binary32 false (B - A) C) (round binary32 (true && d) (A - B) C)) p n c r
+    go : (b : Bool) → (T b → A < B) → (T (not b) → B ≤ A) → (d : Bool) → (T (not d) → A ≤ B) → NearFraction (cond b (round binary32 false (B - A) C) (round binary32 (true && d) (A - B) C)) p n c r
     go true f g d k = l false (B - A) C z (shift (0 + B) (A + 0) C p n c e (B - A) 0 (omega (arith, f tt)) h)
     go false f g true k = l true (A - B) C z (shift (0 + B) (A + 0) C p n c e 0 (A - B) (omega (arith, g tt)) h)
     go false f g false k = l false (A - B) C z (shift (0 + B) (A + 0) C p n c e (A - B) 0 (omega (arith, g tt, k tt)) h)
@@ -126,7 +128,7 @@ under-mul : (s : Bool) (a b : ℕ) → under s (a * b) ≡ under s a * b
 under-mul false a b = sym (zero-mul b)
 under-mul true a b = refl
 
-pub add-near : (x y : Float) (p n q m c e d r : ℕ) → Step (p + q) (n + m) c (e + d) r → Near x p n c e → Near y q m c d → Near (add binary32 x y) (p + q) (n + m) c r
+pub add-near : (x y : Float) (p n q m c e d r : ℕ) → Step (p + q) (n + m) c (e + d) r → NearFraction x p n c e → NearFraction y q m c d → NearFraction (add binary32 x y) (p + q) (n + m) c r
 unfolding add
 add-near nan y p n q m c e d r l h k = absurd h
 add-near (inf s) y p n q m c e d r l h k = absurd h
@@ -137,14 +139,14 @@ add-near (fin s a x) (fin t b y) p n q m c e d r l h k =
     (rw (over-mul s (a * up x) (down y), over-mul t (b * up y) (down x), under-mul s (a * up x) (down y), under-mul t (b * up y) (down x))
     (plus (over s (a * up x)) (under s (a * up x)) (down x) p n (over t (b * up y)) (under t (b * up y)) (down y) q m c e d h k))
 
-pub neg-near : (y : Float) (p n c e : ℕ) → Near y p n c e → Near (neg y) n p c e
+pub neg-near : (y : Float) (p n c e : ℕ) → NearFraction y p n c e → NearFraction (neg y) n p c e
 unfolding neg
 neg-near nan p n c e h = absurd h
 neg-near (inf s) p n c e h = absurd h
 neg-near (fin false m x) p n c e h = flip (m * up x) 0 (down x) p n c e h
 neg-near (fin true m x) p n c e h = flip 0 (m * up x) (down x) p n c e h
 
-pub sub-near : (x y : Float) (p n q m c e d r : ℕ) → Step (p + m) (n + q) c (e + d) r → Near x p n c e → Near y q m c d → Near (sub binary32 x y) (p + m) (n + q) c r
+pub sub-near : (x y : Float) (p n q m c e d r : ℕ) → Step (p + m) (n + q) c (e + d) r → NearFraction x p n c e → NearFraction y q m c d → NearFraction (sub binary32 x y) (p + m) (n + q) c r
 unfolding sub
 sub-near x y p n q m c e d r l h k = add-near x (neg y) p n m q c e d r l h (neg-near y q m c d k)
 
@@ -159,8 +161,8 @@ Part nan k d r = ⊥
 Part (inf s) k d r = ⊥
 Part (fin s m x) k d r = (s ≡ false) × Takes (m * up x) (down x) k d r
 
-pub mul-near : (f y : Float) (k d p n c e r t : ℕ) → p ≤ 0x1_0000 * c → n ≤ 0x1_0000 * c → 0 < c → Step (p * k) (n * k) (c * d) (e + r) t → Part f k d r → Near y p n c e
-    → Near (mul binary32 f y) (p * k) (n * k) (c * d) t
+pub mul-near : (f y : Float) (k d p n c e r t : ℕ) → p ≤ 0x1_0000 * c → n ≤ 0x1_0000 * c → 0 < c → Step (p * k) (n * k) (c * d) (e + r) t → Part f k d r → NearFraction y p n c e
+    → NearFraction (mul binary32 f y) (p * k) (n * k) (c * d) t
 unfolding mul
 mul-near nan y k d p n c e r t pl nl z l f h = absurd f
 mul-near (inf s) y k d p n c e r t pl nl z l f h = absurd f
@@ -176,7 +178,7 @@ mul-near (fin false a x) (fin u b y) k d p n c e r t pl nl z l f h =
 
 -- ---- a value is near itself, and near under the moves of a fraction
 
-pub value-near : (x : Float) (s : Bool) (a c : ℕ) → HasValue x s a c → Near x (over s a) (under s a) c 0
+pub value-near : (x : Float) (s : Bool) (a c : ℕ) → HasValue x s a c → NearFraction x (over s a) (under s a) c 0
 value-near nan s a c v = absurd v
 value-near (inf t) s a c v = absurd v
 value-near (fin t m e) s a c v = subst (λ (b : Bool). Close (over b (m * up e)) (under b (m * up e)) (down e) (over s a) (under s a) c 0) (sym (v .0)) (go s (m * up e) (down e) (v .1))
@@ -186,21 +188,21 @@ value-near (fin t m e) s a c v = subst (λ (b : Bool). Close (over b (m * up e))
     go true M D e = omega arith
 
 -- a whole number is its float
-pub whole-near : (n : ℕ) → n ≤ 16777216 → Near (f32 n) n 0 1 0
+pub whole-near : (n : ℕ) → n ≤ 16777216 → NearFraction (f32 n) n 0 1 0
 whole-near n h = value-near (f32 n) false n 1 (whole-value n h)
 
-pub near-widen : (x : Float) (p n c e k : ℕ) → Near x p n c e → Near x (p * k) (n * k) (c * k) e
+pub near-widen : (x : Float) (p n c e k : ℕ) → NearFraction x p n c e → NearFraction x (p * k) (n * k) (c * k) e
 near-widen nan p n c e k h = h
 near-widen (inf s) p n c e k h = h
 near-widen (fin s m x) p n c e k h = widen (over s (m * up x)) (under s (m * up x)) (down x) p n c e k h
 
-pub near-aim : (x : Float) (p n c e q m : ℕ) → p + m ≡ q + n → Near x p n c e → Near x q m c e
+pub near-aim : (x : Float) (p n c e q m : ℕ) → p + m ≡ q + n → NearFraction x p n c e → NearFraction x q m c e
 near-aim nan p n c e q m k h = h
 near-aim (inf s) p n c e q m k h = h
 near-aim (fin s a x) p n c e q m k h = aim (over s (a * up x)) (under s (a * up x)) (down x) p n c e q m k h
 
 -- near with no slack is equal
-pub near-is : (x : Float) (p n c : ℕ) → Near x p n c 0 → Is x p n c
+pub near-is : (x : Float) (p n c : ℕ) → NearFraction x p n c 0 → IsFraction x p n c
 near-is nan p n c h = h
 near-is (inf s) p n c h = h
 near-is (fin s m x) p n c h = record { eq = omega arith }

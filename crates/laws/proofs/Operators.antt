@@ -1,4 +1,6 @@
 -- The operators on floats by the fractions that they equal: each is one rounding of the exact result, with its sign.
+-- Their definitions round a fraction over the floats' own denominators, and `round-same` puts any equal fraction in its place. The work is
+-- in the cross products that it asks for, most in `sub-down`, where also which of the two is larger has to be carried over.
 use mathlib.Core.Path.{_≡_, refl, sym, ap, _∙_}
 use mathlib.Core.Bool.{Bool, true, false, cond, true≢false}
 use Prim.Native.Nat.{ℕ, _+_, _-_, _*_, _≤_, _<_}

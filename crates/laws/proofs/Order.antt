@@ -1,4 +1,6 @@
 -- The order of floats: `lt` and `le` hold of numbers alone, so that a not-a-number is on neither side of them.
+-- By the cases not-a-number, infinity and sign the comparisons compute. Of two finite floats a comparison of cross products is left,
+-- which the library's tests turn into an order of whole numbers (`le-cross`).
 use mathlib.Core.Path.{_≡_, refl, sym, _∙_, subst}
 use mathlib.Core.Bool.{Bool, true, false, not, _&&_, _||_}
 use mathlib.Core.Logic.{_⊎_, inl, inr}

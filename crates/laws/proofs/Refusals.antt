@@ -1,4 +1,6 @@
 -- Laws of refusal lists: what acceptance and a number say of the tests.
+-- Each is an induction along the list that splits on the first test, by a local `go` over its outcome, at which `first` computes.
+-- Only `refused-lowest` needs more: that the numbers rise along the list (`above`).
 use mathlib.Core.Path.{_≡_, refl}
 use mathlib.Core.Logic.{_⊎_, inl, inr}
 use mathlib.Core.Bool.{Bool, true, false}

@@ -1,4 +1,6 @@
--- Rounding in units of 2 ^ -149, of which every f32 is a whole number: R / C rounds to `grid binary32 R C` units, how far above R / C that can lie, and what it can't pass.
+-- Rounding in units of 2 ^ -149, of which every f32 is a whole number: how far above R / C its rounding can lie, and what it can't pass.
+-- `closest-half` puts it within half a step, and `step-small`, the hard part, bounds the step by the number's digits. The order is the
+-- library's `round-mono`, read back as fractions by `values-le`.
 use mathlib.Core.Path.{_≡_, refl, sym, ap, _∙_, subst}
 use mathlib.Core.Bool.{Bool, true, false, true≢false}
 use Prim.Native.Nat.{ℕ, zero, suc, _+_, _-_, _*_, _/_, _^_, _≤_, _<_}

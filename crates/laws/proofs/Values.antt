@@ -1,4 +1,6 @@
 -- The value of a float as a fraction: whole numbers, differences, and roundings that are exact.
+-- The differences are the hard part: the definition subtracts over the floats' own denominators, and `same-diff` shows that fraction equal
+-- to the one of the given values, so that `round-same` rounds both alike.
 use mathlib.Core.Path.{_≡_, refl, sym, ap, _∙_}
 use Prim.Native.Nat.{ℕ, zero, suc, _-_, _*_, _%_, _^_, _≤_, _<_}
 use native.Mathlib.Nat.{le-trans, le-of-eq, le-antisymm, lt-of-lt-of-le, lt-of-not-le, not-le-of-lt, lt-irrefl, le-of-suc-le-suc, mul-one, one-mul, mul-comm, mul-assoc, mul-right-comm, mul-left-comm, mul-pos, mul-sub, mul-le-mul-right, mul-le-mul-left, mul-lt-mul-of-pos-right, eq-of-mul-eq-mul-right}

@@ -40,17 +40,17 @@ pub record Close (P N D p n c e : ℕ) : Type 0 where
   pub lo : 256 * (N * c + p * D) ≤ 256 * (P * c + n * D) + e * (c * D)
 
 -- the float is finite and within e / 256 of (p - n) / c
-abbrev pub Near : Float → ℕ → ℕ → ℕ → ℕ → Type 0
-Near nan p n c e = ⊥
-Near (inf s) p n c e = ⊥
-Near (fin s m x) p n c e = Close (over s (m * up x)) (under s (m * up x)) (down x) p n c e
+abbrev pub NearFraction : Float → ℕ → ℕ → ℕ → ℕ → Type 0
+NearFraction nan p n c e = ⊥
+NearFraction (inf s) p n c e = ⊥
+NearFraction (fin s m x) p n c e = Close (over s (m * up x)) (under s (m * up x)) (down x) p n c e
 
 -- (P - N) / D is (p - n) / c, multiplied out
 pub record Same (P N D p n c : ℕ) : Type 0 where
   pub eq : P * c + n * D ≡ N * c + p * D
 
 -- the float is finite and equals (p - n) / c
-abbrev pub Is : Float → ℕ → ℕ → ℕ → Type 0
-Is nan p n c = ⊥
-Is (inf s) p n c = ⊥
-Is (fin s m x) p n c = Same (over s (m * up x)) (under s (m * up x)) (down x) p n c
+abbrev pub IsFraction : Float → ℕ → ℕ → ℕ → Type 0
+IsFraction nan p n c = ⊥
+IsFraction (inf s) p n c = ⊥
+IsFraction (fin s m x) p n c = Same (over s (m * up x)) (under s (m * up x)) (down x) p n c

@@ -1,6 +1,8 @@
-// What the other crates' contracts and proofs are made of: specs/ has the vocabulary, proofs/ its laws.
+// What the other crates' contracts and proofs are made of: runs written into a slice, refusals, differences, halves up, single precision.
 //
-// The answer of a call stands here with the small tests that refusals are put together from, so that a crate above the public one needs no inner crate.
+// specs/ has the definitions, a file a topic, and proofs/ their laws; specs/Refusals is document 01's 'Reasons for turning a call down'.
+// The answer of a call stands here with the small tests that refusals are put together from, so that a crate above the public one
+// needs no inner crate.
 mod answers;
 mod numbers;
 

@@ -4,14 +4,14 @@ ghost use mathlib.Core.Bool.{_&&_, _||_};
 ghost use Prim.Native.Nat.{min};
 ghost use Rattle.laws.specs.Numbers.{outsideOf};
 
-// Inner: a or b.
+// Inner: whether at least one of two tests applies.
 pub fn either(a: bool, b: bool) -> bool
     ensures { λ r. ⌜ r ≡ (a || b) ⌝ }
 {
     if a { true } else { b }
 }
 
-// Inner: a and b.
+// Inner: whether both of two tests apply.
 pub fn both(a: bool, b: bool) -> bool
     ensures { λ r. ⌜ r ≡ (a && b) ⌝ }
 {
@@ -25,7 +25,7 @@ pub fn outside(lo: usize, hi: usize, x: usize) -> bool
     either(x < lo, hi < x)
 }
 
-// Inner: the smaller of two numbers.
+// Inner: the smaller of two numbers, where a length or a place is cut off at another.
 pub fn least(a: usize, b: usize) -> usize
     ensures { λ r. ⌜ r ≡ min a b ⌝ }
 {

@@ -5,7 +5,7 @@ use native.Mathlib.Nat.{le-trans, le-of-lt, mul-le-mul-right, mul-le-mul, mul-po
 use native.Mathlib.Omega.{arith}
 use lib.Dec.{lit≤}
 use lib.Ieee.{Float, binary32, sub, mul}
-use Rattle.laws.specs.Floats.{f32, Near}
+use Rattle.laws.specs.Floats.{f32, NearFraction}
 use Rattle.laws.proofs.Nearness.{Mild, Part, Step, mild-step, add-near, sub-near, mul-near, whole-near, near-widen, near-aim}
 use Rattle.taps.specs.Taps.{Spot, lerpOf, fractionOf, tapOn}
 use Rattle.linear.specs.Linear.{downBy}
@@ -65,21 +65,21 @@ aimed p q k d l = go (d - k) (split p k d l)
 -- a lerp by its three roundings: r is the slack of the fraction, x, y and z what is known after each rounding
 pub lerp-near : (a b f : Float) (p q c k d e r x y z : ℕ) → 0 < c → k ≤ d → p ≤ 65535 * c → q ≤ 65535 * c
     → Step (q + 0) (0 + p) c (e + e) x → Step ((q + 0) * k) ((0 + p) * k) (c * d) (x + r) y → Step (p * d + (q + 0) * k) (0 * d + (0 + p) * k) (c * d) (e + y) z
-    → Part f k d r → Near a p 0 c e → Near b q 0 c e → Near (lerpOf a b f) (mix p q k d) 0 (c * d) z
+    → Part f k d r → NearFraction a p 0 c e → NearFraction b q 0 c e → NearFraction (lerpOf a b f) (mix p q k d) 0 (c * d) z
 lerp-near a b f p q c k d e r x y z zc l pl ql sx sy sz v g h =
-    let s : Near (sub binary32 b a) (q + 0) (0 + p) c x = sub-near b a q 0 p 0 c e e x sx h g in
-    let t : Near (mul binary32 f (sub binary32 b a)) ((q + 0) * k) ((0 + p) * k) (c * d) y =
+    let s : NearFraction (sub binary32 b a) (q + 0) (0 + p) c x = sub-near b a q 0 p 0 c e e x sx h g in
+    let t : NearFraction (mul binary32 f (sub binary32 b a)) ((q + 0) * k) ((0 + p) * k) (c * d) y =
     mul-near f (sub binary32 b a) k d (q + 0) (0 + p) c x r y (omega arith) (omega arith) zc sy v s in
     near-aim (lerpOf a b f) (p * d + (q + 0) * k) (0 * d + (0 + p) * k) (c * d) z (mix p q k d) 0 (aimed p q k d l)
     (add-near a (mul binary32 f (sub binary32 b a)) (p * d) (0 * d) ((q + 0) * k) ((0 + p) * k) (c * d) e y z sz (near-widen a p 0 c e d g) t)
 
 -- the same slack, written otherwise
-near-as : (x : Float) (p n c e d : ℕ) → e ≡ d → Near x p n c e → Near x p n c d
-near-as x p n c e d k h = subst (λ (z : ℕ). Near x p n c z) k h
+near-as : (x : Float) (p n c e d : ℕ) → e ≡ d → NearFraction x p n c e → NearFraction x p n c d
+near-as x p n c e d k h = subst (λ (z : ℕ). NearFraction x p n c z) k h
 
 -- each of the three roundings and the fraction add 1 / 256, the two ends 3 e / 256
-pub lerp-bound : (a b f : Float) (p q c k d e : ℕ) → 0 < c → 0 < d → k ≤ d → p ≤ 65535 * c → q ≤ 65535 * c → e ≤ 4 → Part f k d 1 → Near a p 0 c e → Near b q 0 c e
-    → Near (lerpOf a b f) (mix p q k d) 0 (c * d) (4 + 3 * e)
+pub lerp-bound : (a b f : Float) (p q c k d e : ℕ) → 0 < c → 0 < d → k ≤ d → p ≤ 65535 * c → q ≤ 65535 * c → e ≤ 4 → Part f k d 1 → NearFraction a p 0 c e → NearFraction b q 0 c e
+    → NearFraction (lerpOf a b f) (mix p q k d) 0 (c * d) (4 + 3 * e)
 lerp-bound a b f p q c k d e zc zd l pl ql h v g w =
     near-as (lerpOf a b f) (mix p q k d) 0 (c * d) (1 + (e + (1 + (1 + (e + e) + 1)))) (4 + 3 * e) (omega arith)
     (lerp-near a b f p q c k d e 1 (1 + (e + e)) (1 + (1 + (e + e) + 1)) (1 + (e + (1 + (1 + (e + e) + 1)))) zc l pl ql
@@ -91,12 +91,13 @@ lerp-bound a b f p q c k d e zc zd l pl ql h v g w =
 -- ---- down, then across
 
 -- two cells of a column are exact, so that their lerp is within 4 / 256
-down-near : (a b k d : ℕ) → a ≤ 65535 → b ≤ 65535 → k < d → d < 9 → Near (lerpOf (f32 a) (f32 b) (fractionOf k d)) (mix a b k d) 0 d 4
+down-near : (a b k d : ℕ) → a ≤ 65535 → b ≤ 65535 → k < d → d < 9 → NearFraction (lerpOf (f32 a) (f32 b) (fractionOf k d)) (mix a b k d) 0 d 4
 down-near a b k d al bl h l =
-    subst (λ (c : ℕ). Near (lerpOf (f32 a) (f32 b) (fractionOf k d)) (mix a b k d) 0 c 4) (one-mul d)
+    subst (λ (c : ℕ). NearFraction (lerpOf (f32 a) (f32 b) (fractionOf k d)) (mix a b k d) 0 c 4) (one-mul d)
     (lerp-bound (f32 a) (f32 b) (fractionOf k d) a b 1 k d 0 (lit≤ tt) (omega arith) (le-of-lt h) al bl (lit≤ tt) (tap-fraction k d h l .part) (whole-near a (le-trans al (lit≤ tt))) (whole-near b (le-trans bl (lit≤ tt))))
 
 -- four cells by any two taps of the table, within 16 / 256
+<<<<<<< HEAD
 pub bilinear-near : (c : ℕ → ℕ → ℕ) → ((j i : ℕ) → c j i ≤ 65535) → (v h : Spot) → Valid v → Valid h → Near (acrossBy (tapOn h) (downBy (tapOn v) c)) (exactNum c v h) 0 (exactDen v h) 16
 bilinear-near c b v h p q =
     let column : (i : ℕ) → Near (downBy (tapOn v) c i) (mix (c (v .near) i) (c (v .far) i) (v .k) (v .d)) 0 (v .d) 4 =
@@ -106,4 +107,15 @@ bilinear-near c b v h p q =
     (mix-le (c (v .near) i) (c (v .far) i) (v .k) (v .d) 1 (le-of-lt (p .part)) (b (v .near) i) (b (v .far) i)) in
     lerp-bound (downBy (tapOn v) c (h .near)) (downBy (tapOn v) c (h .far)) (fractionOf (h .k) (h .d)) (mix (c (v .near) (h .near)) (c (v .far) (h .near)) (v .k) (v .d))
     (mix (c (v .near) (h .far)) (c (v .far) (h .far)) (v .k) (v .d)) (v .d) (h .k) (h .d) 4 (omega arith) (omega arith) (le-of-lt (q .part)) (small (h .near)) (small (h .far)) (lit≤ tt)
+=======
+pub bilinear-near : (c : ℕ → ℕ → ℕ) → ((i j : ℕ) → c i j ≤ 65535) → (v h : Spot) → Valid v → Valid h → NearFraction (acrossBy (tapOn h) (downBy (tapOn v) c)) (exactNum c v h) 0 (exactDen v h) 16
+bilinear-near c b v h p q =
+    let column : (i : ℕ) → NearFraction (downBy (tapOn v) c i) (mix (c i (v .near)) (c i (v .far)) (v .k) (v .d)) 0 (v .d) 4 =
+    λ i. down-near (c i (v .near)) (c i (v .far)) (v .k) (v .d) (b i (v .near)) (b i (v .far)) (p .part) (p .small) in
+    let small : (i : ℕ) → mix (c i (v .near)) (c i (v .far)) (v .k) (v .d) ≤ 65535 * v .d =
+    λ i. subst (λ (x : ℕ). mix (c i (v .near)) (c i (v .far)) (v .k) (v .d) ≤ 65535 * x) (one-mul (v .d))
+    (mix-le (c i (v .near)) (c i (v .far)) (v .k) (v .d) 1 (le-of-lt (p .part)) (b i (v .near)) (b i (v .far))) in
+    lerp-bound (downBy (tapOn v) c (h .near)) (downBy (tapOn v) c (h .far)) (fractionOf (h .k) (h .d)) (mix (c (h .near) (v .near)) (c (h .near) (v .far)) (v .k) (v .d))
+    (mix (c (h .far) (v .near)) (c (h .far) (v .far)) (v .k) (v .d)) (v .d) (h .k) (h .d) 4 (omega arith) (omega arith) (le-of-lt (q .part)) (small (h .near)) (small (h .far)) (lit≤ tt)
+>>>>>>> bc64099ff3da4ce20fabbca3443c12dffd5f1618
     (tap-fraction (h .k) (h .d) (q .part) (q .small) .part) (column (h .near)) (column (h .far))

@@ -1,4 +1,6 @@
 -- Laws of `spotOf` for any num and den: its part is below 1, its cells are there, in order, and beside the output's own cell.
+-- Each goes by the cases of the definition (`by-spot`, `by-place`). The hard one is `spot-around`, where the floor of u and the output's
+-- own cell o / r are held against each other by the remainders of both divisions.
 use mathlib.Core.Path.{_≡_, sym, ap, subst}
 use mathlib.Core.Bool.{Bool, true, false, not}
 use Prim.Native.Nat.{ℕ, suc, _+_, _-_, _*_, _/_, _%_, _≤_, _<_, min, zero-le}

@@ -36,7 +36,8 @@ onCell i = record { near = i; far = i; k = 0; d = 1 }
 unfoldable pub spotAt : ℕ → ℕ → ℕ → Spot
 spotAt m d len = pickSpot (leb (len - 1) (m / d)) (onCell (len - 1)) (record { near = m / d; far = m / d + 1; k = m % d; d = d })
 
--- output o over len cells, num cells to den outputs (ratio r is 1 to r): "Ratio 1 gives cell o"; else u = ((2o+1)·num − den)/(2·den), and "Below 0 it takes cell 0"
+-- output o over len cells, num cells to den outputs (ratio r is 1 to r): "Ratio 1 gives cell o";
+-- else u = ((2o+1)·num − den)/(2·den), and "Below 0 it takes cell 0"
 unfoldable pub spotOf : ℕ → ℕ → ℕ → ℕ → Spot
 spotOf num den len o =
     pickSpot (eqb num den) (onCell o)
@@ -61,7 +62,8 @@ abbrev pub pickPhase : Bool → Phase → Phase → Phase
 pickPhase true a b = a
 pickPhase false a b = b
 
--- "Within a cell, pixel k has n = 2k+1−r over 2r. For n below 0 it goes from the left neighbour with fraction (n+2r)/(2r), otherwise from its own cell to the right one with n/(2r)."
+-- "Within a cell, pixel k has n = 2k+1−r over 2r. For n below 0 it goes from the left neighbour with fraction (n+2r)/(2r),
+-- otherwise from its own cell to the right one with n/(2r)."
 unfoldable pub phaseOf : ℕ → ℕ → Phase
 phaseOf r k =
     pickPhase (ltb (2 * k + 1) r) (record { left = true; f = fractionOf (2 * k + 1 + r) (2 * r) })

@@ -1,4 +1,4 @@
-// How the pixels of a cell lie across, and the phases that a geometry keeps.
+// How the pixels of a cell lie across it, and the four phases that a reader's geometry keeps.
 ghost use mathlib.Core.Path.{_≡_};
 ghost use Prim.Native.Nat.{_≤_, _<_};
 ghost use Rattle.taps.specs.Taps.{phaseOf, phaseAt, phasesOf};
@@ -28,7 +28,7 @@ pub fn phase_of(r: usize, k: usize) -> Phase
     }
 }
 
-// Inner: phase k of a geometry at ratio r: those past the ratio are not left, 0.
+// Inner: phase k of a geometry at ratio r. One past the ratio is no pixel's: it goes from its own cell, fraction 0.
 pub fn phase_at(r: usize, k: usize) -> Phase
     requires { ⌜ (r ≤ 4) × (k < 4) ⌝ }
     ensures { λ p. ⌜ p ≡ phaseAt r k ⌝ }
@@ -42,7 +42,7 @@ pub fn phase_at(r: usize, k: usize) -> Phase
     phase_of(r, k)
 }
 
-// Inner: the four phases of a ratio.
+// Inner: the four phases that a geometry of ratio r keeps.
 pub fn phases_of(r: usize) -> [Phase; 4]
     requires { ⌜ r ≤ 4 ⌝ }
     ensures { λ p. ⌜ p ≡ phasesOf r ⌝ }

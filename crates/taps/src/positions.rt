@@ -3,21 +3,21 @@ ghost use mathlib.Core.Path.{_≡_};
 ghost use Prim.Native.Nat.{_*_, _≤_, _<_};
 ghost use Rattle.taps.specs.Taps.{lerpOf, fractionOf, onCell, spotAt, tapOn, TapGiven};
 
-// Two cells and how far between them.
+// Two cells, and how far an output lies on the way from i0 to i1.
 pub struct Tap {
     pub i0: usize,
     pub i1: usize,
     pub f: f32,
 }
 
-// Inner: a + f * (b - a).
+// Inner: what lies the part f of the way from a to b, in three roundings. Another order of operations would round otherwise.
 pub fn lerp(a: f32, b: f32, f: f32) -> f32
     ensures { λ r. ⌜ r ≡ lerpOf a b f ⌝ }
 {
     a + f * (b - a)
 }
 
-// Inner: k / d, one division.
+// Inner: k / d by one division. Both fit sixteen bits, so that their casts are exact.
 pub fn fraction(k: usize, d: usize) -> f32
     requires { ⌜ (k < 65536) × (d < 65536) ⌝ }
     ensures { λ r. ⌜ r ≡ fractionOf k d ⌝ }
@@ -25,6 +25,7 @@ pub fn fraction(k: usize, d: usize) -> f32
     (k as u16) as f32 / (d as u16) as f32
 }
 
+// The tap of an output that takes cell i alone.
 fn on_cell(i: usize) -> Tap
     ensures { λ t. ⌜ t ≡ tapOn (onCell i) ⌝ }
 {
@@ -35,7 +36,7 @@ fn on_cell(i: usize) -> Tap
     }
 }
 
-// m / d cells past the first of len.
+// The tap of an output that lies m / d cells past the first of len: the last cell alone where it lies at or past that.
 fn spot_at(m: usize, d: usize, len: usize) -> Tap
     requires { ⌜ (0 < d) × (d < 65536) × (0 < len) ⌝ }
     ensures { λ t. ⌜ t ≡ tapOn (spotAt m d len) ⌝ }
@@ -52,6 +53,8 @@ fn spot_at(m: usize, d: usize, len: usize) -> Tap
 }
 
 // Inner: the tap of output o over len cells at ratio r.
+//
+// It lies at (2o + 1 - r) / 2r cells. That is below 0 in the first half of the first cell, so the sign is looked at before the difference.
 pub fn tap_at(r: usize, len: usize, o: usize) -> Tap
     requires { ⌜ (0 < r) × (r ≤ 4) × (0 < len) × (o ≤ 8192) × (o < len * r) ⌝ }
     ensures { λ t. ⌜ TapGiven r len o t ⌝ }

@@ -1,4 +1,5 @@
 -- c is x limited (`limited-by`), and its bits round it (`low-field`, `high-field`).
+-- That c lies below 2 ^ 24 bounds the exponent's field by 150 (`field-le`), by which the count of the shift is not below 0.
 use mathlib.Core.Path.{sym, subst}
 use mathlib.Core.Bool.{not}
 use Prim.Native.Nat.{_+_, _-_, _*_, _/_, _%_, _^_, min}

@@ -1,3 +1,5 @@
+-- The loop's invariant is laws' `Run`: the first k values of the block are stored, and all else in s is as it was.
+-- `run-more` is a turn, and `run-end` at k = 16 is the contract. The rest is that places stay below lengths.
 use native.Mathlib.Omega.{arith}
 use Rattle.lanes.proofs.put_block.Statement.{statement}
 use Rattle.laws.proofs.Lists.{Run, run-end, run-more, run-none}

@@ -1,6 +1,6 @@
 use borrow.Author.Needs.{needs}
 use Rattle.kernels.proofs.Channels.{green-biased}
-use Rattle.kernel_blocks.proofs.Offsets.{green-fast}
+use Rattle.kernel_blocks.proofs.GreenQuotient.{green-fast}
 use Rattle.kernel_blocks.proofs.chroma_offsets.green_whole.Statement.{statement}
 use Rattle.kernel_blocks.proofs.chroma_offsets.green_whole.Tie as tie
 

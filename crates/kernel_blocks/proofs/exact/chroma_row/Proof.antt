@@ -1,10 +1,12 @@
+-- The loop's invariant is `Filled`: each byte so far is the exact kernel's, for the luma and the chroma that the two arrays stand for there.
+-- A turn is `byte-is`, by which the grid's bits in the offset and in the lowered luma cancel.
 use mathlib.Core.Path.{_≡_, refl}
 use Prim.Native.Nat.{ℕ, _-_, _≤_}
 use native.Mathlib.Omega.{arith}
 use lib.ListN.{getD}
 use lib.IntN.{pos}
 use lib.Ieee.{nan}
-use Rattle.kernel_blocks.specs.Floating.{Centred, Tint, Lowered}
+use Rattle.kernel_blocks.specs.Floating.{Centred, Multiplier, Lowered}
 use Rattle.lanes.proofs.Filled.{Filled, filled-none, filled-more}
 use Rattle.kernels.specs.Forms.{plusChroma}
 use Rattle.kernel_blocks.proofs.Lumas.{lowered-held, luma-held, byte-is}
@@ -12,7 +14,7 @@ use Rattle.kernel_blocks.proofs.exact.chroma_row.Statement.{statement}
 use Rattle.kernel_blocks.proofs.exact.chroma_row.Tie as tie
 
 abbrev Inv-loop : tie.InvT-loop
-Inv-loop k tie y x row₀ i₀ row i = (i ≤ 16) × Filled row i (λ j v. (m l n : ℕ) → Tint k tie m → Lowered (getD y j (pos 0)) l → Centred (getD x j nan) n → v ≡ plusChroma m l n)
+Inv-loop k tie y x row₀ i₀ row i = (i ≤ 16) × Filled row i (λ j v. (m l n : ℕ) → Multiplier k tie m → Lowered (getD y j (pos 0)) l → Centred (getD x j nan) n → v ≡ plusChroma m l n)
 
 abbrev μ-loop : tie.MeasureT-loop
 μ-loop k tie y x row₀ i₀ row i = 16 - i

@@ -1,3 +1,5 @@
+-- The loop's invariant: if the doubt so far is 0, green is sure at every pixel looked at.
+-- The one step is `or-zero`: an `|` is 0 only where both sides are, since with the `&` of the two it makes their sum.
 use mathlib.Core.Path.{_≡_}
 use Prim.Native.Nat.{ℕ, _-_, _≤_, _<_}
 use native.Mathlib.Omega.{arith}

@@ -1,3 +1,5 @@
+-- The loop's invariant is `Filled`: each byte so far is the exact kernel's green, for the luma and the chroma that the arrays stand for there.
+-- A turn is `byte-is` over `green_by_doubt`, which may be called because a block's doubt of 0 makes green sure at each of its pixels.
 use mathlib.Core.Path.{_≡_, refl}
 use Prim.Native.Nat.{ℕ, _-_, _≤_}
 use native.Mathlib.Omega.{arith}
@@ -29,23 +31,23 @@ mul-limit-sum c = omega arith
 array-copy-out-limit-sum : tie.Need-array-copy-out-limit-sum Inv-loop μ-loop
 array-copy-out-limit-sum c = omega arith
 
-mul-green-by : tie.Need-mul-green-by Inv-loop μ-loop
-mul-green-by c = omega arith
+mul-green-by-doubt : tie.Need-mul-green-by-doubt Inv-loop μ-loop
+mul-green-by-doubt c = omega arith
 
-array-read-green-by : tie.Need-array-read-green-by Inv-loop μ-loop
-array-read-green-by c = omega arith
+array-read-green-by-doubt : tie.Need-array-read-green-by-doubt Inv-loop μ-loop
+array-read-green-by-doubt c = omega arith
 
-mul-green-by-2 : tie.Need-mul-green-by-2 Inv-loop μ-loop
-mul-green-by-2 c = omega arith
+mul-green-by-doubt-2 : tie.Need-mul-green-by-doubt-2 Inv-loop μ-loop
+mul-green-by-doubt-2 c = omega arith
 
-array-read-green-by-2 : tie.Need-array-read-green-by-2 Inv-loop μ-loop
-array-read-green-by-2 c = omega arith
+array-read-green-by-doubt-2 : tie.Need-array-read-green-by-doubt-2 Inv-loop μ-loop
+array-read-green-by-doubt-2 c = omega arith
 
-green-by-requires : tie.Need-green-by-requires Inv-loop μ-loop
-green-by-requires c κs = let l = c .before .before in let i = l .loop .i in let p = l .before .before .pre i (omega arith) in (p .1, p .2, λ e. l .before .doubt .ensures e i (omega arith))
+green-by-doubt-requires : tie.Need-green-by-doubt-requires Inv-loop μ-loop
+green-by-doubt-requires c κs = let l = c .before .before in let i = l .loop .i in let p = l .before .before .pre i (omega arith) in (p .1, p .2, λ e. l .before .doubt .ensures e i (omega arith))
 
 limit-sum-requires : tie.Need-limit-sum-requires Inv-loop μ-loop
-limit-sum-requires c κs = let l = c .before .before .before in let p = l .before .before .pre (l .loop .i) (omega arith) in let o = c .green-by .ensures _ _ (p .1 .1) (p .2 .1) .most in (luma-held (p .0), omega arith)
+limit-sum-requires c κs = let l = c .before .before .before in let p = l .before .before .pre (l .loop .i) (omega arith) in let o = c .green-by-doubt .ensures _ _ (p .1 .1) (p .2 .1) .most in (luma-held (p .0), omega arith)
 
 array-write-row : tie.Need-array-write-row Inv-loop μ-loop
 array-write-row c = omega arith
@@ -58,7 +60,7 @@ loop-less c = omega arith
 
 loop-again : tie.Need-loop-again Inv-loop μ-loop
 unfolding exact255
-loop-again c = (omega arith, filled-more (c .before .before .before .before .loop .inv .1) (omega arith) _ (λ l b r h u v. byte-is (c .limit-sum .ensures) (lowered-held h) (c .before .green-by .ensures b r u v)))
+loop-again c = (omega arith, filled-more (c .before .before .before .before .loop .inv .1) (omega arith) _ (λ l b r h u v. byte-is (c .limit-sum .ensures) (lowered-held h) (c .before .green-by-doubt .ensures b r u v)))
 
 returns : tie.Need-returns Inv-loop μ-loop
 returns c = λ j h. c .before .loop .inv .1 .reads j (omega arith)
@@ -73,11 +75,11 @@ green-row-spec =
     loop-holds
     mul-limit-sum
     array-copy-out-limit-sum
-    mul-green-by
-    array-read-green-by
-    mul-green-by-2
-    array-read-green-by-2
-    green-by-requires
+    mul-green-by-doubt
+    array-read-green-by-doubt
+    mul-green-by-doubt-2
+    array-read-green-by-doubt-2
+    green-by-doubt-requires
     limit-sum-requires
     array-write-row
     add-i

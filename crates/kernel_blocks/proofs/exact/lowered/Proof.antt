@@ -1,3 +1,5 @@
+-- The loop's invariant is laws' `Run`: the first i values are luma less the grid's bits.
+-- A turn's value goes through an i32 and back, and stays what it is since luma of sixteen bits less those bits fits one (`lowered-back`).
 use mathlib.Core.Path.{_∙_}
 use Prim.Native.Nat.{_-_, _≤_}
 use native.Mathlib.Omega.{arith}

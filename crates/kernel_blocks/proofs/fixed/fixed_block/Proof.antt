@@ -1,3 +1,5 @@
+-- The loop's invariant is laws' `Run` three times, once for each colour row.
+-- A turn adds a byte to each (`front-more`), and `colour-fixed` puts pixel k together from the three. The rest is that i stays below 16.
 use Prim.Native.Nat.{_-_, _≤_}
 use native.Mathlib.Omega.{arith}
 use lib.ListN.{getD}

@@ -1,3 +1,5 @@
+-- The contract is the law `green-byte` of FixedBytes: green over what Cr leaves of 255, with another bias, is the kernel's.
+-- What is left are the bounds of sixteen bits, which `needs` finds from chroma being bytes; so 160 is never less than the part.
 use mathlib.Core.Path.{_∙_}
 use Prim.Native.Nat.{_-_}
 use native.Mathlib.Omega.{arith}

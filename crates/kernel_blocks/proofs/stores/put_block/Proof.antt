@@ -1,3 +1,5 @@
+-- The loop's invariant: p is where pixel i begins, and dst is `pixels` of the first i.
+-- `pixels-more` is a turn. The one step that isn't linear is that pixel i ends within dst, (i + 1) * size being at most 16 * size.
 use mathlib.Core.Path.{_≡_, ap, _∙_}
 use Prim.Native.Nat.{_+_, _-_, _*_, _≤_}
 use native.Mathlib.Nat.{mul-le-mul-right}

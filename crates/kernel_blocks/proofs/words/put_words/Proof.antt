@@ -1,3 +1,5 @@
+-- The loop's invariant is `AsPixels`: dst is as the first i pixels would leave it, whatever colours the words turn out to hold.
+-- A turn is `word-stored`: a word whose fourth byte is what lay there stores a pixel. At the end `words`' contract names the colours.
 use mathlib.Core.Path.{_≡_, refl, ap, _∙_}
 use Prim.Native.Nat.{_-_, _≤_}
 use native.Mathlib.Omega.{arith}

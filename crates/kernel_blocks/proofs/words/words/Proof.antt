@@ -1,3 +1,5 @@
+-- The loop's invariant is `Filled`: word k has the bytes of pixel k and the fourth byte that dst holds there.
+-- A turn is `joined`: a word of three colour bytes and one of the fourth byte alone add up. The rest is places within the arrays.
 use mathlib.Core.Path.{refl}
 use Prim.Native.Nat.{_+_, _-_, _*_, _≤_}
 use native.Mathlib.Omega.{arith}

@@ -1,3 +1,5 @@
+-- The contract is the law `green-at` of Channels, with `centre`'s result for its h.
+-- What is left are the bounds: no product or sum passes 64 bits, which `needs` finds from the limits on the arguments.
 use mathlib.Core.Path.{sym, _∙_}
 use borrow.Author.Needs.{needs}
 use Rattle.kernels.proofs.Channels.{green-at}

@@ -1,3 +1,5 @@
+-- The three returns are the three cases of `spotOf` at one cell to r outputs: the branch taken is the test that picks the case.
+-- `tap-given` adds that the tap's cells are among len, for which ratio 1 alone needs o < len * r.
 use mathlib.Core.Bool.{false}
 use lib.Dec.{eqb}
 use Rattle.taps.specs.Taps.{tapOf, spotOf}

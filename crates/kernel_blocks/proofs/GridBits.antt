@@ -1,4 +1,6 @@
 -- The bits of a sum with 1.5 * 2 ^ 31 count the multiple of 256 nearest to the other number.
+-- The sum is one rounding of a fraction (`summed`), and laws' `on-grid` and `grid-bits` at j = 8 say to which multiple and with what bits.
+-- The hard step is `counted`, where the rounding's half of 256 and the slack of the other number add up.
 use mathlib.Core.Path.{_≡_, refl, sym, ap, subst}
 use mathlib.Core.Bool.{Bool, true, false, not}
 use Prim.Native.Nat.{ℕ, _+_, _-_, _*_, _≤_, _<_}
@@ -10,7 +12,7 @@ use lib.Ieee.{Float, nan, inf, fin, binary32, up, down, round, neg, sub, isNan, 
 use lib.Ieee.Fits.{down-pos}
 use lib.Ieee.Exact.{HasValue}
 use lib.Ieee.Nearest.{closest, closest-mono}
-use Rattle.laws.specs.Floats.{_⊕_, _⊖_, over, under, Close, Near}
+use Rattle.laws.specs.Floats.{_⊕_, _⊖_, over, under, Close, NearFraction}
 use Rattle.laws.proofs.Halves.{Half, closest-half}
 use Rattle.laws.proofs.Values.{value-no-nan}
 use Rattle.laws.proofs.Operators.{add-up, add-down}
@@ -80,7 +82,7 @@ pub record Bits (x : Float) (a b c e : ℕ) : Type 0 where
   pub counts : Counts (toBits binary32 x) a b c e
 
 module _ (a b c e : ℕ) (w : Small a b c e) where
-  pub plus-bits : (p : Float) → Near p a b c e → Bits (middle ⊕ p) a b c e
+  pub plus-bits : (p : Float) → NearFraction p a b c e → Bits (middle ⊕ p) a b c e
   plus-bits nan h = absurd h
   plus-bits (inf s) h = absurd h
   plus-bits (fin s m x) h =
@@ -105,6 +107,6 @@ module _ (a b c e : ℕ) (w : Small a b c e) where
       within false M D A l e = omega arith
       within true M D A l e = omega arith
 
-  pub minus-bits : (p : Float) → Near p b a c e → Bits (middle ⊖ p) a b c e
+  pub minus-bits : (p : Float) → NearFraction p b a c e → Bits (middle ⊖ p) a b c e
   unfolding sub
   minus-bits p h = plus-bits (neg p) (neg-near p b a c e h)

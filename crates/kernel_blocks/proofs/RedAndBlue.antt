@@ -1,4 +1,6 @@
 -- Chroma as a float times a multiplier is near enough to the exact offset, but for a few chromas close to a half, each of which is computed.
+-- Off those edges the float's slack of 3 / 256 can't reach the next step (`steady`). At an edge lies at most one chroma for each step (`edge-at`),
+-- so that 360 steps of red and 455 of blue, computed in `checked`, are all of them.
 use mathlib.Core.Path.{_≡_, refl, sym, ap, _∙_, subst}
 use mathlib.Core.Bool.{Bool, true, false, not, _&&_}
 use mathlib.Core.Logic.{_⊎_, inl, inr}
@@ -11,13 +13,13 @@ use lib.Ieee.{Float, binary32, add, sub, mul, ofInt, isNan, toBits}
 use lib.Ieee.Exact.{HasValue}
 use lib.Ieee.Fits.{and-l, and-r}
 use borrow.Author.Tests.{ltb-false}
-use Rattle.laws.specs.Floats.{f32, _⊕_, _⊖_, _⊗_, Close, Near}
+use Rattle.laws.specs.Floats.{f32, _⊕_, _⊖_, _⊗_, Close, NearFraction}
 use Rattle.laws.proofs.Nearness.{mild-step, near-chain, value-near, add-near}
 use Rattle.kernels.specs.Kernels.{centred}
 use Rattle.kernels.specs.Forms.{chromaOffset, Suits, raised}
 use Rattle.kernels.proofs.Channels.{red-suits, blue-suits, chroma-biased}
-use Rattle.kernel_blocks.specs.Floating.{Centred, OnGrid, Tint, red1402, blue1772, noTie, blueTie, forRed, forBlue, middle}
-use Rattle.kernel_blocks.proofs.Nearby.{Counts, Bits, plus-bits}
+use Rattle.kernel_blocks.specs.Floating.{Centred, OnGrid, Multiplier, red1402, blue1772, noTie, blueTie, forRed, forBlue, middle}
+use Rattle.kernel_blocks.proofs.GridBits.{Counts, Bits, plus-bits}
 use Rattle.kernel_blocks.proofs.Chromas.{scaled}
 use Rattle.kernel_blocks.proofs.Lumas.{on-grid-from}
 
@@ -73,7 +75,7 @@ record Numbers (k tie : Float) (F G m t s bias steps : ℕ) : Type 0 where
   value : HasValue k false F G
   some : 0 < G
   twice : F ≤ 2 * G
-  tie-near : Near tie t 0 128000 0
+  tie-near : NearFraction tie t 0 128000 0
   close : (c : ℕ) → c ≤ 65536 → Close (F * c) (F * 32768) G (128 * (m * c)) (128 * (m * 32768)) 128000 1
   low : t ≤ 375
   least : 26 ≤ m
@@ -86,7 +88,7 @@ module _ {k tie : Float} {F G m t s bias steps : ℕ} (n : Numbers k tie F G m t
   most : m * c ≤ m * 65536
   most = mul-le-mul-left m (h .most)
 
-  nearly : Near (k ⊗ x ⊕ tie) (128 * (m * c) + t) (128 * (m * 32768) + 0) 128000 3
+  nearly : NearFraction (k ⊗ x ⊕ tie) (128 * (m * c) + t) (128 * (m * 32768) + 0) 128000 3
   nearly =
       let l = n .suits .multiplier in
       let w = n .low in
@@ -96,8 +98,8 @@ module _ {k tie : Float} {F G m t s bias steps : ℕ} (n : Numbers k tie F G m t
       (near-chain (k ⊗ x) (F * c) (F * 32768) G (128 * (m * c)) (128 * (m * 32768)) 128000 1 1 (n .some) (scaled k x F G c (n .value) (n .some) (n .twice) h) (n .close c (h .most)))
       (n .tie-near)
 
-  tint-bits : Bits (middle ⊕ (k ⊗ x ⊕ tie)) (128 * (m * c) + t) (128 * (m * 32768) + 0) 128000 3
-  tint-bits =
+  chroma-offset-bits : Bits (middle ⊕ (k ⊗ x ⊕ tie)) (128 * (m * c) + t) (128 * (m * 32768) + 0) 128000 3
+  chroma-offset-bits =
       let l = n .suits .multiplier in
       let w = n .low in
       let o = most in
@@ -125,14 +127,14 @@ module _ {k tie : Float} {F G m t s bias steps : ℕ} (n : Numbers k tie F G m t
   settled = go (edge m s c) refl
     where
       go : (b : Bool) → edge m s c ≡ b → toBits binary32 (middle ⊕ (k ⊗ x ⊕ tie)) ≡ wanted m s bias c
-      go false e = steady (toBits binary32 (middle ⊕ (k ⊗ x ⊕ tie))) (m * c) refl (tint-bits .counts) (off e)
+      go false e = steady (toBits binary32 (middle ⊕ (k ⊗ x ⊕ tie))) (m * c) refl (chroma-offset-bits .counts) (off e)
       go true e =
           ap (λ (y : Float). toBits binary32 (middle ⊕ (k ⊗ y ⊕ tie))) (h .is)
           ∙ eqb→eq (bits k tie c) (wanted m s bias c) (subst (λ (b : Bool). T (judge b (bits k tie c) (wanted m s bias c))) e (seen e))
 
-  tinted : OnGrid (chromaOffset m (centred c)) (toBits binary32 (middle ⊕ (k ⊗ x ⊕ tie)))
+  chroma-offset-on-grid : OnGrid (chromaOffset m (centred c)) (toBits binary32 (middle ⊕ (k ⊗ x ⊕ tie)))
   unfolding wanted
-  tinted =
+  chroma-offset-on-grid =
       let e : m * c + s ≡ raised m bias c = let z = n .sum in omega arith in
       on-grid-from bias _ _ (chroma-biased (n .suits) c ((m * c + s) / 256000) (h .most) (ap (λ (y : ℕ). y / 256000) e)) (n .suits .bias-most) (let z = settled in let b = n .suits .bias-most in omega arith)
 
@@ -171,10 +173,10 @@ blue-numbers =
       suits = blue-suits;
     }
 
-pub tint-is : {k tie x : Float} {m c : ℕ} → Tint k tie m → Centred x c → OnGrid (chromaOffset m (centred c)) (toBits binary32 (middle ⊕ (k ⊗ x ⊕ tie)))
-tint-is forRed h = tinted red-numbers h
-tint-is forBlue h = tinted blue-numbers h
+pub chroma-offset-is : {k tie x : Float} {m c : ℕ} → Multiplier k tie m → Centred x c → OnGrid (chromaOffset m (centred c)) (toBits binary32 (middle ⊕ (k ⊗ x ⊕ tie)))
+chroma-offset-is forRed h = chroma-offset-on-grid red-numbers h
+chroma-offset-is forBlue h = chroma-offset-on-grid blue-numbers h
 
-pub tint-number : {k tie x : Float} {m c : ℕ} → Tint k tie m → Centred x c → T (not (isNan (middle ⊕ (k ⊗ x ⊕ tie))))
-tint-number forRed h = tint-bits red-numbers h .number
-tint-number forBlue h = tint-bits blue-numbers h .number
+pub chroma-offset-number : {k tie x : Float} {m c : ℕ} → Multiplier k tie m → Centred x c → T (not (isNan (middle ⊕ (k ⊗ x ⊕ tie))))
+chroma-offset-number forRed h = chroma-offset-bits red-numbers h .number
+chroma-offset-number forBlue h = chroma-offset-bits blue-numbers h .number

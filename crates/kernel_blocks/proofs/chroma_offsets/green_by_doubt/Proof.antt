@@ -4,8 +4,8 @@ use lib.Ieee.{ofBits}
 use Rattle.kernels.specs.Kernels.{centred, greenOffset}
 use Rattle.kernel_blocks.specs.Floating.{OnGrid, added}
 use Rattle.kernel_blocks.proofs.Greens.{green-sure}
-use Rattle.kernel_blocks.proofs.chroma_offsets.green_by.Statement.{statement}
-use Rattle.kernel_blocks.proofs.chroma_offsets.green_by.Tie as tie
+use Rattle.kernel_blocks.proofs.chroma_offsets.green_by_doubt.Statement.{statement}
+use Rattle.kernel_blocks.proofs.chroma_offsets.green_by_doubt.Tie as tie
 
 green-near-requires : tie.Need-green-near-requires
 unfolding ofBits
@@ -23,6 +23,6 @@ green-offset-requires c κs = search needs
 returns-2 : tie.Need-returns-2
 returns-2 c = search needs
 
-pub green-by-spec : {M : Type 1} → statement M
-green-by-spec =
+pub green-by-doubt-spec : {M : Type 1} → statement M
+green-by-doubt-spec =
     tie.close (tie.spec green-near-requires returns green-offset-requires returns-2)
