@@ -1,4 +1,6 @@
 -- The digits of a number by how many there are, and that they are the number's.
+-- Spelled out they follow by unfolding up to four times. Read back they are the number by induction on how many there are: a digit more
+-- at the end is ten times the number and the digit (`decimal-last`), and the number's tenth has one digit less (`shorter`).
 use mathlib.Core.Path.{_≡_, refl}
 use mathlib.Core.Bool.{Bool, true, false, cond}
 use mathlib.Core.List.{List, [], _∷_, _++_}

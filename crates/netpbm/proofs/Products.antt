@@ -1,4 +1,6 @@
 -- Why sides may be held as 65,536 at most: no product within the input's limit changes, and none past it comes back.
+-- A factor is no more than the product unless the other is 0 (`factor`), so within 49,152 both factors are held as they are (`kept`).
+-- Past it, a factor that is held as 65,536, times one that is not 0, is still past it (`passes`).
 use mathlib.Core.Path.{_≡_, refl, sym, ap, _∙_}
 use mathlib.Core.Logic.{inl, inr}
 use mathlib.Core.Bool.{Bool, true, false}

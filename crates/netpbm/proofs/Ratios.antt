@@ -1,4 +1,6 @@
 -- The smallest ratio that fits: what the loop has tried, what a ratio that was found says, and why held sides find the same one.
+-- The loop unfolds `smallest` once a turn (`try-one`). Sides as they are held find the same ratio because no cell count of a side of
+-- 8,192 pixels comes near 65,536, where numbers stop being held as they are (`fits-held`).
 use mathlib.Core.Path.{_≡_, refl, sym, ap, _∙_}
 use mathlib.Core.Bool.{Bool, true, false, _&&_, cond}
 use Prim.Native.Nat.{ℕ, zero, suc, _+_, _-_, _≤_, _<_}

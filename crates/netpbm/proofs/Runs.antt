@@ -1,4 +1,6 @@
 -- Laws of the entries at the front that pass a test: one more, none, and how many there can be.
+-- They are proved once for every test that 0 doesn't pass, since `getD` gives 0 past the end: so what passes stands inside, and a run
+-- ends inside too. Whitespace, digits and the magic are their uses.
 use mathlib.Core.Path.{_≡_, refl, ap, _∙_}
 use mathlib.Core.Bool.{Bool, true, false, _&&_, cond}
 use mathlib.Core.List.{List, [], _∷_}

@@ -1,4 +1,6 @@
 -- A line at the front of out, and what is behind it.
+-- `ppm-is` carries the program's output: out is cut behind the header, the part behind it is lent and comes back filled, and joined again
+-- they are `ppmOver`. The step is that the line's copy left what is behind it untouched (`behind-is`).
 use mathlib.Core.Path.{_≡_, sym, ap, _∙_, refl}
 use mathlib.Core.List.{List, [], _++_, append-nil}
 use Prim.Native.Nat.{ℕ, _+_, _≤_, _<_, _*_, _-_}
@@ -15,7 +17,7 @@ use Rattle.fill.specs.Fill.{fillColour, pixelRows}
 use Rattle.netpbm.specs.declared.lines.Line.{Line}
 use Rattle.netpbm.specs.Texts.{lineOf}
 use Rattle.netpbm.specs.Lines.{ppmHeader}
-use Rattle.netpbm.specs.Reading.{layoutOf}
+use Rattle.netpbm.specs.Reading.{inputLayout}
 use Rattle.netpbm.proofs.Digits.{three-most, four-most}
 use Rattle.picture.specs.Picture.{ppmLength, inputPicture, ppmOver}
 use Rattle.picture.proofs.Readings.{to-end}
@@ -77,6 +79,6 @@ module _ (p : Picture) (l : Layout) (q : p .layout ≡ l) (line : Line) (e : lin
       ∙ rw q refl
 
 -- the layout of the input's picture
-pub picture-layout : (s : List ℕ) (l : Layout) → l ≡ layoutOf s → inputPicture s .layout ≡ l
+pub picture-layout : (s : List ℕ) (l : Layout) → l ≡ inputLayout s → inputPicture s .layout ≡ l
 unfolding pictureOf
 picture-layout s l e = sym e
