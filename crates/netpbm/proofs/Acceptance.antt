@@ -65,7 +65,7 @@ module _ (s : List ℕ) (a : first (readingTests s) ≡ Accepted) where
   unfolding inputLayout
   down = ratio-fits (heightOf s 0) (heightOf s (cbAt s)) (heightOf s (crAt s)) (ratios .1)
 
-  -- 3 and 4 and 5 don't apply
+  -- refusals 3, 4 and 5 don't apply to the layout
   ratio-passed : badRatio (inputLayout s) ≡ false
   unfolding badRatio
   ratio-passed =
@@ -92,7 +92,7 @@ module _ (s : List ℕ) (a : first (readingTests s) ≡ Accepted) where
   unfolding layoutTests
   passed = failed-accepted (layoutTests false (inputLayout s)) (size-passed, (ratio-passed, (samples-passed, (chroma-passed, tt))))
 
-  -- the last chroma image has the sides of the one before
+  -- the Cr image has the sides of the Cb image
   same-sides : (widthOf s (crAt s) ≡ inputLayout s .cw) × (heightOf s (crAt s) ≡ inputLayout s .ch)
   same-sides = (across .other ∙ sym (across .one), down .other ∙ sym (down .one))
 
@@ -109,7 +109,7 @@ module _ (s : List ℕ) (a : first (readingTests s) ≡ Accepted) where
     cr-rows = rw (sym (same-sides .0), sym (same-sides .1)) (three .1 .1 .ends);
   }
 
--- what the reading gives has it
+-- what was read has all that `Taken` says
 pub taken : (s : List ℕ) (l : Layout) (y cb cr : ℕ) → readingOf s ≡ Read l y cb cr → Taken s l y cb cr
 unfolding readingOf
 taken s l y cb cr e = go (first (readingTests s)) refl e

@@ -82,7 +82,7 @@ module _ {s : List ℕ} {at : ℕ} {w h m : Field} (e : HeaderHeld s at w h m) w
   unfolding fieldHeld
   good-m = ap (λ (f : Field). f .good) (e .maxval-is)
 
-  -- the image's own tests
+  -- tests on the numbers as they are held are the image's own
   pub held-tests : length s ≤ 49152 → heldTests s at w h m ≡ imageTests s at
   unfolding heldTests imageTests rowsAt
   held-tests l =

@@ -14,7 +14,7 @@ use Rattle.netpbm.specs.Reading.{fitsBoth, smallest, ratioFor}
 use Rattle.netpbm.specs.Held.{held}
 use Rattle.netpbm.proofs.Products.{held-equal}
 
--- one number tried
+-- `smallest`, with the first of the numbers from r to 4 tried
 try-one : (p : ℕ → Bool) (r : ℕ) → r ≤ 4 → smallest p r (5 - r) ≡ cond (p r) r (smallest p (r + 1) (5 - (r + 1)))
 unfolding smallest
 try-one p r l =
@@ -22,7 +22,7 @@ try-one p r l =
     let f : 5 - (r + 1) ≡ 4 - r = omega arith in
     rw (e, f, add-one r) refl
 
--- none below r fits
+-- no ratio below r fits, so that the smallest of those from r on is the smallest of all
 pub record Tried (n a b r : ℕ) : Type 0 where
   pub some : 1 ≤ r
   pub most : r ≤ 5
@@ -65,7 +65,7 @@ module _ (p : ℕ → Bool) where
       go true e f h = (e, (omega arith, omega arith))
       go false e f h = let q = f h in (q .0, (omega arith, omega arith))
 
--- so the chroma sides are its rounded-up quotients
+-- what a ratio that fits says: both chroma sides are the quotient by it, rounded up
 pub record Fits (n a b r : ℕ) : Type 0 where
   pub some : 1 ≤ r
   pub most : r ≤ 4

@@ -24,7 +24,7 @@ leading-most p (x ∷ xs) = go (p x) (leading-most p xs)
     go true h = omega arith
     go false h = omega arith
 
--- at a place inside, or past the end
+-- a place lies inside the list or past its end
 cases : {P : Type 0} (s : List ℕ) (at : ℕ) → (at < length s → P) → (length s ≤ at → P) → P
 cases {P} s at f g = go (ltb at (length s)) (ltb-true at (length s)) (ltb-false at (length s))
   where
@@ -56,7 +56,7 @@ module _ (p : ℕ → Bool) (none : p 0 ≡ false) (s : List ℕ) (at : ℕ) whe
 
 -- ---- whitespace
 
--- nothing stands past the end
+-- no whitespace stands past the end
 pub blank-outside : (s : List ℕ) (at : ℕ) → length s ≤ at → false ≡ hasBlank s at
 unfolding hasBlank
 blank-outside s at g = rw (List·getD-eq-default s 0 g) refl
@@ -80,6 +80,7 @@ module _ (s : List ℕ) (at : ℕ) where
 
 -- ---- digits
 
+-- no digit stands past the end
 pub digit-outside : (s : List ℕ) (at : ℕ) → length s ≤ at → false ≡ hasDigit s at
 unfolding hasDigit
 digit-outside s at g = rw (List·getD-eq-default s 0 g) refl
@@ -95,7 +96,7 @@ digit-range s at e = go (leb 48 (getD s at 0)) (leb (getD s at 0) 57) (leb-true 
 
 -- ---- the magic
 
--- where no two bytes are left there is none
+-- where fewer than two bytes are left no magic stands
 pub magic-outside : (s : List ℕ) (at : ℕ) → length s ≤ at + 1 → false ≡ hasMagic s at
 unfolding hasMagic
 magic-outside s at g = rw (List·getD-eq-default s 0 g) (go (eqb (getD s at 0) 80))

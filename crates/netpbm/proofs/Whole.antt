@@ -151,7 +151,7 @@ module _ {s : List ℕ} {y cb cr : Image} (p : Places s y cb cr) where
   unfolding imageHeld
   cr-h = ap (λ (i : Image). i .h) (p .cr-is)
 
-  -- 2 is the same test
+  -- sides as they are held are outside 1 to 8,192 exactly if the real ones are: the test for 2 is the same
   size-same : badSize (layoutHeld y cb cr) ≡ badSize (inputLayout s)
   unfolding badSize layoutHeld inputLayout
   size-same =
@@ -167,7 +167,7 @@ module _ {s : List ℕ} {y cb cr : Image} (p : Places s y cb cr) where
       let n = neither (outsideOf 1 8192 (widthOf s 0)) (outsideOf 1 8192 (heightOf s 0)) e in
       (ltb-false 8192 (widthOf s 0) (neither (ltb (widthOf s 0) 1) (ltb 8192 (widthOf s 0)) (n .0) .1), ltb-false 8192 (heightOf s 0) (neither (ltb (heightOf s 0) 1) (ltb 8192 (heightOf s 0)) (n .1) .1))
 
-  -- past it the ratios are the same
+  -- where 2 doesn't apply, sides as they are held have the ratios of the real ones
   ratio-w : badSize (inputLayout s) ≡ false → ratioFor (y .w) (cb .w) (cr .w) ≡ ratioFor (widthOf s 0) (widthOf s (cbAt s)) (widthOf s (crAt s))
   ratio-w e = rw (y-w, cb-w, cr-w) (ratio-held (widthOf s 0) (widthOf s (cbAt s)) (widthOf s (crAt s)) (sides e .0))
 
@@ -178,14 +178,14 @@ module _ {s : List ℕ} {y cb cr : Image} (p : Places s y cb cr) where
   unfolding noRatio layoutHeld inputLayout
   none-same e = rw (ratio-w e, ratio-h e) refl
 
-  -- so the same number is given
+  -- the tests behind the images give the same answer over what is held
   sizes-first : first ((ltb (cr .end) (length s), 14) ∷ (badSize (layoutHeld y cb cr), 2) ∷ (noRatio (layoutHeld y cb cr), 5) ∷ []) ≡ first (wholeTests s)
   unfolding wholeTests
   sizes-first =
       ap (λ (k : ℕ). first ((ltb k (length s), 14) ∷ (badSize (layoutHeld y cb cr), 2) ∷ (noRatio (layoutHeld y cb cr), 5) ∷ [])) (p .end-is)
       ∙ tests-same (ltb (imageEnd s (crAt s)) (length s)) (badSize (layoutHeld y cb cr)) (badSize (inputLayout s)) (noRatio (layoutHeld y cb cr)) (noRatio (inputLayout s)) size-same none-same
 
-  -- and a layout that passes is held as it is
+  -- a layout that passes these tests is held as it is
   layout-same : first (wholeTests s) ≡ Accepted → layoutHeld y cb cr ≡ inputLayout s
   unfolding wholeTests layoutHeld inputLayout noRatio
   layout-same e =
@@ -217,7 +217,7 @@ unfolding imageHeld
 rows-is s at = refl
 
 module _ {s : List ℕ} {y cb cr : Image} (l : length s ≤ 49152) (t : Three s y cb cr) where
-  -- the tests behind the first one
+  -- an input that is not too long is answered by the tests behind that for 15
   later : first (readingTests s) ≡ first (imagesTests s ++ wholeTests s)
   unfolding readingTests
   later = passed-over _ _ _ (le-ltb 49152 (length s) l)

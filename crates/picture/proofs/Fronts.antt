@@ -38,14 +38,14 @@ module _ (t : List ℕ) (line : Line) (e : line ≡ lineOf t) (out : List ℕ) w
   unfolding lineOf
   byte i l = ap (λ (x : Line). getD (x .bytes) i 0) e ∙ List·getD-append t _ 0 i l
 
-  -- the text stands in front
+  -- the text that the line holds stands at the front of out
   pub front-is : length t ≤ length out → take (length t) (put out 0 (line .len) (λ i. getD (line .bytes) i 0)) ≡ t
   front-is l =
       ap (λ (k : ℕ). take (length t) (put out 0 k (λ i. getD (line .bytes) i 0))) (line-length t line e)
       ∙ take-put out (length t) (λ i. getD (line .bytes) i 0) l
       ∙ ext-getD 0 (table (length t) (λ i. getD (line .bytes) i 0)) t (length-table (length t) _) (λ i h. let k = length-table (length t) (λ i. getD (line .bytes) i 0) in table-at (length t) (λ i. getD (line .bytes) i 0) i 0 (omega arith) ∙ byte i (omega arith))
 
-  -- and behind it nothing is touched
+  -- behind the text nothing of out is touched
   pub behind-is : drop (length t) (put out 0 (line .len) (λ i. getD (line .bytes) i 0)) ≡ drop (length t) out
   behind-is =
       let f : ℕ → ℕ = λ i. getD (line .bytes) i 0 in

@@ -59,7 +59,7 @@ read-accepted s l y cb cr e = go (first (readingTests s)) refl e
         record { passed = k; layout-is = sym a; planes-are = rw (sym a, sym b, sym c, sym d) refl }
     go (Turned n) k e = let z : _≡_ {A = ℕ} 0 1 = cc in absurd (omega arith)
 
--- and a number that it gives is the first of the reading's tests
+-- a number that the reading gives is that of the first of its tests that applies
 pub turned : (s : List ℕ) (n : ℕ) → readingOf s ≡ Refused n → first (readingTests s) ≡ Turned n
 unfolding readingOf
 turned s n e = go (first (readingTests s)) e
@@ -68,7 +68,7 @@ turned s n e = go (first (readingTests s)) e
     go Accepted e = let z : _≡_ {A = ℕ} 0 1 = cc in absurd (omega arith)
     go (Turned k) e = let z : k ≡ n = cc in ap Turned z
 
--- a part that goes to the end
+-- a part of a list from `at` on that is long enough goes to the list's end
 pub to-end : (s : List ℕ) (at : ℕ) → take (length s - at) (drop at s) ≡ drop at s
 to-end s at = take-all (length s - at) (drop at s) (let n = length-drop at s in omega arith)
 
@@ -150,7 +150,7 @@ module _ {s : List ℕ} {l : Layout} {y cb cr : ℕ} (t : ReadAccepted s l y cb 
   pub both-long : scratchNeed l ≤ length scratch → ppmLength l ≤ length out → Written (ppmLength l) ≡ pickOutcome (first (pictureTests s scratch out)) (ppmLength (inputLayout s))
   both-long g h = rw (later ∙ failed-accepted ((ltb (length scratch) (scratchNeed l), 9) ∷ (ltb (length out) (ppmLength l), 10) ∷ []) (le-ltb _ _ g, (le-ltb _ _ h, tt)), sym (t .layout-is)) refl
 
--- a number of the reading's stands
+-- where the reading gives a number, that is the outcome's
 pub read-refused : (s : List ℕ) (scratch : List Float) (out : List ℕ) (n : ℕ) → readingOf s ≡ Refused n → Down n ≡ pickOutcome (first (pictureTests s scratch out)) (ppmLength (inputLayout s))
 unfolding pictureTests
 read-refused s scratch out n e =

@@ -25,7 +25,7 @@ start c = c .before .before
 abbrev tests : (c : tie.Start) → List Test
 tests c = heldTests (c .args .input .now) (c .args .at) (c .args .width) (c .args .height) (c .args .maxval)
 
--- the tests are the image's
+-- the first of the tests on the numbers as they are held is the first of the image's own
 answered : (c : tie.Start) (a : Answer) → first (tests c) ≡ a → a ≡ first (imageTests (c .args .input .now) (c .args .at))
 answered c a e = sym e ∙ ap first (held-tests (c .pre .1) (c .pre .0))
 
