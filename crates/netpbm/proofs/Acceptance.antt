@@ -1,4 +1,6 @@
 -- What an input that is read has: a layout that passes refusals 2 to 5, and three planes whose rows lie inside the input.
+-- None of the reading's tests applied, so each image lies inside (`image-inside`) and each ratio fits (`ratio-fits`). The step that is
+-- in no test is that Cr's rows end inside by Cb's sides: both chroma images fit the same ratio (`same-sides`).
 use mathlib.Core.Path.{_≡_, refl, sym, _∙_}
 use mathlib.Core.Bool.{true, false}
 use mathlib.Core.List.{List, _++_}
@@ -16,8 +18,8 @@ use Rattle.image.specs.Tests.{divCeil, badSize, badRatio, badSamples, badChroma
 use Rattle.image.proofs.Layouts.{neither}
 use Rattle.netpbm.specs.declared.reading.Reading.the-variants.{Read}
 use Rattle.netpbm.specs.Images.{widthOf, heightOf, rowsAt, imageEnd, imageTests}
-use Rattle.netpbm.specs.Reading.{cbAt, crAt, layoutOf, noRatio, imagesTests, wholeTests, readingTests, pickReading, readingOf}
-use Rattle.netpbm.proofs.Fields.{Sits, sits}
+use Rattle.netpbm.specs.Reading.{cbAt, crAt, inputLayout, noRatio, imagesTests, wholeTests, readingTests, pickReading, readingOf}
+use Rattle.netpbm.proofs.Fields.{ImageInside, image-inside}
 use Rattle.netpbm.proofs.Ratios.{Fits, ratio-fits}
 
 pub record Taken (s : List ℕ) (l : Layout) (y cb cr : ℕ) : Type 0 where
@@ -40,62 +42,62 @@ module _ (s : List ℕ) (a : first (readingTests s) ≡ Accepted) where
   parts = failed-both (imagesTests s) (wholeTests s) (accepted-failed (readingTests s) a .1)
 
   -- the three images
-  three : Sits s 0 × (Sits s (cbAt s) × Sits s (crAt s))
+  three : ImageInside s 0 × (ImageInside s (cbAt s) × ImageInside s (crAt s))
   unfolding imagesTests
   three =
       let q = failed-both (imageTests s 0 ++ imageTests s (cbAt s)) (imageTests s (crAt s)) (parts .0) in
       let r = failed-both (imageTests s 0) (imageTests s (cbAt s)) (q .0) in
-      (sits s 0 short-is (failed-accepted (imageTests s 0) (r .0)), (sits s (cbAt s) short-is (failed-accepted (imageTests s (cbAt s)) (r .1)), sits s (crAt s) short-is (failed-accepted (imageTests s (crAt s)) (q .1))))
+      (image-inside s 0 short-is (failed-accepted (imageTests s 0) (r .0)), (image-inside s (cbAt s) short-is (failed-accepted (imageTests s (cbAt s)) (r .1)), image-inside s (crAt s) short-is (failed-accepted (imageTests s (crAt s)) (q .1))))
 
-  size-passed : badSize (layoutOf s) ≡ false
+  size-passed : badSize (inputLayout s) ≡ false
   unfolding wholeTests
   size-passed = parts .1 .1 .0
 
-  ratios : (layoutOf s .rh ≡ 0 → ⊥) × (layoutOf s .rv ≡ 0 → ⊥)
+  ratios : (inputLayout s .rh ≡ 0 → ⊥) × (inputLayout s .rv ≡ 0 → ⊥)
   unfolding wholeTests noRatio
-  ratios = let n = neither (eqb (layoutOf s .rh) 0) (eqb (layoutOf s .rv) 0) (parts .1 .1 .1 .0) in (eqb-false (layoutOf s .rh) 0 (n .0), eqb-false (layoutOf s .rv) 0 (n .1))
+  ratios = let n = neither (eqb (inputLayout s .rh) 0) (eqb (inputLayout s .rv) 0) (parts .1 .1 .1 .0) in (eqb-false (inputLayout s .rh) 0 (n .0), eqb-false (inputLayout s .rv) 0 (n .1))
 
-  across : Fits (layoutOf s .w) (layoutOf s .cw) (widthOf s (crAt s)) (layoutOf s .rh)
-  unfolding layoutOf
+  across : Fits (inputLayout s .w) (inputLayout s .cw) (widthOf s (crAt s)) (inputLayout s .rh)
+  unfolding inputLayout
   across = ratio-fits (widthOf s 0) (widthOf s (cbAt s)) (widthOf s (crAt s)) (ratios .0)
 
-  down : Fits (layoutOf s .h) (layoutOf s .ch) (heightOf s (crAt s)) (layoutOf s .rv)
-  unfolding layoutOf
+  down : Fits (inputLayout s .h) (inputLayout s .ch) (heightOf s (crAt s)) (inputLayout s .rv)
+  unfolding inputLayout
   down = ratio-fits (heightOf s 0) (heightOf s (cbAt s)) (heightOf s (crAt s)) (ratios .1)
 
-  -- 3 and 4 and 5 don't apply
-  ratio-passed : badRatio (layoutOf s) ≡ false
+  -- refusals 3, 4 and 5 don't apply to the layout
+  ratio-passed : badRatio (inputLayout s) ≡ false
   unfolding badRatio
   ratio-passed =
       let h = across in
       let v = down in
-      let a : ltb (layoutOf s .rh) 1 ≡ false = le-ltb (layoutOf s .rh) 1 (h .some) in
-      let b : ltb 4 (layoutOf s .rh) ≡ false = le-ltb 4 (layoutOf s .rh) (h .most) in
-      let c : ltb (layoutOf s .rv) 1 ≡ false = le-ltb (layoutOf s .rv) 1 (v .some) in
-      let d : ltb 4 (layoutOf s .rv) ≡ false = le-ltb 4 (layoutOf s .rv) (v .most) in
+      let a : ltb (inputLayout s .rh) 1 ≡ false = le-ltb (inputLayout s .rh) 1 (h .some) in
+      let b : ltb 4 (inputLayout s .rh) ≡ false = le-ltb 4 (inputLayout s .rh) (h .most) in
+      let c : ltb (inputLayout s .rv) 1 ≡ false = le-ltb (inputLayout s .rv) 1 (v .some) in
+      let d : ltb 4 (inputLayout s .rv) ≡ false = le-ltb 4 (inputLayout s .rv) (v .most) in
       rw (a, b, c, d) refl
 
-  samples-passed : badSamples false (layoutOf s) ≡ false
-  unfolding badSamples layoutOf
+  samples-passed : badSamples false (inputLayout s) ≡ false
+  unfolding badSamples inputLayout
   samples-passed = refl
 
-  chroma-passed : badChroma (layoutOf s) ≡ false
+  chroma-passed : badChroma (inputLayout s) ≡ false
   unfolding badChroma
   chroma-passed =
-      let b : eqb (layoutOf s .cw) (divCeil (layoutOf s .w) (layoutOf s .rh)) ≡ true = eq-eqb _ _ (across .one) in
-      let d : eqb (layoutOf s .ch) (divCeil (layoutOf s .h) (layoutOf s .rv)) ≡ true = eq-eqb _ _ (down .one) in
+      let b : eqb (inputLayout s .cw) (divCeil (inputLayout s .w) (inputLayout s .rh)) ≡ true = eq-eqb _ _ (across .one) in
+      let d : eqb (inputLayout s .ch) (divCeil (inputLayout s .h) (inputLayout s .rv)) ≡ true = eq-eqb _ _ (down .one) in
       rw (b, d) refl
 
-  passed : first (layoutTests false (layoutOf s)) ≡ Accepted
+  passed : first (layoutTests false (inputLayout s)) ≡ Accepted
   unfolding layoutTests
-  passed = failed-accepted (layoutTests false (layoutOf s)) (size-passed, (ratio-passed, (samples-passed, (chroma-passed, tt))))
+  passed = failed-accepted (layoutTests false (inputLayout s)) (size-passed, (ratio-passed, (samples-passed, (chroma-passed, tt))))
 
-  -- the last chroma image has the sides of the one before
-  same-sides : (widthOf s (crAt s) ≡ layoutOf s .cw) × (heightOf s (crAt s) ≡ layoutOf s .ch)
+  -- the Cr image has the sides of the Cb image
+  same-sides : (widthOf s (crAt s) ≡ inputLayout s .cw) × (heightOf s (crAt s) ≡ inputLayout s .ch)
   same-sides = (across .other ∙ sym (across .one), down .other ∙ sym (down .one))
 
-  accepted-taken : Taken s (layoutOf s) (rowsAt s 0) (rowsAt s (cbAt s)) (rowsAt s (crAt s))
-  unfolding layoutOf imageEnd
+  accepted-taken : Taken s (inputLayout s) (rowsAt s 0) (rowsAt s (cbAt s)) (rowsAt s (crAt s))
+  unfolding inputLayout imageEnd
   accepted-taken = record {
     short = short-is;
     passes = passed;
@@ -107,15 +109,15 @@ module _ (s : List ℕ) (a : first (readingTests s) ≡ Accepted) where
     cr-rows = rw (sym (same-sides .0), sym (same-sides .1)) (three .1 .1 .ends);
   }
 
--- what the reading gives has it
+-- what was read has all that `Taken` says
 pub taken : (s : List ℕ) (l : Layout) (y cb cr : ℕ) → readingOf s ≡ Read l y cb cr → Taken s l y cb cr
 unfolding readingOf
 taken s l y cb cr e = go (first (readingTests s)) refl e
   where
-    go : (a : Answer) → first (readingTests s) ≡ a → pickReading a (Read (layoutOf s) (rowsAt s 0) (rowsAt s (cbAt s)) (rowsAt s (crAt s))) ≡ Read l y cb cr → Taken s l y cb cr
+    go : (a : Answer) → first (readingTests s) ≡ a → pickReading a (Read (inputLayout s) (rowsAt s 0) (rowsAt s (cbAt s)) (rowsAt s (crAt s))) ≡ Read l y cb cr → Taken s l y cb cr
     go Accepted k e =
         let t = accepted-taken s k in
-        let a : layoutOf s ≡ l = cc in
+        let a : inputLayout s ≡ l = cc in
         let b : rowsAt s 0 ≡ y = cc in
         let c : rowsAt s (cbAt s) ≡ cb = cc in
         let d : rowsAt s (crAt s) ≡ cr = cc in

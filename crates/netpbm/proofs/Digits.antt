@@ -1,4 +1,6 @@
 -- The digits of a number by how many there are, and that they are the number's.
+-- Spelled out they follow by unfolding up to four times. Read back they are the number by induction on how many there are: a digit more
+-- at the end is ten times the number and the digit (`decimal-last`), and the number's tenth has one digit less (`shorter`).
 use mathlib.Core.Path.{_≡_, refl}
 use mathlib.Core.Bool.{Bool, true, false, cond}
 use mathlib.Core.List.{List, [], _∷_, _++_}
@@ -33,7 +35,7 @@ module _ (n : ℕ) where
       let f : n / 100 / 10 ≡ n / 1000 = omega arith in
       rw (le-ltb n 10 (omega arith), le-ltb (n / 10) 10 (omega arith), e, le-ltb (n / 100) 10 (omega arith), f, lt-ltb (n / 1000) 10 (omega arith)) refl
 
--- k digits at most
+-- `digits k` gives k digits at most
 digits-most : (k n : ℕ) → length (digits k n) ≤ k
 unfolding digits
 digits-most zero n = omega arith
@@ -47,7 +49,7 @@ pub four-most : (n : ℕ) → length (digitsOf n) ≤ 4
 unfolding digitsOf
 four-most n = digits-most 4 n
 
--- three at most below 1,000
+-- a number below 1,000 has three digits at most
 pub three-most : (n : ℕ) → n < 1000 → length (digitsOf n) ≤ 3
 three-most n l = go (ltb n 10) (ltb n 100) (ltb-true n 10) (ltb-false n 10) (ltb-true n 100) (ltb-false n 100)
   where
@@ -79,7 +81,7 @@ pub digits-read : (n : ℕ) → n < 10000 → decimalOf 0 (digitsOf n) ≡ n
 unfolding digitsOf
 digits-read n l = digits-back 4 n l
 
--- and no zero stands in front, unless the number is 0
+-- no zero stands in front of a number's digits, unless the number is 0
 digits-front : (k n : ℕ) → 0 < n → n < 10 ^ k → 48 < getD (digits k n) 0 0
 unfolding digits
 digits-front zero n p l = absurd (omega arith)

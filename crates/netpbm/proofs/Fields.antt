@@ -1,4 +1,6 @@
 -- The three numbers of a header as they are held: the tests on them are the image's tests, and an accepted image ends inside the input.
+-- The tests agree one by one (`held-tests`). The hard one is the last, for missing rows: sides that are held have another product, and
+-- `held-product` of Products says that it compares with what is left of the input as the real one does.
 use mathlib.Core.Path.{_≡_, refl, ap, _∙_}
 use mathlib.Core.Bool.{not}
 use mathlib.Core.List.{List, [], _∷_}
@@ -80,7 +82,7 @@ module _ {s : List ℕ} {at : ℕ} {w h m : Field} (e : HeaderHeld s at w h m) w
   unfolding fieldHeld
   good-m = ap (λ (f : Field). f .good) (e .maxval-is)
 
-  -- the image's own tests
+  -- tests on the numbers as they are held are the image's own
   pub held-tests : length s ≤ 49152 → heldTests s at w h m ≡ imageTests s at
   unfolding heldTests imageTests rowsAt
   held-tests l =
@@ -102,14 +104,14 @@ module _ {s : List ℕ} {at : ℕ} {w h m : Field} (e : HeaderHeld s at w h m) w
 
 -- ---- an image that is accepted
 
-pub record Sits (s : List ℕ) (at : ℕ) : Type 0 where
+pub record ImageInside (s : List ℕ) (at : ℕ) : Type 0 where
   pub width : widthOf s at ≤ 128
   pub ends : imageEnd s at ≤ length s
   pub held-end : imageHeld s at .end ≡ imageEnd s at
 
-pub sits : (s : List ℕ) (at : ℕ) → length s ≤ 49152 → first (imageTests s at) ≡ Accepted → Sits s at
+pub image-inside : (s : List ℕ) (at : ℕ) → length s ≤ 49152 → first (imageTests s at) ≡ Accepted → ImageInside s at
 unfolding imageTests imageEnd imageHeld rowsAt
-sits s at l e =
+image-inside s at l e =
     let f = accepted-failed (imageTests s at) e in
     let w : widthOf s at ≤ 128 = ltb-false 128 (widthOf s at) (f .1 .1 .0) in
     let b : maxvalEnd s at < length s = blank-inside s (maxvalEnd s at) (not-false (hasBlank s (maxvalEnd s at)) (f .1 .1 .1 .1 .1 .1 .0)) in

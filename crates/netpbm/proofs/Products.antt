@@ -1,4 +1,6 @@
 -- Why sides may be held as 65,536 at most: no product within the input's limit changes, and none past it comes back.
+-- A factor is no more than the product unless the other is 0 (`factor`), so within 49,152 both factors are held as they are (`kept`).
+-- Past it, a factor that is held as 65,536, times one that is not 0, is still past it (`passes`).
 use mathlib.Core.Path.{_≡_, refl, sym, ap, _∙_}
 use mathlib.Core.Logic.{inl, inr}
 use mathlib.Core.Bool.{Bool, true, false}
@@ -62,7 +64,7 @@ passes a b h = go (leb a 65536) (leb b 65536) (leb-true a 65536) (leb-false a 65
         let q : 0 < held b = omega arith in
         rw v (omega arith)
 
--- so the test for missing rows is not affected
+-- the test for missing rows comes out the same over sides that are held
 pub held-product : (n a b : ℕ) → n ≤ 49152 → ltb n (held a * held b) ≡ ltb n (a * b)
 held-product n a b l = go (ltb 49152 (a * b)) (ltb-true 49152 (a * b)) (ltb-false 49152 (a * b))
   where
@@ -73,7 +75,7 @@ held-product n a b l = go (ltb 49152 (a * b)) (ltb-true 49152 (a * b)) (ltb-fals
         lt-ltb n (held a * held b) (omega arith) ∙ sym (lt-ltb n (a * b) (omega arith))
     go false f g = ap (ltb n) (kept a b (g refl))
 
--- nor a test with a limit below 65,536, nor one for such a number
+-- a test against a number below 65,536 comes out the same over a number that is held
 pub held-over : (k n : ℕ) → k < 65536 → ltb k (held n) ≡ ltb k n
 held-over k n l = go (ltb k n) (ltb-true k n) (ltb-false k n)
   where

@@ -1,4 +1,6 @@
 -- The smallest ratio that fits: what the loop has tried, what a ratio that was found says, and why held sides find the same one.
+-- The loop unfolds `smallest` once a turn (`try-one`). Sides as they are held find the same ratio because no cell count of a side of
+-- 8,192 pixels comes near 65,536, where numbers stop being held as they are (`fits-held`).
 use mathlib.Core.Path.{_≡_, refl, sym, ap, _∙_}
 use mathlib.Core.Bool.{Bool, true, false, _&&_, cond}
 use Prim.Native.Nat.{ℕ, zero, suc, _+_, _-_, _≤_, _<_}
@@ -12,7 +14,7 @@ use Rattle.netpbm.specs.Reading.{fitsBoth, smallest, ratioFor}
 use Rattle.netpbm.specs.Held.{held}
 use Rattle.netpbm.proofs.Products.{held-equal}
 
--- one number tried
+-- `smallest`, with the first of the numbers from r to 4 tried
 try-one : (p : ℕ → Bool) (r : ℕ) → r ≤ 4 → smallest p r (5 - r) ≡ cond (p r) r (smallest p (r + 1) (5 - (r + 1)))
 unfolding smallest
 try-one p r l =
@@ -20,7 +22,7 @@ try-one p r l =
     let f : 5 - (r + 1) ≡ 4 - r = omega arith in
     rw (e, f, add-one r) refl
 
--- none below r fits
+-- no ratio below r fits, so that the smallest of those from r on is the smallest of all
 pub record Tried (n a b r : ℕ) : Type 0 where
   pub some : 1 ≤ r
   pub most : r ≤ 5
@@ -63,7 +65,7 @@ module _ (p : ℕ → Bool) where
       go true e f h = (e, (omega arith, omega arith))
       go false e f h = let q = f h in (q .0, (omega arith, omega arith))
 
--- so the chroma sides are its rounded-up quotients
+-- what a ratio that fits says: both chroma sides are the quotient by it, rounded up
 pub record Fits (n a b r : ℕ) : Type 0 where
   pub some : 1 ≤ r
   pub most : r ≤ 4

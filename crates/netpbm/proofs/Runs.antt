@@ -1,4 +1,6 @@
 -- Laws of the entries at the front that pass a test: one more, none, and how many there can be.
+-- They are proved once for every test that 0 doesn't pass, since `getD` gives 0 past the end: so what passes stands inside, and a run
+-- ends inside too. Whitespace, digits and the magic are their uses.
 use mathlib.Core.Path.{_≡_, refl, ap, _∙_}
 use mathlib.Core.Bool.{Bool, true, false, _&&_, cond}
 use mathlib.Core.List.{List, [], _∷_}
@@ -22,7 +24,7 @@ leading-most p (x ∷ xs) = go (p x) (leading-most p xs)
     go true h = omega arith
     go false h = omega arith
 
--- at a place inside, or past the end
+-- a place lies inside the list or past its end
 cases : {P : Type 0} (s : List ℕ) (at : ℕ) → (at < length s → P) → (length s ≤ at → P) → P
 cases {P} s at f g = go (ltb at (length s)) (ltb-true at (length s)) (ltb-false at (length s))
   where
@@ -54,7 +56,7 @@ module _ (p : ℕ → Bool) (none : p 0 ≡ false) (s : List ℕ) (at : ℕ) whe
 
 -- ---- whitespace
 
--- nothing stands past the end
+-- no whitespace stands past the end
 pub blank-outside : (s : List ℕ) (at : ℕ) → length s ≤ at → false ≡ hasBlank s at
 unfolding hasBlank
 blank-outside s at g = rw (List·getD-eq-default s 0 g) refl
@@ -78,6 +80,7 @@ module _ (s : List ℕ) (at : ℕ) where
 
 -- ---- digits
 
+-- no digit stands past the end
 pub digit-outside : (s : List ℕ) (at : ℕ) → length s ≤ at → false ≡ hasDigit s at
 unfolding hasDigit
 digit-outside s at g = rw (List·getD-eq-default s 0 g) refl
@@ -93,7 +96,7 @@ digit-range s at e = go (leb 48 (getD s at 0)) (leb (getD s at 0) 57) (leb-true 
 
 -- ---- the magic
 
--- where no two bytes are left there is none
+-- where fewer than two bytes are left no magic stands
 pub magic-outside : (s : List ℕ) (at : ℕ) → length s ≤ at + 1 → false ≡ hasMagic s at
 unfolding hasMagic
 magic-outside s at g = rw (List·getD-eq-default s 0 g) (go (eqb (getD s at 0) 80))

@@ -1,4 +1,7 @@
--- Three images one behind another: their answers are the answers of the whole, and what is held of accepted ones is what the definitions say.
+-- Three images one behind another: their answers are the answers of the whole, and what is held of accepted ones is what the definitions
+-- say. `behind` carries the first: an image that was turned down is handed on, so the last answer is the first of all tests joined. The hard
+-- step of the second is that ratios as they are held are the real ones only where 2 doesn't apply (`sides`), so the tests can't be compared
+-- one by one: `tests-same` looks at 5 only past 2.
 use mathlib.Core.Path.{_≡_, refl, sym, ap, _∙_}
 use mathlib.Core.Bool.{Bool, true, false}
 use mathlib.Core.List.{List, [], _∷_, _++_}
@@ -19,13 +22,13 @@ use Rattle.netpbm.specs.declared.pgm.Image.{Image}
 use Rattle.netpbm.specs.declared.reading.Reading.{Reading}
 use Rattle.netpbm.specs.declared.reading.Reading.the-variants.{Read, Refused}
 use Rattle.netpbm.specs.Images.{widthOf, heightOf, rowsAt, imageEnd, imageTests}
-use Rattle.netpbm.specs.Reading.{cbAt, crAt, ratioFor, layoutOf, noRatio, imagesTests, wholeTests, readingTests, pickReading, readingOf}
-use Rattle.netpbm.specs.Forms.{layoutHeld, orAnswer, answerHeld}
+use Rattle.netpbm.specs.Reading.{cbAt, crAt, ratioFor, inputLayout, noRatio, imagesTests, wholeTests, readingTests, pickReading, readingOf}
+use Rattle.netpbm.specs.HeldInput.{layoutHeld, orAnswer, answerHeld}
 use Rattle.netpbm.specs.Held.{held, imageHeld, imageBehind, pickImage}
 use Rattle.netpbm.proofs.Runs.{differ}
 use Rattle.netpbm.proofs.Products.{held-over, held-under}
 use Rattle.netpbm.proofs.Ratios.{ratio-held, ratio-fits}
-use Rattle.netpbm.proofs.Fields.{Sits, sits}
+use Rattle.netpbm.proofs.Fields.{ImageInside, image-inside}
 
 -- ---- an answer, and what is asked behind it
 
@@ -44,10 +47,10 @@ unfolding imageHeld
 answer-is s at = refl
 
 -- an image that is accepted where it stands ends inside
-pub held-fits : (s : List ℕ) (at : ℕ) (b : Image) → length s ≤ 49152 → b ≡ imageHeld s at → accepted (b .answer) ≡ true → Sits s at × ((b .end ≡ imageEnd s at) × (b .end ≤ length s))
+pub held-fits : (s : List ℕ) (at : ℕ) (b : Image) → length s ≤ 49152 → b ≡ imageHeld s at → accepted (b .answer) ≡ true → ImageInside s at × ((b .end ≡ imageEnd s at) × (b .end ≤ length s))
 held-fits s at b l e a =
     let q : b .answer ≡ first (imageTests s at) = ap (λ (i : Image). i .answer) e ∙ answer-is s at in
-    let t = sits s at l (sym q ∙ accepted-is (b .answer) a) in
+    let t = image-inside s at l (sym q ∙ accepted-is (b .answer) a) in
     let d : b .end ≡ imageEnd s at = ap (λ (i : Image). i .end) e ∙ t .held-end in
     let u = t .ends in
     (t, (d, omega arith))
@@ -148,9 +151,9 @@ module _ {s : List ℕ} {y cb cr : Image} (p : Places s y cb cr) where
   unfolding imageHeld
   cr-h = ap (λ (i : Image). i .h) (p .cr-is)
 
-  -- 2 is the same test
-  size-same : badSize (layoutHeld y cb cr) ≡ badSize (layoutOf s)
-  unfolding badSize layoutHeld layoutOf
+  -- sides as they are held are outside 1 to 8,192 exactly if the real ones are: the test for 2 is the same
+  size-same : badSize (layoutHeld y cb cr) ≡ badSize (inputLayout s)
+  unfolding badSize layoutHeld inputLayout
   size-same =
       let a : ltb (held (widthOf s 0)) 1 ≡ ltb (widthOf s 0) 1 = held-under 1 (widthOf s 0) (omega arith) in
       let b : ltb 8192 (held (widthOf s 0)) ≡ ltb 8192 (widthOf s 0) = held-over 8192 (widthOf s 0) (omega arith) in
@@ -158,33 +161,33 @@ module _ {s : List ℕ} {y cb cr : Image} (p : Places s y cb cr) where
       let d : ltb 8192 (held (heightOf s 0)) ≡ ltb 8192 (heightOf s 0) = held-over 8192 (heightOf s 0) (omega arith) in
       rw (y-w, y-h, a, b, c, d) refl
 
-  sides : badSize (layoutOf s) ≡ false → (widthOf s 0 ≤ 8192) × (heightOf s 0 ≤ 8192)
-  unfolding badSize layoutOf
+  sides : badSize (inputLayout s) ≡ false → (widthOf s 0 ≤ 8192) × (heightOf s 0 ≤ 8192)
+  unfolding badSize inputLayout
   sides e =
       let n = neither (outsideOf 1 8192 (widthOf s 0)) (outsideOf 1 8192 (heightOf s 0)) e in
       (ltb-false 8192 (widthOf s 0) (neither (ltb (widthOf s 0) 1) (ltb 8192 (widthOf s 0)) (n .0) .1), ltb-false 8192 (heightOf s 0) (neither (ltb (heightOf s 0) 1) (ltb 8192 (heightOf s 0)) (n .1) .1))
 
-  -- past it the ratios are the same
-  ratio-w : badSize (layoutOf s) ≡ false → ratioFor (y .w) (cb .w) (cr .w) ≡ ratioFor (widthOf s 0) (widthOf s (cbAt s)) (widthOf s (crAt s))
+  -- where 2 doesn't apply, sides as they are held have the ratios of the real ones
+  ratio-w : badSize (inputLayout s) ≡ false → ratioFor (y .w) (cb .w) (cr .w) ≡ ratioFor (widthOf s 0) (widthOf s (cbAt s)) (widthOf s (crAt s))
   ratio-w e = rw (y-w, cb-w, cr-w) (ratio-held (widthOf s 0) (widthOf s (cbAt s)) (widthOf s (crAt s)) (sides e .0))
 
-  ratio-h : badSize (layoutOf s) ≡ false → ratioFor (y .h) (cb .h) (cr .h) ≡ ratioFor (heightOf s 0) (heightOf s (cbAt s)) (heightOf s (crAt s))
+  ratio-h : badSize (inputLayout s) ≡ false → ratioFor (y .h) (cb .h) (cr .h) ≡ ratioFor (heightOf s 0) (heightOf s (cbAt s)) (heightOf s (crAt s))
   ratio-h e = rw (y-h, cb-h, cr-h) (ratio-held (heightOf s 0) (heightOf s (cbAt s)) (heightOf s (crAt s)) (sides e .1))
 
-  none-same : badSize (layoutOf s) ≡ false → noRatio (layoutHeld y cb cr) ≡ noRatio (layoutOf s)
-  unfolding noRatio layoutHeld layoutOf
+  none-same : badSize (inputLayout s) ≡ false → noRatio (layoutHeld y cb cr) ≡ noRatio (inputLayout s)
+  unfolding noRatio layoutHeld inputLayout
   none-same e = rw (ratio-w e, ratio-h e) refl
 
-  -- so the same number is given
+  -- the tests behind the images give the same answer over what is held
   sizes-first : first ((ltb (cr .end) (length s), 14) ∷ (badSize (layoutHeld y cb cr), 2) ∷ (noRatio (layoutHeld y cb cr), 5) ∷ []) ≡ first (wholeTests s)
   unfolding wholeTests
   sizes-first =
       ap (λ (k : ℕ). first ((ltb k (length s), 14) ∷ (badSize (layoutHeld y cb cr), 2) ∷ (noRatio (layoutHeld y cb cr), 5) ∷ [])) (p .end-is)
-      ∙ tests-same (ltb (imageEnd s (crAt s)) (length s)) (badSize (layoutHeld y cb cr)) (badSize (layoutOf s)) (noRatio (layoutHeld y cb cr)) (noRatio (layoutOf s)) size-same none-same
+      ∙ tests-same (ltb (imageEnd s (crAt s)) (length s)) (badSize (layoutHeld y cb cr)) (badSize (inputLayout s)) (noRatio (layoutHeld y cb cr)) (noRatio (inputLayout s)) size-same none-same
 
-  -- and a layout that passes is held as it is
-  layout-same : first (wholeTests s) ≡ Accepted → layoutHeld y cb cr ≡ layoutOf s
-  unfolding wholeTests layoutHeld layoutOf noRatio
+  -- a layout that passes these tests is held as it is
+  layout-same : first (wholeTests s) ≡ Accepted → layoutHeld y cb cr ≡ inputLayout s
+  unfolding wholeTests layoutHeld inputLayout noRatio
   layout-same e =
       let f = accepted-failed (wholeTests s) e in
       let b = f .1 .0 in
@@ -214,7 +217,7 @@ unfolding imageHeld
 rows-is s at = refl
 
 module _ {s : List ℕ} {y cb cr : Image} (l : length s ≤ 49152) (t : Three s y cb cr) where
-  -- the tests behind the first one
+  -- an input that is not too long is answered by the tests behind that for 15
   later : first (readingTests s) ≡ first (imagesTests s ++ wholeTests s)
   unfolding readingTests
   later = passed-over _ _ _ (le-ltb 49152 (length s) l)
@@ -228,7 +231,7 @@ module _ {s : List ℕ} {y cb cr : Image} (l : length s ≤ 49152) (t : Three s 
   unfolding answerHeld readingOf
   read-is a e = go (accepted (cr .answer)) refl
     where
-      go : (u : Bool) → accepted (cr .answer) ≡ u → pickReading a (Read (layoutHeld y cb cr) (y .rows) (cb .rows) (cr .rows)) ≡ pickReading (first (readingTests s)) (Read (layoutOf s) (rowsAt s 0) (rowsAt s (cbAt s)) (rowsAt s (crAt s)))
+      go : (u : Bool) → accepted (cr .answer) ≡ u → pickReading a (Read (layoutHeld y cb cr) (y .rows) (cb .rows) (cr .rows)) ≡ pickReading (first (readingTests s)) (Read (inputLayout s) (rowsAt s 0) (rowsAt s (cbAt s)) (rowsAt s (crAt s)))
       go false k =
           let q : first (readingTests s) ≡ cr .answer = later ∙ refused-early (imagesTests s) (wholeTests s) (sym (ap accepted images-first) ∙ k) ∙ sym images-first in
           let d : a ≡ first (readingTests s) = e ∙ sym (pick-refused (cr .answer) _ k) ∙ sym q in
@@ -249,4 +252,4 @@ module _ {s : List ℕ} {y cb cr : Image} (l : length s ≤ 49152) (t : Three s 
 -- an input that is too long is read no further
 pub read-long : (s : List ℕ) → 49152 < length s → Refused 15 ≡ readingOf s
 unfolding readingOf readingTests
-read-long s l = ap (λ (a : Answer). pickReading a (Read (layoutOf s) (rowsAt s 0) (rowsAt s (cbAt s)) (rowsAt s (crAt s)))) (sym (refused-here _ _ _ (lt-ltb 49152 (length s) l)))
+read-long s l = ap (λ (a : Answer). pickReading a (Read (inputLayout s) (rowsAt s 0) (rowsAt s (cbAt s)) (rowsAt s (crAt s)))) (sym (refused-here _ _ _ (lt-ltb 49152 (length s) l)))

@@ -7,7 +7,7 @@ use Rattle.image.specs.Tests.{divCeil, badSize}
 use Rattle.netpbm.specs.declared.reading.Reading.the-variants.{Read, Refused}
 use Rattle.netpbm.specs.Bytes.{leading, decimalOf, hasBlank, hasDigit, digitsAt, pastBlanks, pastDigits, numberAt}
 use Rattle.netpbm.specs.Images.{hasMagic, hasNumber, fieldOf, fieldEnd, widthOf, widthEnd, heightOf, heightEnd, maxvalOf, maxvalEnd, rowsAt, imageEnd, imageTests}
-use Rattle.netpbm.specs.Reading.{cbAt, crAt, smallest, ratioFor, layoutOf, noRatio, imagesTests, wholeTests, readingTests, readingOf}
+use Rattle.netpbm.specs.Reading.{cbAt, crAt, smallest, ratioFor, inputLayout, noRatio, imagesTests, wholeTests, readingTests, readingOf}
 use Rattle.netpbm.specs.Lines.{digits, digitsOf, ppmHeader, refusalLine}
 
 -- `P5 1 1 255`, newline
@@ -32,7 +32,7 @@ pub record Inputs : Type 0 where
   pub width-128 : readingOf (80 ∷ 53 ∷ 32 ∷ 49 ∷ 50 ∷ 56 ∷ []) ≡ Refused 14
 
 inputs : Inputs
-unfolding leading decimalOf hasBlank hasDigit digitsAt pastBlanks pastDigits numberAt hasMagic hasNumber fieldOf fieldEnd widthOf widthEnd heightOf heightEnd maxvalOf maxvalEnd rowsAt imageEnd imageTests cbAt crAt smallest ratioFor layoutOf noRatio imagesTests wholeTests readingTests readingOf first divCeil badSize
+unfolding leading decimalOf hasBlank hasDigit digitsAt pastBlanks pastDigits numberAt hasMagic hasNumber fieldOf fieldEnd widthOf widthEnd heightOf heightEnd maxvalOf maxvalEnd rowsAt imageEnd imageTests cbAt crAt smallest ratioFor inputLayout noRatio imagesTests wholeTests readingTests readingOf first divCeil badSize
 inputs = record { one-by-one = refl; one-more = refl; two-blanks = refl; no-row = refl; p4 = refl; width-129 = refl; width-128 = refl }
 
 -- what is written

@@ -1,4 +1,6 @@
 -- Lines: a text put behind a line that holds another.
+-- `line-more` carries every line that is written: one that holds t, written on by u, holds t ++ u. The one step is `push-line`, where the
+-- byte that is set at the end takes the place of the first of the zeros that fill up the array.
 use mathlib.Core.Path.{_≡_, refl, sym, ap, _∙_}
 use mathlib.Core.List.{List, [], _∷_, _++_, append-assoc, append-nil}
 use Prim.Native.Nat.{ℕ, suc, _+_, _-_, _≤_, _<_}

@@ -1,4 +1,4 @@
--- Whitespace and digits of a header. Definitions only.
+-- Which bytes are whitespace of a header, and which are digits. Definitions only.
 use mathlib.Core.Bool.{Bool, _&&_, _||_}
 use Prim.Native.Nat.{ℕ}
 use lib.Dec.{leb, eqb}
@@ -7,6 +7,6 @@ use lib.Dec.{leb, eqb}
 abbrev pub isBlank : ℕ → Bool
 isBlank b = (eqb b 32 || eqb b 9) || (eqb b 13 || eqb b 10)
 
--- the bytes 0 to 9
+-- the ten digits, whose bytes are 48 to 57
 abbrev pub isDigit : ℕ → Bool
 isDigit b = leb 48 b && leb b 57

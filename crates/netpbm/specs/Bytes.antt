@@ -1,4 +1,4 @@
--- The bytes of a header, of which ascii says what is whitespace and what a digit, and the number that digits are. Definitions only.
+-- What stands at a place of the input, whitespace or digits as Ascii defines them, and the number that digits are. Definitions only.
 -- Past the end of a list `getD` gives 0, which is neither whitespace nor a digit.
 use mathlib.Core.Bool.{Bool, cond}
 use mathlib.Core.List.{List, [], _∷_}
@@ -18,23 +18,26 @@ decimalOf n (d ∷ ds) = decimalOf (n * 10 + (d - 48)) ds
 
 -- ---- at a place of the input
 
+-- a whitespace byte stands at `at`
 unfoldable pub hasBlank : List ℕ → ℕ → Bool
 hasBlank s at = isBlank (getD s at 0)
 
+-- a digit stands at `at`
 unfoldable pub hasDigit : List ℕ → ℕ → Bool
 hasDigit s at = isDigit (getD s at 0)
 
--- how many digits stand there
+-- how many digits stand one after another from `at` on
 unfoldable pub digitsAt : List ℕ → ℕ → ℕ
 digitsAt s at = leading isDigit (drop at s)
 
--- where the whitespace ends, and where the digits end
+-- where the whitespace that begins at `at` ends
 unfoldable pub pastBlanks : List ℕ → ℕ → ℕ
 pastBlanks s at = at + leading isBlank (drop at s)
 
+-- where the digits that begin at `at` end
 unfoldable pub pastDigits : List ℕ → ℕ → ℕ
 pastDigits s at = at + digitsAt s at
 
--- the number that the digits are, however many
+-- the number that the digits from `at` on are, however many
 unfoldable pub numberAt : List ℕ → ℕ → ℕ
 numberAt s at = decimalOf 0 (take (digitsAt s at) (drop at s))

@@ -1,4 +1,5 @@
--- What the inner functions hold: the definitions of Bytes and Images with numbers past 65,536 held as 65,536. Definitions only.
+-- What the inner functions hold of one image: the definitions of Bytes and Images, with numbers past 65,536 held as 65,536, so that no
+-- product of two wraps. proofs/Products says why no test is changed by that. Definitions only.
 use mathlib.Core.Path.{_≡_}
 use mathlib.Core.Bool.{Bool, true, false}
 use mathlib.Core.List.{List}
@@ -10,15 +11,15 @@ use Rattle.netpbm.specs.declared.pgm.Image.{Image}
 use Rattle.netpbm.specs.Bytes.{pastDigits, numberAt}
 use Rattle.netpbm.specs.Images.{hasNumber, fieldOf, fieldEnd, widthOf, widthEnd, heightOf, heightEnd, rowsAt, imageTests}
 
--- a number as it is held
+-- a number as it is held: 65,536 is `Number::MOST`
 abbrev pub held : ℕ → ℕ
 held n = min n 65536
 
--- the number whose digits stand at `at`
+-- the number whose digits begin at `at`, and where they end
 unfoldable pub numberHeld : List ℕ → ℕ → Number
 numberHeld s at = record { value = held (numberAt s at); end = pastDigits s at }
 
--- the number behind the whitespace at `at`
+-- the number of a header that begins with the whitespace at `at`
 unfoldable pub fieldHeld : List ℕ → ℕ → Field
 fieldHeld s at = record { good = hasNumber s at; value = held (fieldOf s at); end = fieldEnd s at }
 
@@ -38,10 +39,11 @@ imageHeld s at = record {
   end = rowsAt s at + held (widthOf s at) * held (heightOf s at);
 }
 
+-- the first image where the test holds, and the second where it doesn't
 abbrev pub pickImage : Bool → Image → Image → Image
 pickImage true a b = a
 pickImage false a b = b
 
--- the image behind another: where that one was turned down, that one again
+-- the image that begins where another ends; where that other one was turned down it is given again, with its answer
 unfoldable pub imageBehind : List ℕ → Image → Image
 imageBehind s b = pickImage (accepted (b .answer)) (imageHeld s (b .end)) b

@@ -1,4 +1,5 @@
--- One image of the input, whose magic stands at `at`: "each with the two bytes P5, whitespace, decimal width, height and maxval, one whitespace byte, then rows". Definitions only.
+-- One image of the input, whose magic stands at `at`: "each with the two bytes P5, whitespace, decimal width, height and maxval, one
+-- whitespace byte, then rows". Definitions only.
 use mathlib.Core.Bool.{Bool, _&&_, not}
 use mathlib.Core.List.{List, [], _∷_}
 use Prim.Native.Nat.{ℕ, _+_, _-_, _*_}
@@ -46,11 +47,12 @@ maxvalEnd s at = fieldEnd s (heightEnd s at)
 unfoldable pub rowsAt : List ℕ → ℕ → ℕ
 rowsAt s at = maxvalEnd s at + 1
 
--- and where the last row has ended: the next image's magic stands there
+-- where the last row has ended, which is where the next image's magic stands
 unfoldable pub imageEnd : List ℕ → ℕ → ℕ
 imageEnd s at = rowsAt s at + widthOf s at * heightOf s at
 
--- what can be wrong with the image, in the order in which it is met: 14, "header not as above", and 15, "program's size limits passed, or rows missing"; "a width past 128 as its digits end"
+-- what can be wrong with the image, in the order in which it is met: 14, "header not as above", and 15, "program's size limits passed, or
+-- rows missing"; "a width past 128 as its digits end"
 unfoldable pub imageTests : List ℕ → ℕ → List Test
 imageTests s at =
     (not (hasMagic s at), 14)

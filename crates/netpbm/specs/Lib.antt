@@ -1,7 +1,7 @@
 pub mod Lines
 pub mod Texts
 pub mod Reading
-pub mod Forms
+pub mod HeldInput
 pub mod Bytes
 pub mod Images
 pub mod Held

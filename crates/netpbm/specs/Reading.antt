@@ -22,7 +22,7 @@ crAt s = imageEnd s (cbAt s)
 
 -- ---- "Each ratio is the smallest of 1..4 that fits the sizes"
 
--- n pixels are a cells of r in one chroma image and b in the other
+-- ratio r fits n pixels and both chroma sides, a and b
 abbrev pub fitsBoth : ℕ → ℕ → ℕ → ℕ → Bool
 fitsBoth n a b r = eqb a (divCeil n r) && eqb b (divCeil n r)
 
@@ -31,13 +31,13 @@ unfoldable pub smallest : (ℕ → Bool) → ℕ → ℕ → ℕ
 smallest p r zero = 0
 smallest p r (suc k) = cond (p r) r (smallest p (suc r) k)
 
--- the ratio for n pixels and chroma sides a and b
+-- the smallest ratio that fits n pixels and both chroma sides, a and b; 0: none
 unfoldable pub ratioFor : ℕ → ℕ → ℕ → ℕ
 ratioFor n a b = smallest (fitsBoth n a b) 1 4
 
--- "Maxval is 255 in all three"; a sample is one byte
-unfoldable pub layoutOf : List ℕ → Layout
-layoutOf s = record {
+-- the layout that the input's three images make. "Maxval is 255 in all three", so a sample is one byte
+unfoldable pub inputLayout : List ℕ → Layout
+inputLayout s = record {
   w = widthOf s 0;
   h = heightOf s 0;
   rh = ratioFor (widthOf s 0) (widthOf s (cbAt s)) (widthOf s (crAt s));
@@ -48,7 +48,7 @@ layoutOf s = record {
   maxval = 255;
 }
 
--- "where none fits both chroma images"; a chroma side of 0 fits none, since the Y image has no side of 0 by then
+-- "where none fits both chroma images"; a chroma side of 0 fits none, since a Y image with a side of 0 was answered by 2 before
 unfoldable pub noRatio : Layout → Bool
 noRatio l = eqb (l .rh) 0 || eqb (l .rv) 0
 
@@ -60,17 +60,17 @@ imagesTests s = imageTests s 0 ++ imageTests s (cbAt s) ++ imageTests s (crAt s)
 
 -- "bytes left over"; "2 (by the Y image's sides alone) and 5 come after all three are read, 2 first"
 unfoldable pub wholeTests : List ℕ → List Test
-wholeTests s = (ltb (imageEnd s (crAt s)) (length s), 14) ∷ (badSize (layoutOf s), 2) ∷ (noRatio (layoutOf s), 5) ∷ []
+wholeTests s = (ltb (imageEnd s (crAt s)) (length s), 14) ∷ (badSize (inputLayout s), 2) ∷ (noRatio (inputLayout s), 5) ∷ []
 
 -- "Input too long is 15 before all else"
 unfoldable pub readingTests : List ℕ → List Test
 readingTests s = (ltb 49152 (length s), 15) ∷ (imagesTests s ++ wholeTests s)
 
--- what was read, or the number of the answer
+-- what was read where the answer is accepted, and otherwise the answer's number
 abbrev pub pickReading : Answer → Reading → Reading
 pickReading Accepted r = r
 pickReading (Turned n) r = Refused n
 
 -- the number of the first reason that applies; none applies: the layout, and where the rows of Y, Cb and Cr stand
 unfoldable pub readingOf : List ℕ → Reading
-readingOf s = pickReading (first (readingTests s)) (Read (layoutOf s) (rowsAt s 0) (rowsAt s (cbAt s)) (rowsAt s (crAt s)))
+readingOf s = pickReading (first (readingTests s)) (Read (inputLayout s) (rowsAt s 0) (rowsAt s (cbAt s)) (rowsAt s (crAt s)))

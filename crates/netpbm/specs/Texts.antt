@@ -1,4 +1,4 @@
--- Lines as arrays with a length. Definitions only.
+-- Lines as the code holds them, an array of 16 bytes (`Line::ROOM`) with a length. Definitions only.
 use mathlib.Core.List.{List, [], _∷_, _++_}
 use Prim.Native.Nat.{ℕ, _+_, _-_}
 use lib.ListN.{length, set, replicate}
@@ -12,7 +12,7 @@ lineOf t = record { bytes = t ++ replicate (16 - length t) 0; len = length t }
 unfoldable pub pushed : Line → ℕ → Line
 pushed l b = record { bytes = set (l .bytes) (l .len) b; len = l .len + 1 }
 
--- a line with a text behind it
+-- a line with the bytes of a text pushed one after another
 unfoldable pub written : Line → List ℕ → Line
 written l [] = l
 written l (b ∷ bs) = written (pushed l b) bs

@@ -1,8 +1,8 @@
-// Which bytes of a header are whitespace, and which are digits.
+// The two kinds of bytes that a header's numbers are read by: whitespace, which stands before each of them, and decimal digits.
 ghost use mathlib.Core.Path.{_≡_};
 ghost use Rattle.netpbm.specs.Ascii.{isBlank, isDigit};
 
-// Inner: whether a byte is whitespace.
+// Inner: whether a byte is one of document 01's four whitespace bytes, a blank, a tab, a CR or an LF.
 pub fn is_blank(b: u8) -> bool
     ensures { λ r. ⌜ r ≡ isBlank b ⌝ }
 {
@@ -12,7 +12,7 @@ pub fn is_blank(b: u8) -> bool
     )
 }
 
-// Inner: whether it is a decimal digit.
+// Inner: whether a byte is one of the digits 0 to 9; a sign is none, so that a header has no negative number.
 pub fn is_digit(b: u8) -> bool
     ensures { λ r. ⌜ r ≡ isDigit b ⌝ }
 {

@@ -1,4 +1,5 @@
-// The lines that the program writes: a PPM's header, and the line of a refusal.
+// The lines that the program writes: a PPM's header, and the line of a refusal. Both are made in an array of their greatest length,
+// since nothing here allocates.
 ghost use mathlib.Core.Path.{_≡_};
 ghost use Prim.Native.Nat.{_+_, _≤_, _<_};
 ghost use mathlib.Core.List.{[]};
@@ -6,18 +7,20 @@ ghost use lib.ListN.{length};
 ghost use Rattle.netpbm.specs.Lines.{digitsOf, ppmHeader, refusalLine};
 ghost use Rattle.netpbm.specs.Texts.{lineOf, pushed, written};
 
-// Bytes to write: the first len of these, 0 behind them.
+// A line to write: its bytes are the first `len` of `bytes`, and the others are 0, so that a text is held in one way only.
 pub struct Line {
     pub bytes: [u8; Line::ROOM],
     pub len: usize,
 }
 
 impl Line {
-    // How many bytes a line can hold: as many as the longest header has.
+    // How many bytes a line can hold. The longest header, of 128 columns and 8,192 rows, has 3 + 3 + 1 + 4 + 5 = 16; the longest line
+    // of a refusal has 12.
     pub const ROOM: usize = 16;
 }
 
 impl Line {
+    // The empty line.
     fn new() -> Line
         ensures { λ r. ⌜ r ≡ lineOf [] ⌝ }
     {
@@ -27,7 +30,7 @@ impl Line {
         }
     }
 
-    // One byte more.
+    // The line with one byte more at its end.
     fn push(mut self, b: u8) -> Line
         requires { ⌜ self .len < 16 ⌝ }
         ensures { λ r. ⌜ r ≡ pushed self b ⌝ }
@@ -38,7 +41,7 @@ impl Line {
         self
     }
 
-    // The bytes of a text behind those there are.
+    // The line with the bytes of a text at its end.
     fn put(self, text: &[u8]) -> Line
         requires { ⌜ self .len + length (now text) ≤ 16 ⌝ }
         ensures { λ r. ⌜ r ≡ written self (now (text .entry)) ⌝ }
@@ -50,6 +53,7 @@ impl Line {
         line
     }
 
+    // The line with the digit of a number below 10 at its end. Its length is promised beside it, so that `put_number` can count room.
     fn push_digit(self, d: usize) -> Line
         requires { ⌜ (self .len < 16) × (d < 10) ⌝ }
         ensures { λ r. ⌜ (r ≡ pushed self (48 + d)) × (r .len ≡ self .len + 1) ⌝ }
@@ -57,7 +61,7 @@ impl Line {
         self.push(b'0' + d as u8)
     }
 
-    // A number's digits, with no zeros in front.
+    // The line with a number's digits at its end, with no zeros in front. Sides and refusals have four digits at most, each written out.
     fn put_number(self, n: usize) -> Line
         requires { ⌜ n < 10000 ⌝ }
         requires { ⌜ self .len + length (digitsOf n) ≤ 16 ⌝ }
@@ -79,7 +83,7 @@ impl Line {
     }
 }
 
-// Inner: what stands before the pixels of a picture that `read` accepts.
+// Inner: the header that stands before the pixels of a PPM. `read` accepts no picture past these limits, so that it fits a line.
 pub fn ppm_header(w: usize, h: usize) -> Line
     requires { ⌜ (w ≤ 128) × (h ≤ 8192) ⌝ }
     ensures { λ r. ⌜ r ≡ lineOf (ppmHeader w h) ⌝ }
@@ -89,7 +93,7 @@ pub fn ppm_header(w: usize, h: usize) -> Line
     sides.put(b"\n255\n")
 }
 
-// Inner: what is written on refusal n.
+// Inner: the line that is written in place of a picture when the answer is refusal n.
 pub fn refusal_line(n: u8) -> Line
     ensures { λ r. ⌜ r ≡ lineOf (refusalLine n) ⌝ }
 {

@@ -1,4 +1,4 @@
-// One image of the input: its header, what is wrong with it, and where its rows stand.
+// One PGM image of the input: its header, the first thing that is wrong with it, and where its rows stand.
 ghost use mathlib.Core.Path.{_≡_};
 ghost use mathlib.Core.Bool.{true};
 ghost use Prim.Native.Nat.{_≤_};
@@ -13,14 +13,14 @@ use crate::scan::number_at;
 use crate::scan::skip_blanks;
 use laws::Answer;
 
-// A number of the header: whether whitespace and digits stand there, their value, and where they end.
+// A number of a header: whether whitespace and digits stand where it should, the digits' value, and where they end.
 pub struct Field {
     pub good: bool,
     pub value: usize,
     pub end: usize,
 }
 
-// An image: the answer to it; its sides, where its rows begin and where they end, which hold good where it is accepted.
+// An image: the answer to it, its sides, and where its rows begin and end. Where it was turned down, its numbers mean nothing.
 pub struct Image {
     pub answer: Answer,
     pub w: usize,
@@ -30,14 +30,14 @@ pub struct Image {
 }
 
 impl Image {
-    // The widest image.
+    // The width of the widest image that document 01 has the program take.
     pub const WIDTH: usize = 128;
 
-    // The maxval of every image.
+    // The maxval that document 01 asks of every image.
     pub const MAXVAL: usize = 255;
 }
 
-// The number behind the whitespace at `at`.
+// The number of a header that begins with the whitespace at `at`.
 fn field_at(input: &[u8], at: usize) -> Field
     ensures { λ r. ⌜ r ≡ fieldHeld (now (input .entry)) at ⌝ }
 {
@@ -51,7 +51,8 @@ fn field_at(input: &[u8], at: usize) -> Field
     }
 }
 
-// The first thing wrong with the image at `at`, whose header holds these numbers.
+// The first thing that is wrong with the image whose magic stands at `at` and whose header holds these numbers. They were read before
+// any was tested, which is safe because a number is read at every place, past the end too.
 fn image_answer(input: &[u8], at: usize, width: Field, height: Field, maxval: Field) -> Answer
     requires { ⌜ length (now input) ≤ 49152 ⌝ }
     requires { ⌜ HeaderHeld (now input) at width height maxval ⌝ }
@@ -84,7 +85,7 @@ fn image_answer(input: &[u8], at: usize, width: Field, height: Field, maxval: Fi
     Answer::Accepted
 }
 
-// Inner: the image whose magic stands at `at`.
+// Inner: the image whose magic stands at `at`, with the answer to it.
 pub fn image_at(input: &[u8], at: usize) -> Image
     requires { ⌜ (length (now input) ≤ 49152) × (at ≤ length (now input)) ⌝ }
     ensures { λ r. ⌜ r ≡ imageHeld (now (input .entry)) at ⌝ }
@@ -103,7 +104,8 @@ pub fn image_at(input: &[u8], at: usize) -> Image
     }
 }
 
-// Inner: the image behind another; where that one was turned down, that one again, with its answer.
+// Inner: the image that begins where another ends. Where that other one was turned down it is given again, so that the answer to the last
+// of three images is the first refusal of all three.
 pub fn image_after(input: &[u8], before: Image) -> Image
     requires { ⌜ length (now input) ≤ 49152 ⌝ }
     requires { ⌜ (accepted (before .answer) ≡ true → before .end ≤ length (now input)) ⌝ }

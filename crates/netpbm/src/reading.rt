@@ -1,7 +1,7 @@
-// The whole input: three images, nothing behind them, and sides that make a picture.
+// The whole input: three images one after another, nothing behind the last, and sides that make a picture.
 ghost use mathlib.Core.Path.{_≡_};
 ghost use Rattle.netpbm.specs.Reading.{pickReading, readingOf};
-ghost use Rattle.netpbm.specs.Forms.{answerHeld};
+ghost use Rattle.netpbm.specs.HeldInput.{answerHeld};
 use crate::pgm::image_after;
 use crate::pgm::image_at;
 use crate::sizes::layout_of;
@@ -9,18 +9,18 @@ use crate::sizes::no_ratio;
 use image::Layout;
 use laws::Answer;
 
-// What was read: the layout, and where the rows of Y, Cb and Cr begin; or the number of the reason why not.
+// What was read: the layout, and where in the input the rows of Y, Cb and Cr begin; or the number of the refusal.
 pub enum Reading {
     Read(Layout, usize, usize, usize),
     Refused(u8),
 }
 
 impl Reading {
-    // The longest input.
+    // How many bytes the longest input has that document 01 has the program take.
     pub const LONGEST: usize = 49_152;
 }
 
-// The answer to three images: theirs, then what is left over, the sides and the ratios.
+// The answer to the whole input: the three images' own, then 14 for bytes left over, 2 for the Y image's sides and 5 for the ratios.
 fn whole_answer(images: Answer, left: bool, layout: Layout) -> Answer
     ensures { λ r. ⌜ r ≡ answerHeld images left layout ⌝ }
 {
@@ -39,7 +39,7 @@ fn whole_answer(images: Answer, left: bool, layout: Layout) -> Answer
     Answer::Accepted
 }
 
-// What was read, or the number that the answer gives.
+// What was read where the answer is that it is accepted, and the refusal's number otherwise.
 fn settled(answer: Answer, layout: Layout, y: usize, cb: usize, cr: usize) -> Reading
     ensures { λ r. ⌜ r ≡ pickReading answer (Reading.Read layout y cb cr) ⌝ }
 {
@@ -49,7 +49,7 @@ fn settled(answer: Answer, layout: Layout, y: usize, cb: usize, cr: usize) -> Re
     }
 }
 
-// Inner: the input read. It is answered for every input.
+// Inner: what the input holds. Every input is answered, and the first reason to turn one down, in document 01's order, is the one given.
 pub fn read(input: &[u8]) -> Reading
     ensures { λ r. ⌜ r ≡ readingOf (now (input .entry)) ⌝ }
 {

@@ -1,4 +1,5 @@
-// The bytes of a header: whitespace, digits and numbers. Every function takes any place, past the end too.
+// What stands at a place of the input: whitespace, digits, a number, the magic. Every function takes any place, past the end too, where
+// nothing stands; so a header can be read to its end first and tested afterwards.
 ghost use mathlib.Core.Path.{_≡_};
 ghost use mathlib.Core.Bool.{true};
 ghost use Prim.Native.Nat.{_-_, _≤_};
@@ -9,18 +10,19 @@ ghost use Rattle.netpbm.specs.Held.{numberHeld};
 use crate::ascii::is_blank;
 use crate::ascii::is_digit;
 
-// A number read from its digits, and where they end.
+// A number that was read from its digits, and where they end.
 pub struct Number {
     pub value: usize,
     pub end: usize,
 }
 
 impl Number {
-    // A value past this is held as this: it is more than every size that is accepted, and no product of two wraps.
+    // A value past this is held as this. It is more than every size and maxval that is accepted, so no test takes it for another, and
+    // the product of two such values doesn't wrap.
     pub const MOST: usize = 65_536;
 }
 
-// Inner: whether a whitespace byte stands at `at`.
+// Inner: whether the byte at `at` is whitespace; past the end none is.
 pub fn blank_at(input: &[u8], at: usize) -> bool
     ensures { λ r. ⌜ r ≡ hasBlank (now (input .entry)) at ⌝ }
 {
@@ -30,7 +32,7 @@ pub fn blank_at(input: &[u8], at: usize) -> bool
     false
 }
 
-// Inner: whether a digit stands at `at`.
+// Inner: whether the byte at `at` is a digit; past the end none is.
 pub fn digit_at(input: &[u8], at: usize) -> bool
     ensures { λ r. ⌜ r ≡ hasDigit (now (input .entry)) at ⌝ }
 {
@@ -40,7 +42,7 @@ pub fn digit_at(input: &[u8], at: usize) -> bool
     false
 }
 
-// Inner: whether the two bytes of the magic stand at `at`.
+// Inner: whether the two bytes of a PGM's magic, `P5`, stand at `at`.
 pub fn magic_at(input: &[u8], at: usize) -> bool
     ensures { λ r. ⌜ r ≡ hasMagic (now (input .entry)) at ⌝ }
 {
@@ -54,7 +56,7 @@ pub fn magic_at(input: &[u8], at: usize) -> bool
     laws::both(input[at] == magic[0], input[at + 1] == magic[1])
 }
 
-// Inner: where the whitespace at `at` ends.
+// Inner: where the whitespace that begins at `at` ends; `at` itself where none stands there.
 pub fn skip_blanks(input: &[u8], at: usize) -> usize
     ensures { λ r. ⌜ r ≡ pastBlanks (now (input .entry)) at ⌝ }
 {
@@ -65,6 +67,7 @@ pub fn skip_blanks(input: &[u8], at: usize) -> usize
     end
 }
 
+// The value of the digit at `at`. That it is 9 at most is promised, since the sum in `number_at` must not wrap.
 fn digit_value(input: &[u8], at: usize) -> usize
     requires { ⌜ hasDigit (now input) at ≡ true ⌝ }
     ensures { λ r. ⌜ (r ≡ getD (now (input .entry)) at 0 - 48) × (r ≤ 9) ⌝ }
@@ -72,7 +75,7 @@ fn digit_value(input: &[u8], at: usize) -> usize
     (input[at] - b'0') as usize
 }
 
-// Inner: the number whose digits stand at `at`.
+// Inner: the number whose digits begin at `at`, however many they are; 0 where none stands there.
 pub fn number_at(input: &[u8], at: usize) -> Number
     ensures { λ r. ⌜ r ≡ numberHeld (now (input .entry)) at ⌝ }
 {

@@ -1,11 +1,11 @@
-// The sides of three images as one layout.
+// The layout that the sides of three images make, with the ratios that they fit.
 ghost use mathlib.Core.Path.{_≡_};
 ghost use Rattle.netpbm.specs.Reading.{fitsBoth, ratioFor, noRatio};
-ghost use Rattle.netpbm.specs.Forms.{layoutHeld};
+ghost use Rattle.netpbm.specs.HeldInput.{layoutHeld};
 use crate::pgm::Image;
 use image::Layout;
 
-// Whether n pixels are a cells of r in one chroma image and b in the other.
+// Whether ratio r fits both chroma images along a side of n pixels: each has as many cells, a and b, as n pixels make at that ratio.
 fn fits_both(n: usize, a: usize, b: usize, r: usize) -> bool
     ensures { λ t. ⌜ t ≡ fitsBoth n a b r ⌝ }
 {
@@ -13,7 +13,7 @@ fn fits_both(n: usize, a: usize, b: usize, r: usize) -> bool
     laws::both(a == cells, b == cells)
 }
 
-// The smallest ratio that fits both chroma images; 0 where none does.
+// The smallest ratio that fits both chroma images along a side of n pixels, of which they have a and b cells; 0 where none does.
 fn ratio_for(n: usize, a: usize, b: usize) -> usize
     ensures { λ r. ⌜ r ≡ ratioFor n a b ⌝ }
 {
@@ -27,7 +27,7 @@ fn ratio_for(n: usize, a: usize, b: usize) -> usize
     0
 }
 
-// Inner: the layout of three images.
+// Inner: the layout of three images. A ratio of 0 in it says that none fits, which `no_ratio` tests.
 pub fn layout_of(y: Image, cb: Image, cr: Image) -> Layout
     ensures { λ r. ⌜ r ≡ layoutHeld y cb cr ⌝ }
 {
@@ -40,12 +40,13 @@ pub fn layout_of(y: Image, cb: Image, cr: Image) -> Layout
         rv,
         cw: cb.w,
         ch: cb.h,
+        // A maxval of 255, which is `Image::MAXVAL`, makes samples of one byte.
         sample_bytes: 1,
         maxval: 255,
     }
 }
 
-// Inner: refusal 5's test, for a layout made so.
+// Inner: refusal 5's test for a layout that `layout_of` gave: whether one of its ratios is missing.
 pub fn no_ratio(layout: Layout) -> bool
     ensures { λ r. ⌜ r ≡ noRatio layout ⌝ }
 {

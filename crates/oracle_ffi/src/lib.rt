@@ -1,9 +1,12 @@
-// Doors to inner functions for the comparisons with the original that run outside the gate (oracle/). Nothing of it is public.
+// C entry points of inner functions, for the comparisons with the original that run outside the gate (oracle/). It is no interface for
+// users: `ffi` is.
+//
+// oracle/sweep rounds every f32 by both functions and by the original, since no public call takes a float to round.
 ghost use Prim.Native.Nat.{min};
 ghost use Rattle.fround.specs.Rounding.{Rounded};
 use fround::Rounding;
 
-// Inner: for oracle/sweep.
+// Inner: fround's rounding by adding the grid, as it is, for oracle/sweep.
 #[no_mangle]
 pub extern "C" fn chroma_inner_round_clamped_by_grid(x: f32, max: u32) -> u32
     ensures { λ r. do limit ← ⟦Rounding::LIMIT⟧ .entry; ⌜ Rounded (min max limit) x r ⌝ }
@@ -11,7 +14,7 @@ pub extern "C" fn chroma_inner_round_clamped_by_grid(x: f32, max: u32) -> u32
     fround::round_clamped_by_grid(x, max)
 }
 
-// Inner: for oracle/sweep.
+// Inner: fround's rounding from the float's bits, as it is, for oracle/sweep.
 #[no_mangle]
 pub extern "C" fn chroma_inner_round_clamped_by_bits(x: f32, max: u32) -> u32
     ensures { λ r. do limit ← ⟦Rounding::WIDE⟧ .entry; ⌜ Rounded (min max limit) x r ⌝ }

@@ -1,4 +1,6 @@
 -- A line at the front of out, and what is behind it.
+-- `ppm-is` carries the program's output: out is cut behind the header, the part behind it is lent and comes back filled, and joined again
+-- they are `ppmOver`. The step is that the line's copy left what is behind it untouched (`behind-is`).
 use mathlib.Core.Path.{_≡_, sym, ap, _∙_, refl}
 use mathlib.Core.List.{List, [], _++_, append-nil}
 use Prim.Native.Nat.{ℕ, _+_, _≤_, _<_, _*_, _-_}
@@ -15,7 +17,7 @@ use Rattle.fill.specs.Fill.{fillColour, pixelRows}
 use Rattle.netpbm.specs.declared.lines.Line.{Line}
 use Rattle.netpbm.specs.Texts.{lineOf}
 use Rattle.netpbm.specs.Lines.{ppmHeader}
-use Rattle.netpbm.specs.Reading.{layoutOf}
+use Rattle.netpbm.specs.Reading.{inputLayout}
 use Rattle.netpbm.proofs.Digits.{three-most, four-most}
 use Rattle.picture.specs.Picture.{ppmLength, inputPicture, ppmOver}
 use Rattle.picture.proofs.Readings.{to-end}
@@ -36,14 +38,14 @@ module _ (t : List ℕ) (line : Line) (e : line ≡ lineOf t) (out : List ℕ) w
   unfolding lineOf
   byte i l = ap (λ (x : Line). getD (x .bytes) i 0) e ∙ List·getD-append t _ 0 i l
 
-  -- the text stands in front
+  -- the text that the line holds stands at the front of out
   pub front-is : length t ≤ length out → take (length t) (put out 0 (line .len) (λ i. getD (line .bytes) i 0)) ≡ t
   front-is l =
       ap (λ (k : ℕ). take (length t) (put out 0 k (λ i. getD (line .bytes) i 0))) (line-length t line e)
       ∙ take-put out (length t) (λ i. getD (line .bytes) i 0) l
       ∙ ext-getD 0 (table (length t) (λ i. getD (line .bytes) i 0)) t (length-table (length t) _) (λ i h. let k = length-table (length t) (λ i. getD (line .bytes) i 0) in table-at (length t) (λ i. getD (line .bytes) i 0) i 0 (omega arith) ∙ byte i (omega arith))
 
-  -- and behind it nothing is touched
+  -- behind the text nothing of out is touched
   pub behind-is : drop (length t) (put out 0 (line .len) (λ i. getD (line .bytes) i 0)) ≡ drop (length t) out
   behind-is =
       let f : ℕ → ℕ = λ i. getD (line .bytes) i 0 in
@@ -77,6 +79,6 @@ module _ (p : Picture) (l : Layout) (q : p .layout ≡ l) (line : Line) (e : lin
       ∙ rw q refl
 
 -- the layout of the input's picture
-pub picture-layout : (s : List ℕ) (l : Layout) → l ≡ layoutOf s → inputPicture s .layout ≡ l
+pub picture-layout : (s : List ℕ) (l : Layout) → l ≡ inputLayout s → inputPicture s .layout ≡ l
 unfolding pictureOf
 picture-layout s l e = sym e

@@ -1,4 +1,6 @@
 -- What was read, against the definitions over the input, and why fill takes it.
+-- `read-accepted` turns what the reading gave into the definitions. The hard step is `plane-holds`: rows one right behind the other inside
+-- the input make a plane that isn't too short, since h rows of w bytes are (h - 1) strides and one row. Past it `fill` has nothing to refuse.
 use mathlib.Core.Path.{_≡_, refl, sym, ap, _∙_}
 use mathlib.Core.Bool.{true, false}
 use mathlib.Core.List.{List, [], _∷_}
@@ -24,7 +26,7 @@ use Rattle.fill.specs.Tests.{fillTests}
 use Rattle.fill.specs.Fill.{FillGiven, fillColour, fillScratch, pixelRows}
 use Rattle.netpbm.specs.declared.reading.Reading.the-variants.{Read, Refused}
 use Rattle.netpbm.specs.Images.{rowsAt}
-use Rattle.netpbm.specs.Reading.{cbAt, crAt, layoutOf, readingTests, pickReading, readingOf}
+use Rattle.netpbm.specs.Reading.{cbAt, crAt, inputLayout, readingTests, pickReading, readingOf}
 use Rattle.netpbm.proofs.Acceptance.{Taken, taken}
 use Rattle.picture.specs.declared.Outcome.the-variants.{Written, Refused as Down}
 use Rattle.picture.specs.Picture.{inputPlanes, ppmLength, pictureTests, pickOutcome, inputPicture}
@@ -39,34 +41,34 @@ planesFrom s l y cb cr = record {
 }
 
 -- what the reading gives is what the definitions say of the input
-pub record Told (s : List ℕ) (l : Layout) (y cb cr : ℕ) : Type 0 where
+pub record ReadAccepted (s : List ℕ) (l : Layout) (y cb cr : ℕ) : Type 0 where
   pub passed : first (readingTests s) ≡ Accepted
-  pub layout-is : l ≡ layoutOf s
+  pub layout-is : l ≡ inputLayout s
   pub planes-are : planesFrom s l y cb cr ≡ inputPlanes s
 
-pub told : (s : List ℕ) (l : Layout) (y cb cr : ℕ) → readingOf s ≡ Read l y cb cr → Told s l y cb cr
+pub read-accepted : (s : List ℕ) (l : Layout) (y cb cr : ℕ) → readingOf s ≡ Read l y cb cr → ReadAccepted s l y cb cr
 unfolding readingOf inputPlanes
-told s l y cb cr e = go (first (readingTests s)) refl e
+read-accepted s l y cb cr e = go (first (readingTests s)) refl e
   where
-    go : (a : Answer) → first (readingTests s) ≡ a → pickReading a (Read (layoutOf s) (rowsAt s 0) (rowsAt s (cbAt s)) (rowsAt s (crAt s))) ≡ Read l y cb cr → Told s l y cb cr
+    go : (a : Answer) → first (readingTests s) ≡ a → pickReading a (Read (inputLayout s) (rowsAt s 0) (rowsAt s (cbAt s)) (rowsAt s (crAt s))) ≡ Read l y cb cr → ReadAccepted s l y cb cr
     go Accepted k e =
-        let a : layoutOf s ≡ l = cc in
+        let a : inputLayout s ≡ l = cc in
         let b : rowsAt s 0 ≡ y = cc in
         let c : rowsAt s (cbAt s) ≡ cb = cc in
         let d : rowsAt s (crAt s) ≡ cr = cc in
         record { passed = k; layout-is = sym a; planes-are = rw (sym a, sym b, sym c, sym d) refl }
     go (Turned n) k e = let z : _≡_ {A = ℕ} 0 1 = cc in absurd (omega arith)
 
--- and a number that it gives is the first of the reading's tests
+-- a number that the reading gives is that of the first of its tests that applies
 pub turned : (s : List ℕ) (n : ℕ) → readingOf s ≡ Refused n → first (readingTests s) ≡ Turned n
 unfolding readingOf
 turned s n e = go (first (readingTests s)) e
   where
-    go : (a : Answer) → pickReading a (Read (layoutOf s) (rowsAt s 0) (rowsAt s (cbAt s)) (rowsAt s (crAt s))) ≡ Refused n → a ≡ Turned n
+    go : (a : Answer) → pickReading a (Read (inputLayout s) (rowsAt s 0) (rowsAt s (cbAt s)) (rowsAt s (crAt s))) ≡ Refused n → a ≡ Turned n
     go Accepted e = let z : _≡_ {A = ℕ} 0 1 = cc in absurd (omega arith)
     go (Turned k) e = let z : k ≡ n = cc in ap Turned z
 
--- a part that goes to the end
+-- a part of a list from `at` on that is long enough goes to the list's end
 pub to-end : (s : List ℕ) (at : ℕ) → take (length s - at) (drop at s) ≡ drop at s
 to-end s at = take-all (length s - at) (drop at s) (let n = length-drop at s in omega arith)
 
@@ -127,30 +129,30 @@ module _ (s : List ℕ) (l : Layout) (y cb cr : ℕ) (e : readingOf s ≡ Read l
   }) → (out' ≡ pixelRows (l .w) 3 (fillColour LumaGuided Exact (inputPicture s)) 0 (l .h) out) × (scratch' ≡ fillScratch LumaGuided l (inputPlanes s) 0 (l .h) scratch)
   filled f =
       let q = from-parts f in
-      let t = told s l y cb cr e in
+      let t = read-accepted s l y cb cr e in
       let b : accepted a ≡ true = ap accepted (q .answers ∙ fill-takes (taken s l y cb cr e) scratch out g h) in
       let c : pictureOf l (planesFrom s l y cb cr) ≡ inputPicture s = rw (sym (t .planes-are), sym (t .layout-is)) refl in
       (q .gives ∙ rw b (ap (λ (p : Picture). pixelRows (l .w) 3 (fillColour LumaGuided Exact p) 0 (l .h) out) c), q .scratches ∙ rw b (ap (λ (ps : Planes). fillScratch LumaGuided l ps 0 (l .h) scratch) (t .planes-are)))
 
 -- ---- the outcome
 
-module _ {s : List ℕ} {l : Layout} {y cb cr : ℕ} (t : Told s l y cb cr) (scratch : List Float) (out : List ℕ) where
+module _ {s : List ℕ} {l : Layout} {y cb cr : ℕ} (t : ReadAccepted s l y cb cr) (scratch : List Float) (out : List ℕ) where
   later : first (pictureTests s scratch out) ≡ first ((ltb (length scratch) (scratchNeed l), 9) ∷ (ltb (length out) (ppmLength l), 10) ∷ [])
   unfolding pictureTests
   later = passed-early (readingTests s) _ (ap accepted (t .passed)) ∙ ap (λ (k : Layout). first ((ltb (length scratch) (scratchNeed k), 9) ∷ (ltb (length out) (ppmLength k), 10) ∷ [])) (sym (t .layout-is))
 
-  pub scratch-short : length scratch < scratchNeed l → Down 9 ≡ pickOutcome (first (pictureTests s scratch out)) (ppmLength (layoutOf s))
-  scratch-short g = ap (λ (a : Answer). pickOutcome a (ppmLength (layoutOf s))) (sym (later ∙ refused-here _ _ _ (lt-ltb _ _ g)))
+  pub scratch-short : length scratch < scratchNeed l → Down 9 ≡ pickOutcome (first (pictureTests s scratch out)) (ppmLength (inputLayout s))
+  scratch-short g = ap (λ (a : Answer). pickOutcome a (ppmLength (inputLayout s))) (sym (later ∙ refused-here _ _ _ (lt-ltb _ _ g)))
 
-  pub out-short : scratchNeed l ≤ length scratch → length out < ppmLength l → Down 10 ≡ pickOutcome (first (pictureTests s scratch out)) (ppmLength (layoutOf s))
-  out-short g h = ap (λ (a : Answer). pickOutcome a (ppmLength (layoutOf s))) (sym (later ∙ passed-over _ _ _ (le-ltb _ _ g) ∙ refused-here _ _ _ (lt-ltb _ _ h)))
+  pub out-short : scratchNeed l ≤ length scratch → length out < ppmLength l → Down 10 ≡ pickOutcome (first (pictureTests s scratch out)) (ppmLength (inputLayout s))
+  out-short g h = ap (λ (a : Answer). pickOutcome a (ppmLength (inputLayout s))) (sym (later ∙ passed-over _ _ _ (le-ltb _ _ g) ∙ refused-here _ _ _ (lt-ltb _ _ h)))
 
-  pub both-long : scratchNeed l ≤ length scratch → ppmLength l ≤ length out → Written (ppmLength l) ≡ pickOutcome (first (pictureTests s scratch out)) (ppmLength (layoutOf s))
+  pub both-long : scratchNeed l ≤ length scratch → ppmLength l ≤ length out → Written (ppmLength l) ≡ pickOutcome (first (pictureTests s scratch out)) (ppmLength (inputLayout s))
   both-long g h = rw (later ∙ failed-accepted ((ltb (length scratch) (scratchNeed l), 9) ∷ (ltb (length out) (ppmLength l), 10) ∷ []) (le-ltb _ _ g, (le-ltb _ _ h, tt)), sym (t .layout-is)) refl
 
--- a number of the reading's stands
-pub read-refused : (s : List ℕ) (scratch : List Float) (out : List ℕ) (n : ℕ) → readingOf s ≡ Refused n → Down n ≡ pickOutcome (first (pictureTests s scratch out)) (ppmLength (layoutOf s))
+-- where the reading gives a number, that is the outcome's
+pub read-refused : (s : List ℕ) (scratch : List Float) (out : List ℕ) (n : ℕ) → readingOf s ≡ Refused n → Down n ≡ pickOutcome (first (pictureTests s scratch out)) (ppmLength (inputLayout s))
 unfolding pictureTests
 read-refused s scratch out n e =
     let k = turned s n e in
-    ap (λ (a : Answer). pickOutcome a (ppmLength (layoutOf s))) (sym (refused-early (readingTests s) _ (ap accepted k) ∙ k))
+    ap (λ (a : Answer). pickOutcome a (ppmLength (inputLayout s))) (sym (refused-early (readingTests s) _ (ap accepted k) ∙ k))

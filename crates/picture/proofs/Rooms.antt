@@ -1,4 +1,6 @@
 -- The rooms of the program: what it lends is enough for every input, and a picture that is written fits.
+-- An input that is read is 128 wide at most and has no more pixels than bytes (`Taken`), which limits scratch to 64 · 128 + 8 · 128 floats
+-- and the PPM to 16 + 3 · 49,152 bytes (`scratch-most`, `out-most`); so the tests for 9 and 10 never apply.
 use mathlib.Core.Path.{_≡_, refl, sym, ap, _∙_}
 use mathlib.Core.List.{List, [], _∷_, _++_}
 use Prim.Native.Nat.{ℕ, _≤_}
@@ -16,7 +18,7 @@ use Rattle.netpbm.specs.declared.lines.Line.{Line}
 use Rattle.netpbm.specs.Texts.{lineOf}
 use Rattle.netpbm.specs.Images.{rowsAt}
 use Rattle.netpbm.specs.Lines.{refusalLine}
-use Rattle.netpbm.specs.Reading.{cbAt, crAt, layoutOf, readingTests, readingOf}
+use Rattle.netpbm.specs.Reading.{cbAt, crAt, inputLayout, readingTests, readingOf}
 use Rattle.netpbm.proofs.Acceptance.{Taken, taken}
 use Rattle.picture.specs.declared.Outcome.the-variants.{Written}
 use Rattle.picture.specs.Picture.{ppmLength, pictureTests, pickOutcome, PictureGiven}
@@ -25,18 +27,18 @@ use Rattle.picture.proofs.Readings.{layout-sound, pixels-most}
 
 -- what an input that is read asks for
 module _ (input : List ℕ) (a : first (readingTests input) ≡ Accepted) where
-  read-taken : Taken input (layoutOf input) (rowsAt input 0) (rowsAt input (cbAt input)) (rowsAt input (crAt input))
+  read-taken : Taken input (inputLayout input) (rowsAt input 0) (rowsAt input (cbAt input)) (rowsAt input (crAt input))
   unfolding readingOf
   read-taken = taken input _ _ _ _ (rw a refl)
 
-  scratch-most : scratchNeed (layoutOf input) ≤ 9216
+  scratch-most : scratchNeed (inputLayout input) ≤ 9216
   unfolding scratchNeed
   scratch-most = let w = read-taken .width in let c = layout-sound read-taken .cw-most in omega arith
 
-  out-most : ppmLength (layoutOf input) ≤ 147472
+  out-most : ppmLength (inputLayout input) ≤ 147472
   unfolding ppmLength
   out-most =
-      let l = layoutOf input in
+      let l = inputLayout input in
       let h = header-most (l .w) (l .h) (read-taken .width) in
       let p = pixels-most read-taken in
       omega arith
@@ -46,10 +48,10 @@ pub room-enough : (input : List ℕ) (scratch : List Float) (out : List ℕ) →
 unfolding pictureTests
 room-enough input scratch out g h = go (first (readingTests input)) refl
   where
-    go : (a : Answer) → first (readingTests input) ≡ a → first (readingTests input ++ ((ltb (length scratch) (scratchNeed (layoutOf input)), 9) ∷ (ltb (length out) (ppmLength (layoutOf input)), 10) ∷ [])) ≡ first (readingTests input)
+    go : (a : Answer) → first (readingTests input) ≡ a → first (readingTests input ++ ((ltb (length scratch) (scratchNeed (inputLayout input)), 9) ∷ (ltb (length out) (ppmLength (inputLayout input)), 10) ∷ [])) ≡ first (readingTests input)
     go Accepted k =
         passed-early (readingTests input) _ (ap accepted k)
-        ∙ failed-accepted ((ltb (length scratch) (scratchNeed (layoutOf input)), 9) ∷ (ltb (length out) (ppmLength (layoutOf input)), 10) ∷ []) (le-ltb (length scratch) (scratchNeed (layoutOf input)) (omega (arith, scratch-most input k)), (le-ltb (length out) (ppmLength (layoutOf input)) (omega (arith, out-most input k)), tt))
+        ∙ failed-accepted ((ltb (length scratch) (scratchNeed (inputLayout input)), 9) ∷ (ltb (length out) (ppmLength (inputLayout input)), 10) ∷ []) (le-ltb (length scratch) (scratchNeed (inputLayout input)) (omega (arith, scratch-most input k)), (le-ltb (length out) (ppmLength (inputLayout input)) (omega (arith, out-most input k)), tt))
         ∙ sym k
     go (Turned n) k = refused-early (readingTests input) _ (ap accepted k)
 
@@ -58,11 +60,11 @@ pub written-fits : {input : List ℕ} {scratch : List Float} {out : List ℕ} {n
 unfolding pictureTests
 written-fits {input} {scratch} {out} {n} g = go (first (pictureTests input scratch out)) refl (g .answers)
   where
-    go : (a : Answer) → first (pictureTests input scratch out) ≡ a → Written n ≡ pickOutcome a (ppmLength (layoutOf input)) → n ≤ length out
+    go : (a : Answer) → first (pictureTests input scratch out) ≡ a → Written n ≡ pickOutcome a (ppmLength (inputLayout input)) → n ≤ length out
     go Accepted k e =
-        let m : n ≡ ppmLength (layoutOf input) = cc in
-        let f = failed-both (readingTests input) ((ltb (length scratch) (scratchNeed (layoutOf input)), 9) ∷ (ltb (length out) (ppmLength (layoutOf input)), 10) ∷ []) (accepted-failed (pictureTests input scratch out) k) in
-        let b = ltb-false (length out) (ppmLength (layoutOf input)) (f .1 .1 .0) in
+        let m : n ≡ ppmLength (inputLayout input) = cc in
+        let f = failed-both (readingTests input) ((ltb (length scratch) (scratchNeed (inputLayout input)), 9) ∷ (ltb (length out) (ppmLength (inputLayout input)), 10) ∷ []) (accepted-failed (pictureTests input scratch out) k) in
+        let b = ltb-false (length out) (ppmLength (inputLayout input)) (f .1 .1 .0) in
         omega arith
     go (Turned j) k e = let z : _≡_ {A = ℕ} 0 1 = cc in absurd (omega arith)
 

@@ -1,4 +1,5 @@
--- 'The picture program' of document 01 as one call: the reasons for turning the input down, and the bytes that it writes. Definitions only.
+-- 'The picture program' of document 01 as one call: the reasons for turning the input down, and the bytes that it writes.
+-- Definitions only.
 use mathlib.Core.Path.{_≡_}
 use mathlib.Core.Bool.{Bool, true, false, cond}
 use mathlib.Core.List.{List, [], _∷_, _++_}
@@ -17,28 +18,29 @@ use Rattle.fill.specs.declared.options.ChromaUpsampling.the-variants.{LumaGuide
 use Rattle.fill.specs.Fill.{fillColour, pixelRows, fillScratch}
 use Rattle.netpbm.specs.Images.{rowsAt}
 use Rattle.netpbm.specs.Lines.{ppmHeader}
-use Rattle.netpbm.specs.Reading.{cbAt, crAt, layoutOf, readingTests}
+use Rattle.netpbm.specs.Reading.{cbAt, crAt, inputLayout, readingTests}
 use Rattle.picture.specs.declared.Outcome.{Outcome}
 use Rattle.picture.specs.declared.Outcome.the-variants.{Written, Refused}
 
 -- ---- the picture that the input holds
 
--- "three Netpbm PGM images one after another (Y, Cb, Cr)": each plane begins where its image's rows do, a row behind the other
+-- "three Netpbm PGM images one after another (Y, Cb, Cr)": each plane begins where its image's rows do, one row right behind the other
 unfoldable pub inputPlanes : List ℕ → Planes
 inputPlanes input =
-    let l = layoutOf input in
+    let l = inputLayout input in
     record {
       y = record { bytes = drop (rowsAt input 0) input; stride = l .w };
       cb = record { bytes = drop (rowsAt input (cbAt input)) input; stride = l .cw };
       cr = record { bytes = drop (rowsAt input (crAt input)) input; stride = l .cw };
     }
 
+-- the input's layout with the samples of its planes
 abbrev pub inputPicture : List ℕ → Picture
-inputPicture input = pictureOf (layoutOf input) (inputPlanes input)
+inputPicture input = pictureOf (inputLayout input) (inputPlanes input)
 
 -- ---- what is written
 
--- header and pixels: how many bytes
+-- how many bytes a PPM of this layout has, header and pixels
 unfoldable pub ppmLength : Layout → ℕ
 ppmLength l = length (ppmHeader (l .w) (l .h)) + l .w * l .h * 3
 
@@ -49,23 +51,26 @@ ppmOver p out =
     let header = ppmHeader (l .w) (l .h) in
     header ++ pixelRows (l .w) 3 (fillColour LumaGuided Exact p) 0 (l .h) (drop (length header) out)
 
--- ---- the reasons for turning the input down: the reading's "own order", then 9, "scratch too short", and 10, "output too short"
+-- ---- the reasons for turning the input down
+
+-- the reading's "own order", then 9, "scratch too short", and 10, "output too short"
 unfoldable pub pictureTests : List ℕ → List Float → List ℕ → List Test
 pictureTests input scratch out =
-    let l = layoutOf input in
+    let l = inputLayout input in
     readingTests input ++ ((ltb (length scratch) (scratchNeed l), 9) ∷ (ltb (length out) (ppmLength l), 10) ∷ [])
 
--- the number of the answer, or how many bytes were written
+-- how many bytes were written where the answer is accepted, and otherwise the answer's number
 abbrev pub pickOutcome : Answer → ℕ → Outcome
 pickOutcome Accepted n = Written n
 pickOutcome (Turned k) n = Refused k
 
+-- the outcome is that a picture was written
 abbrev pub isWritten : Outcome → Bool
 isWritten (Written n) = true
 isWritten (Refused k) = false
 
 -- what `picture` promises: of its outcome, and of out and scratch after it; on refusal "every slice is unchanged"
 pub record PictureGiven (input : List ℕ) (scratch : List Float) (out : List ℕ) (outcome : Outcome) (scratch' : List Float) (out' : List ℕ) : Type 0 where
-  pub answers : outcome ≡ pickOutcome (first (pictureTests input scratch out)) (ppmLength (layoutOf input))
+  pub answers : outcome ≡ pickOutcome (first (pictureTests input scratch out)) (ppmLength (inputLayout input))
   pub gives : out' ≡ cond (isWritten outcome) (ppmOver (inputPicture input) out) out
-  pub scratches : scratch' ≡ cond (isWritten outcome) (fillScratch LumaGuided (layoutOf input) (inputPlanes input) 0 (layoutOf input .h) scratch) scratch
+  pub scratches : scratch' ≡ cond (isWritten outcome) (fillScratch LumaGuided (inputLayout input) (inputPlanes input) 0 (inputLayout input .h) scratch) scratch

@@ -1,4 +1,4 @@
-// A PPM at the front of out: its header, then the pixels.
+// A PPM written to the front of `out`: its header, then the pixels, three bytes each.
 ghost use mathlib.Core.Path.{_≡_};
 ghost use Prim.Native.Nat.{_*_, _≤_};
 ghost use lib.ListN.{length, getD};
@@ -16,7 +16,7 @@ use kernels::YcbcrKernel;
 use netpbm::Line;
 use netpbm::Reading;
 
-// The bytes of a line, to the front of out.
+// Copies the bytes of a line to the front of `out`.
 fn put_line(line: Line, out: &mut [u8])
     requires { ⌜ (line .len ≤ 16) × (line .len ≤ length (now out)) ⌝ }
     ensures { λ _. ⌜ now (out .exit) ≡ put (now (out .entry)) 0 (line .len) (λ i. getD (line .bytes) i 0) ⌝ }
@@ -27,7 +27,8 @@ fn put_line(line: Line, out: &mut [u8])
     }
 }
 
-// The pixels of the picture that was read, from the first byte of out on.
+// Writes the pixels of the picture that was read, from the first byte of `out` on. `fill` is lent the input three times, each time from
+// where a plane's rows begin. It accepts them: an input that was read, with scratch and `out` of these lengths, leaves it nothing to refuse.
 fn put_pixels(
     input: &[u8],
     layout: Layout,
@@ -39,8 +40,13 @@ fn put_pixels(
 )
     requires { ⌜ readingOf (now input) ≡ Reading.Read layout y cb cr ⌝ }
     requires { ⌜ (scratchNeed layout ≤ length (now s)) × (layout .w * layout .h * 3 ≤ length (now out)) ⌝ }
-    ensures { λ _. ⌜ now (out .exit) ≡ pixelRows (layout .w) 3 (fillColour ChromaUpsampling.LumaGuided YcbcrKernel.Exact (inputPicture (now (input .entry)))) 0 (layout .h) (now (out .entry)) ⌝ }
-    ensures { λ _. ⌜ now (s .exit) ≡ fillScratch ChromaUpsampling.LumaGuided layout (inputPlanes (now (input .entry))) 0 (layout .h) (now (s .entry)) ⌝ }
+    ensures { λ _. ⌜ now (out .exit) ≡ pixelRows
+        (layout .w) 3
+        (fillColour ChromaUpsampling.LumaGuided YcbcrKernel.Exact (inputPicture (now (input .entry))))
+        0 (layout .h) (now (out .entry)) ⌝ }
+    ensures { λ _. ⌜ now (s .exit) ≡ fillScratch
+        ChromaUpsampling.LumaGuided layout (inputPlanes (now (input .entry)))
+        0 (layout .h) (now (s .entry)) ⌝ }
 {
     let strides = Strides {
         y: layout.w,
@@ -61,7 +67,7 @@ fn put_pixels(
     );
 }
 
-// The picture that was read, and this header before it.
+// Writes the header, and behind it the pixels of the picture that was read.
 pub(crate) fn put_ppm(
     input: &[u8],
     layout: Layout,
@@ -76,7 +82,9 @@ pub(crate) fn put_ppm(
     requires { ⌜ header ≡ lineOf (ppmHeader (layout .w) (layout .h)) ⌝ }
     requires { ⌜ (scratchNeed layout ≤ length (now s)) × (ppmLength layout ≤ length (now out)) ⌝ }
     ensures { λ _. ⌜ now (out .exit) ≡ ppmOver (inputPicture (now (input .entry))) (now (out .entry)) ⌝ }
-    ensures { λ _. ⌜ now (s .exit) ≡ fillScratch ChromaUpsampling.LumaGuided layout (inputPlanes (now (input .entry))) 0 (layout .h) (now (s .entry)) ⌝ }
+    ensures { λ _. ⌜ now (s .exit) ≡ fillScratch
+        ChromaUpsampling.LumaGuided layout (inputPlanes (now (input .entry)))
+        0 (layout .h) (now (s .entry)) ⌝ }
 {
     let at = header.len;
     put_line(header, out);

@@ -1,5 +1,6 @@
-// Replays the fixed list of fills and single pixels on standard input, and writes for each its answer and the sum of what it left.
-// oracle/fill-cases made the list and what must be written for it: a line of 122 bytes for each call, a kind and 24 words of four hex digits. A fill's:
+// Replays the stored list of fills and single pixels on standard input, and writes for each its answer and the sum of what it left.
+// oracle/fill-cases made the list and what must be written for it: a line of 122 bytes for each call, a kind and 24 words of four hex
+// digits. A fill's:
 // w h rh rv cw ch sample_bytes maxval(2) y_stride cb_stride cr_stride y_len cb_len cr_len seed y_shape cb_shape cr_shape
 // kernel size space(2) room. A pixel's: y(2) cb(2) cr(2) maxval(2), sixteen of 0.
 ghost use Prim.Native.Nat.{_<_};
@@ -8,17 +9,17 @@ use kernels::Pixel;
 use kernels::YcbcrKernel;
 use libc::STDIN_FILENO;
 
-// Scratch as no call leaves it.
+// Scratch that holds one value throughout, so that the sum shows a call that writes where it may not.
 fn marked() -> [f32; 600_000] {
     [1.5; 600_000]
 }
 
-// An output that no call has written.
+// An output that no call has written: it holds one value throughout, so that the sum shows which bytes were written.
 fn unwritten() -> [u8; 65_536] {
     [160; 65_536]
 }
 
-// A pixel's line: its refusal, or its colour for a sum.
+// Writes the line of a single pixel: its refusal, or its three bytes in place of a sum.
 fn write_pixel(pixel: Pixel) {
     match pixel {
         Pixel::Rgb(r, g, b) => {
@@ -30,13 +31,14 @@ fn write_pixel(pixel: Pixel) {
     }
 }
 
-// The number in words k and k+1.
+// The 32-bit number in words k and k+1 of a line.
 fn number(text: &[u8], k: usize) -> u32
     requires { ⌜ k < 999 ⌝ }
 {
     test_support::long(text, k) as u32
 }
 
+// Makes the call of a pixel by the exact kernel and writes its line.
 fn exact(text: &[u8]) {
     write_pixel(reconstruction::ycbcr_frac_to_rgb8(
         number(text, 0),
@@ -46,6 +48,7 @@ fn exact(text: &[u8]) {
     ));
 }
 
+// Makes the call of a pixel by the fixed kernel, which has no maxval, and writes its line.
 fn fixed(text: &[u8]) {
     write_pixel(reconstruction::ycbcr_to_rgb8_fixed16(
         number(text, 0),
@@ -54,6 +57,7 @@ fn fixed(text: &[u8]) {
     ));
 }
 
+// How a fill's chroma is reconstructed, which its line's kind says: `l` is linear, `g` guided.
 fn upsampling(text: &[u8]) -> ChromaUpsampling {
     if test_support::byte(text, 0) == b'l' {
         return ChromaUpsampling::Linear;
@@ -61,6 +65,7 @@ fn upsampling(text: &[u8]) -> ChromaUpsampling {
     ChromaUpsampling::LumaGuided
 }
 
+// The kernel that a fill's line names: 0 is the exact one.
 fn kernel(text: &[u8]) -> YcbcrKernel {
     if test_support::word(text, 19) == 0 {
         return YcbcrKernel::Exact;
@@ -68,7 +73,7 @@ fn kernel(text: &[u8]) -> YcbcrKernel {
     YcbcrKernel::FixedPoint16
 }
 
-// The line of a fill: the sum is of all of out, and of what it may not touch of its scratch.
+// Makes the call of a fill and writes its line. The sum is of all of `out`, and of the scratch that the call may not touch.
 fn fill_lent(text: &[u8], y: &[u8], cb: &[u8], cr: &[u8], s: &mut [f32], out: &mut [u8]) {
     let answer = test_support::number(reconstruction::fill(
         test_support::layout(text),
@@ -90,7 +95,7 @@ fn fill_lent(text: &[u8], y: &[u8], cb: &[u8], cr: &[u8], s: &mut [f32], out: &m
     test_support::write_line(answer, sum);
 }
 
-// A fill into scratch and out that no call has touched.
+// Makes the call of a fill with scratch and `out` that no call has touched, as long as its line says.
 fn fill_marked(text: &[u8], y: &[u8], cb: &[u8], cr: &[u8]) {
     let mut s = marked();
     let mut out = unwritten();
@@ -99,6 +104,7 @@ fn fill_marked(text: &[u8], y: &[u8], cb: &[u8], cr: &[u8]) {
     fill_lent(text, y, cb, cr, &mut s[..space], &mut out[..room]);
 }
 
+// Makes the call of a fill with the three planes that its line speaks of.
 fn fill(text: &[u8]) {
     let y = test_support::plane(text, 0);
     let cb = test_support::plane(text, 1);
@@ -109,6 +115,7 @@ fn fill(text: &[u8]) {
     fill_marked(text, &y[..y_len], &cb[..cb_len], &cr[..cr_len]);
 }
 
+// Makes the call that a line's kind names.
 fn replay(text: &[u8]) {
     match test_support::byte(text, 0) {
         b'e' => exact(text),
@@ -117,6 +124,7 @@ fn replay(text: &[u8]) {
     }
 }
 
+// A line has 122 bytes, its newline too; the list ends where fewer are left.
 fn main() {
     let mut text = [0u8; 122];
     for _ in 0..65_536usize {

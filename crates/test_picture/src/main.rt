@@ -1,22 +1,23 @@
-// Replays the fixed list of inputs of the picture program on standard input, and writes for each the call's answer and the sum of what it left.
-// All share one scratch, which is not-a-number at first and never cleared. oracle/picture-cases made the list and what must be written for it:
-// a line of 17 bytes for each piece of an input and for its end, a kind and three words of four hex digits; its head says which there are.
+// Replays the stored list of inputs of the picture program on standard input, and writes for each the call's answer and the sum of what it
+// left. All share one scratch, which is not-a-number at first and never cleared. oracle/picture-cases made the list and what must be written
+// for it: a line of 17 bytes for each piece of an input and for its end, a kind and three words of four hex digits; its head says which kinds
+// there are.
 ghost use Prim.Native.Nat.{_≤_};
 ghost use lib.ListN.{length};
 use libc::STDIN_FILENO;
 use picture::Outcome;
 
-// Scratch before the first call.
+// Scratch before the first call, not-a-number throughout, as long as the program's own: `SCRATCH` of ycbcrtoppm, 64 · 128 + 8 · 128.
 fn scratch() -> [f32; 9_216] {
     [0.0 / 0.0; 9_216]
 }
 
-// An output that no call has written.
+// An output that no call has written, one value throughout, as long as the program's own: `OUT` of ycbcrtoppm, 16 + 3 · 49,152.
 fn unwritten() -> [u8; 147_472] {
     [160; 147_472]
 }
 
-// The source's bytes from, .. to - 1, at the front of a room; how many there was room for.
+// Copies the source's bytes from index `from` up to but not with `to` to the front of a room; gives how many there was room for.
 fn copied(source: &[u8], from: usize, to: usize, room: &mut [u8]) -> usize
     ensures { λ r. ⌜ r ≤ length (now (room .exit)) ⌝ }
 {
@@ -32,7 +33,7 @@ fn copied(source: &[u8], from: usize, to: usize, room: &mut [u8]) -> usize
     n
 }
 
-// As many bytes by `cases::grow`, at the front of a room; how many there was room for.
+// Puts `count` bytes by `test_support::grow` to the front of a room; gives how many there was room for.
 fn grown(count: usize, seed: usize, shape: usize, room: &mut [u8]) -> usize
     ensures { λ r. ⌜ r ≤ length (now (room .exit)) ⌝ }
 {
@@ -41,7 +42,7 @@ fn grown(count: usize, seed: usize, shape: usize, room: &mut [u8]) -> usize
     n
 }
 
-// As many bytes as the kind's digit says, which are those of a line's words.
+// Puts the bytes of a line's first two words to the front of a room, as many as the digit says that is its kind.
 fn spelled(text: &[u8], room: &mut [u8]) -> usize
     ensures { λ r. ⌜ r ≤ length (now (room .exit)) ⌝ }
 {
@@ -56,7 +57,8 @@ fn spelled(text: &[u8], room: &mut [u8]) -> usize
     copied(&bytes, 0, (test_support::byte(text, 0) % 16) as usize, room)
 }
 
-// A line's piece of the input at the front of a room; how many bytes it is.
+// Puts the piece of the input that a line speaks of to the front of a room; gives how many bytes it has. It is a part of the base, grown
+// bytes, one byte again and again, or bytes that the line spells.
 fn put_piece(text: &[u8], base: &[u8], room: &mut [u8]) -> usize
     ensures { λ r. ⌜ r ≤ length (now (room .exit)) ⌝ }
 {
@@ -70,7 +72,7 @@ fn put_piece(text: &[u8], base: &[u8], room: &mut [u8]) -> usize
     }
 }
 
-// The sum of out and of the refusal's line.
+// The sum of `out` and of the line that the program writes on refusal n.
 fn refused_sum(n: u8, out: &[u8]) -> u32 {
     let line = picture::refusal_line(n);
     let len = line.len;
@@ -78,7 +80,8 @@ fn refused_sum(n: u8, out: &[u8]) -> u32 {
     test_support::sum_bytes(test_support::sum_bytes(0, out), &bytes[..len])
 }
 
-// Writes a call's line: the sum is of out and of the length, or of the refusal's line and of whether scratch was changed.
+// Writes a call's line. The sum is of `out` and of the length; on refusal, of `out`, of the refusal's line and of whether scratch was
+// changed.
 fn write_outcome(outcome: Outcome, out: &[u8], changed: bool) {
     match outcome {
         Outcome::Written(len) => {
@@ -92,13 +95,14 @@ fn write_outcome(outcome: Outcome, out: &[u8], changed: bool) {
     }
 }
 
+// Calls `picture` and writes its line.
 fn called(input: &[u8], s: &mut [f32], out: &mut [u8]) {
     let before = test_support::sum_floats(0, s, 0);
     let outcome = picture::picture(input, s, out);
     write_outcome(outcome, out, test_support::sum_floats(0, s, 0) != before);
 }
 
-// The call of an input's last line, lent as much as that says, or all that there is.
+// Makes the call of an input whose last line this is, with scratch and `out` as long as the line says, or as long as there is.
 fn call(text: &[u8], input: &[u8], s: &mut [f32]) {
     let mut out = unwritten();
     let space = laws::least(test_support::word(text, 0), s.len());
@@ -106,7 +110,8 @@ fn call(text: &[u8], input: &[u8], s: &mut [f32]) {
     called(input, &mut s[..space], &mut out[..room]);
 }
 
-// A line: another base, the end of an input, or a piece of it. How long the input is then.
+// Does what a line says: makes the input so far the base that pieces are taken from, calls `picture` with it, or adds a piece to it. Gives how
+// long the input is then.
 fn replayed(text: &[u8], base: &mut [u8], input: &mut [u8], len: usize, s: &mut [f32]) -> usize
     requires { ⌜ len ≤ length (now input) ⌝ }
     ensures { λ r. ⌜ r ≤ length (now (input .exit)) ⌝ }
@@ -123,6 +128,7 @@ fn replayed(text: &[u8], base: &mut [u8], input: &mut [u8], len: usize, s: &mut 
     len + put_piece(text, base, &mut input[len..])
 }
 
+// Takes all lines, which have 17 bytes each, the newline too. The list ends where fewer are left.
 fn replay_all(base: &mut [u8], input: &mut [u8], s: &mut [f32]) {
     let mut len = 0;
     let mut text = [0u8; 17];
@@ -134,6 +140,7 @@ fn replay_all(base: &mut [u8], input: &mut [u8], s: &mut [f32]) {
     }
 }
 
+// The base and the input have 65,536 bytes each, more than the longest input that the program takes.
 fn main() {
     let mut base = io::large_buffer();
     let mut input = io::large_buffer();

@@ -1,28 +1,29 @@
-// Replays the fixed list of whole planes on standard input, triangular, linear and guided, and writes for each its answer and the sum of what it left.
-// oracle/plane-cases made the list and what must be written for it: a line of 77 bytes for each call, a kind and 15 words of four hex digits:
+// Replays the stored list of whole planes on standard input, triangular, linear and guided, and writes for each its answer and the sum of
+// what it left. oracle/plane-cases made the list and what must be written for it: a line of 77 bytes for each call, a kind and 15 words of
+// four hex digits:
 // w h rh rv cw ch sample_bytes maxval(2) stride plane_len space(2) room seed.
 use laws::Answer;
 use libc::STDIN_FILENO;
 
-// Scratch as no call leaves it.
+// Scratch that holds one value throughout, so that the sum shows a call that writes where it may not.
 fn marked() -> [f32; 200_000] {
     [1.5; 200_000]
 }
 
-// An output that no call has written.
+// An output that no call has written: it holds one value throughout, so that the sum shows which were written.
 fn unwritten() -> [u16; 65_536] {
     [42_405; 65_536]
 }
 
-// The number that luma's bytes come from.
+// The seed that luma's bytes are grown from, the same for all lines.
 const LUMA: usize = 7;
 
-// How far apart luma's rows begin: there is room for samples of two bytes. What is wider is refused.
+// How far apart luma's rows begin, with room for samples of two bytes. A picture wider than 8,192 is refused whatever the stride is.
 fn luma_stride(w: usize) -> usize {
     if w <= 8_192 { 2 * w } else { 0 }
 }
 
-// A guided plane; luma is one for all lines.
+// The answer to a guided plane, whose luma is the same 20,000 bytes for all lines.
 fn guided(text: &[u8], plane: &[u8], s: &mut [f32], out: &mut [u16]) -> Answer {
     let luma = test_support::grown(20_000, LUMA, 0);
     let layout = test_support::layout(text);
@@ -37,7 +38,7 @@ fn guided(text: &[u8], plane: &[u8], s: &mut [f32], out: &mut [u16]) -> Answer {
     )
 }
 
-// The call of a line.
+// The answer to the call that a line's kind names.
 fn called(text: &[u8], plane: &[u8], s: &mut [f32], out: &mut [u16]) -> Answer {
     match test_support::byte(text, 0) {
         b't' => reconstruction::triangular_plane(
@@ -57,7 +58,7 @@ fn called(text: &[u8], plane: &[u8], s: &mut [f32], out: &mut [u16]) -> Answer {
     }
 }
 
-// The line of a call: the sum is of all of out, and of what it may not touch of its scratch.
+// Makes a line's call and writes what came of it. The sum is of all of `out`, and of the scratch that the call may not touch.
 fn write_call(text: &[u8], plane: &[u8], s: &mut [f32], out: &mut [u16]) {
     let answer = test_support::number(called(text, plane, s, out));
     let sum = test_support::sum_values(0, out);
@@ -65,7 +66,7 @@ fn write_call(text: &[u8], plane: &[u8], s: &mut [f32], out: &mut [u16]) {
     test_support::write_line(answer, test_support::sum_floats(sum, s, spared));
 }
 
-// A call into scratch and out that no call has touched.
+// Makes a line's call with scratch and `out` that no call has touched, as long as the line says.
 fn replay(text: &[u8]) {
     let plane_len = test_support::word(text, 10);
     let space = laws::least(test_support::long(text, 11), 200_000);
@@ -76,6 +77,7 @@ fn replay(text: &[u8]) {
     write_call(text, &plane[..plane_len], &mut s[..space], &mut out[..room]);
 }
 
+// A line has 77 bytes, its newline too; the list ends where fewer are left.
 fn main() {
     let mut text = [0u8; 77];
     for _ in 0..65_536usize {

@@ -1,6 +1,7 @@
-// Replays the fixed list of calls of the reader on standard input, open, seek and row, and writes for each its answer and the sum of what it left.
-// All share one scratch, which is not-a-number at first and never cleared, and one reader.
-// oracle/reader-cases made the list and what must be written for it: a line of 142 bytes for each call, a kind and 28 words of four hex digits:
+// Replays the stored list of calls of the reader on standard input, open, seek and row, and writes for each its answer and the sum of what
+// it left. All share one scratch, which is not-a-number at first and never cleared, and one reader.
+// oracle/reader-cases made the list and what must be written for it: a line of 142 bytes for each call, a kind and 28 words of four hex
+// digits:
 // w h rh rv cw ch sample_bytes maxval(2) y_stride cb_stride cr_stride y_len cb_len cr_len seed y_shape cb_shape cr_shape
 // space(2) room_cb room_cr row change value(3).
 use guided::Geometry;
@@ -16,6 +17,7 @@ struct Done {
     sum: u32,
 }
 
+// What a reply comes to, with the sum of the call's outputs.
 fn done_by(reply: Reply, sum: u32) -> Done {
     let answer = reply.answer;
     let reader = reply.reader;
@@ -26,12 +28,12 @@ fn done_by(reply: Reply, sum: u32) -> Done {
     }
 }
 
-// What no call has written.
+// An output that no call has written: it holds one value throughout, so that the sum shows which were written.
 fn unwritten() -> [f32; 65_536] {
     [1.5; 65_536]
 }
 
-// A phase as a number: its fraction's bits, and above them whether it goes to the left.
+// A phase as a number: the 32 bits of its fraction, and 2^32 more where it goes to the left.
 fn phase_number(p: Phase) -> usize {
     if p.left {
         return 4_294_967_296 + test_support::bits(p.f) as usize;
@@ -39,7 +41,8 @@ fn phase_number(p: Phase) -> usize {
     test_support::bits(p.f) as usize
 }
 
-// A reader as numbers: none, place, h_next, f_next, maxval, sample_bytes, w h rh rv cw ch and the phases.
+// A reader as sixteen numbers, of which a line can name one to change by its index: place, h_next, f_next, maxval, sample_bytes,
+// w h rh rv cw ch and the four phases. The first is 0, since a line says by index 0 that nothing is changed.
 fn numbers(r: Reader) -> [usize; 16] {
     let g = r.geometry;
     let p = g.phases;
@@ -63,10 +66,12 @@ fn numbers(r: Reader) -> [usize; 16] {
     ]
 }
 
+// The lower 32 bits of a number.
 fn low(n: usize) -> u32 {
     (n % 4_294_967_296) as u32
 }
 
+// The phase that `phase_number` makes n of.
 fn phase(n: usize) -> Phase {
     Phase {
         left: n >= 4_294_967_296,
@@ -74,7 +79,7 @@ fn phase(n: usize) -> Phase {
     }
 }
 
-// The reader of these numbers.
+// The reader that `numbers` makes these sixteen of; the first doesn't count.
 fn reader_of(n: [usize; 16]) -> Reader {
     let phases = [phase(n[12]), phase(n[13]), phase(n[14]), phase(n[15])];
     let geometry = Geometry {
@@ -96,7 +101,8 @@ fn reader_of(n: [usize; 16]) -> Reader {
     }
 }
 
-// A line's value; ffffffff stands for the largest usize.
+// The value that a line has a number of the reader changed to, of three words. ffffffff in the lower two stands for the largest usize,
+// 2^64 - 1.
 fn value(text: &[u8]) -> usize {
     let n = test_support::long(text, 26);
     if n == 4_294_967_295 {
@@ -105,7 +111,7 @@ fn value(text: &[u8]) -> usize {
     test_support::word(text, 25) * 4_294_967_296 + n
 }
 
-// The reader that a line's call is handed: the one at hand, with one number changed where the line says which.
+// The reader that a line's call is handed: the one that the calls before it left, with one number changed where the line says which.
 fn handed(text: &[u8], r: Reader) -> Reader {
     let change = test_support::word(text, 24);
     let mut n = numbers(r);
@@ -115,6 +121,7 @@ fn handed(text: &[u8], r: Reader) -> Reader {
     reader_of(n)
 }
 
+// A sum with a slice of 64-bit numbers added one after another, the upper half of each first.
 fn sum_numbers(sum: u32, n: &[usize]) -> u32 {
     let mut sum = sum;
     let mut i = 0;
@@ -128,6 +135,7 @@ fn sum_numbers(sum: u32, n: &[usize]) -> u32 {
     sum
 }
 
+// `open` with a line's layout and strides. It has no outputs to sum.
 fn open(text: &[u8], given: Reader, y: &[u8], cb: &[u8], cr: &[u8], s: &[f32]) -> Done {
     let reply = reconstruction::open(
         test_support::layout(text),
@@ -141,6 +149,7 @@ fn open(text: &[u8], given: Reader, y: &[u8], cb: &[u8], cr: &[u8], s: &[f32]) -
     done_by(reply, 0)
 }
 
+// `row` with a line's strides and row number, and the sum of both outputs after it.
 fn row_into(
     text: &[u8],
     given: Reader,
@@ -166,6 +175,7 @@ fn row_into(
     done_by(reply, sum)
 }
 
+// `row` into outputs that no call has written, as long as the line says.
 fn row(text: &[u8], given: Reader, y: &[u8], cb: &[u8], cr: &[u8], s: &mut [f32]) -> Done {
     let mut out_cb = unwritten();
     let mut out_cr = unwritten();
@@ -183,10 +193,12 @@ fn row(text: &[u8], given: Reader, y: &[u8], cb: &[u8], cr: &[u8], s: &mut [f32]
     )
 }
 
+// `seek` to a line's row number. It has no outputs to sum.
 fn seek(text: &[u8], given: Reader) -> Done {
     done_by(reconstruction::seek(given, test_support::size(text, 23)), 0)
 }
 
+// The call that a line's kind names, lent three planes and scratch.
 fn lent(text: &[u8], given: Reader, y: &[u8], cb: &[u8], cr: &[u8], s: &mut [f32]) -> Done {
     match test_support::byte(text, 0) {
         b'o' => open(text, given, y, cb, cr, s),
@@ -195,7 +207,7 @@ fn lent(text: &[u8], given: Reader, y: &[u8], cb: &[u8], cr: &[u8], s: &mut [f32
     }
 }
 
-// A line's call, lent its planes; seek has no use for them.
+// A line's call, lent the three planes that the line speaks of. They are grown for `seek` too, which has no use for them.
 fn called(text: &[u8], given: Reader, s: &mut [f32]) -> Done {
     let y = test_support::plane(text, 0);
     let cb = test_support::plane(text, 1);
@@ -206,7 +218,8 @@ fn called(text: &[u8], given: Reader, s: &mut [f32]) -> Done {
     lent(text, given, &y[..y_len], &cb[..cb_len], &cr[..cr_len], s)
 }
 
-// Writes a call's line: the sum is of its outputs, of the reader that it gave, and of whether it was refused and changed scratch.
+// Writes a call's line. The sum is of its outputs, of the reader that it gave, and of whether it was refused and changed scratch all the
+// same.
 fn write_call(done: Done, changed: bool) {
     let n = numbers(done.reader);
     let sum = sum_numbers(done.sum, &n);
@@ -214,7 +227,8 @@ fn write_call(done: Done, changed: bool) {
     test_support::write_line(done.answer, test_support::added(sum, fault));
 }
 
-// The reader after a line's call. That of a changed one is dropped.
+// Makes a line's call and gives the reader for the next line: the one that the call gave, or, where a number was changed for this call, the
+// one from before it.
 fn replayed(text: &[u8], reader: Reader, s: &mut [f32]) -> Reader {
     let before = test_support::sum_floats(0, s, 0);
     let done = called(text, handed(text, reader), s);
@@ -225,12 +239,14 @@ fn replayed(text: &[u8], reader: Reader, s: &mut [f32]) -> Reader {
     done.reader
 }
 
-// The same, lent the front of scratch.
+// Makes a line's call with as much of the front of scratch as the line says, and gives the reader for the next line.
 fn replay(text: &[u8], reader: Reader, s: &mut [f32]) -> Reader {
     let space = laws::least(test_support::long(text, 19), s.len());
     replayed(text, reader, &mut s[..space])
 }
 
+// Makes the calls of all lines, which have 142 bytes each, the newline too. The list ends where fewer are left. The first reader has 0
+// throughout, which no open gave.
 fn replay_all(s: &mut [f32]) {
     let mut text = [0u8; 142];
     let mut reader = reader_of([0; 16]);
@@ -242,7 +258,7 @@ fn replay_all(s: &mut [f32]) {
     }
 }
 
-// Scratch before the first call.
+// Scratch before the first call, not-a-number throughout, so that a value which is read before it was written shows.
 fn scratch() -> [f32; 200_000] {
     [0.0 / 0.0; 200_000]
 }

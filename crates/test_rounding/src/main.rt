@@ -1,8 +1,8 @@
-// Replays the fixed list of rounding, fmin, fmax and sample cases on standard input, and writes this library's answer to each.
+// Replays the stored list of rounding, fmin, fmax and sample cases on standard input, and writes this library's answer to each.
 // oracle/rounding-cases made the list, lines `K AAAAAAAA BBBBBBBB` of a kind and two operands, and what must be written for it.
 use libc::STDIN_FILENO;
 
-// The plane whose four bytes are the digits of n.
+// The plane whose four bytes are n's, the highest first.
 fn plane(n: u32) -> [u8; 4] {
     [
         (n / 16_777_216) as u8,
@@ -12,7 +12,7 @@ fn plane(n: u32) -> [u8; 4] {
     ]
 }
 
-// The one-byte sample at an index of that plane; past its end what no sample is.
+// The one-byte sample at an index of the plane of n's four bytes. Past its end it gives 2^16, which no sample is.
 fn sample_one(n: u32, index: u32) -> u32 {
     let plane = plane(n);
     if index < 4 {
@@ -21,7 +21,7 @@ fn sample_one(n: u32, index: u32) -> u32 {
     65_536
 }
 
-// The two-byte sample likewise.
+// The two-byte sample at an index of the plane of n's four bytes. Past its end it gives 2^16, which no sample is.
 fn sample_two(n: u32, index: u32) -> u32 {
     let plane = plane(n);
     if index < 2 {
@@ -30,7 +30,8 @@ fn sample_two(n: u32, index: u32) -> u32 {
     65_536
 }
 
-// The answer to a line: a number, or a float's bits. What is no line of the list has one that no line has.
+// The answer to a line: a number, or a float's bits. Where the kind is none of these it gives 2^32 - 2, which no answer is, since every
+// not-a-number counts as 2^32 - 1.
 fn answer(text: &[u8]) -> u32 {
     let a = test_support::eight(text, 2) as u32;
     let b = test_support::eight(text, 11) as u32;
@@ -46,6 +47,7 @@ fn answer(text: &[u8]) -> u32 {
     }
 }
 
+// A line has 20 bytes, its newline too; the list ends where fewer are left.
 fn main() {
     let mut text = [0u8; 20];
     for _ in 0..65_536usize {

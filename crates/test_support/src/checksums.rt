@@ -1,11 +1,12 @@
-// Sums over what a call left: of all the values in their order, so that no single one can change unseen.
+// Sums over what a call left: of all the values in their order, modulo 2^32, so that no single one can change unseen.
 
-// Inner: a sum with one more value. The factor is odd: another value gives another sum.
+// Inner: a sum with one more value, modulo 2^32. The factor, a linear congruential generator's, is odd, so that another value, here or
+// earlier, gives another sum.
 pub fn added(sum: u32, value: u32) -> u32 {
     ((sum as u64 * 1_103_515_245 + value as u64) % 4_294_967_296) as u32
 }
 
-// Inner: the sum so far with these bytes.
+// Inner: a sum with the values of a slice of bytes added one after another.
 pub fn sum_bytes(sum: u32, out: &[u8]) -> u32 {
     let mut sum = sum;
     let mut i = 0;
@@ -16,7 +17,7 @@ pub fn sum_bytes(sum: u32, out: &[u8]) -> u32 {
     sum
 }
 
-// Inner: the sum so far with these values.
+// Inner: a sum with a slice of 16-bit values added one after another.
 pub fn sum_values(sum: u32, out: &[u16]) -> u32 {
     let mut sum = sum;
     let mut i = 0;
@@ -27,7 +28,7 @@ pub fn sum_values(sum: u32, out: &[u16]) -> u32 {
     sum
 }
 
-// Inner: the sum so far with the bits of these floats, from a place on.
+// Inner: a sum with the bits of a slice's floats added one after another, from index `from` on.
 pub fn sum_floats(sum: u32, out: &[f32], from: usize) -> u32 {
     let mut sum = sum;
     let mut i = from;

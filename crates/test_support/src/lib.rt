@@ -1,11 +1,17 @@
-// test_support.
+// What the test programs share. Each of them replays a stored list of calls, a line for each, and writes a line with the call's answer
+// and a sum of what it left; the lists and the lines that must come of them are written by the scripts oracle/*-cases.
+//
+// A line is read by `words` (its numbers) and `lines` (layout, strides), planes are grown from a seed by `planes`, what a call left is
+// summed by `checksums`, and `answer_lines` writes the line. None of it is promised to anyone: contracts say only what keeps it safe.
+mod answer_lines;
 mod checksums;
 mod floats;
 mod lines;
 mod planes;
-mod shared;
 mod words;
 
+pub use answer_lines::number;
+pub use answer_lines::write_line;
 pub use checksums::added;
 pub use checksums::sum_bytes;
 pub use checksums::sum_floats;
@@ -18,8 +24,6 @@ pub use lines::strides;
 pub use planes::grow;
 pub use planes::grown;
 pub use planes::plane;
-pub use shared::number;
-pub use shared::write_line;
 pub use words::byte;
 pub use words::eight;
 pub use words::long;

@@ -1,11 +1,11 @@
-// What a line of a list says of its call beyond single numbers.
+// What the words of a line say together: the layout and the strides that its call is handed, and how much of scratch it may touch.
 use crate::words::long;
 use crate::words::size;
 use crate::words::word;
 use image::Layout;
 use image::Strides;
 
-// Inner: the layout that a line begins with: its first nine words.
+// Inner: the layout that a line begins with. It takes nine words, the maxval two of them.
 pub fn layout(text: &[u8]) -> Layout {
     Layout {
         w: size(text, 0),
@@ -19,7 +19,7 @@ pub fn layout(text: &[u8]) -> Layout {
     }
 }
 
-// Inner: the strides of the three planes: the words behind the layout.
+// Inner: the strides of the three planes, which stand in the three words behind the layout.
 pub fn strides(text: &[u8]) -> Strides {
     Strides {
         y: size(text, 9),
@@ -28,7 +28,8 @@ pub fn strides(text: &[u8]) -> Strides {
     }
 }
 
-// Inner: how much of its scratch a line's call may touch: the 64·cw + 8·w floats that it needs, or none where its answer is a refusal.
+// Inner: how many floats at the front of scratch a line's call may touch: the 64·cw + 8·w that it needs, or none where it was refused.
+// What stands behind them is summed, so that a call that writes there is seen.
 pub fn scratch_part(text: &[u8], answer: usize) -> usize {
     if answer != 0 {
         return 0;

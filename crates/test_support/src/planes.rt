@@ -1,12 +1,13 @@
-// What calls are handed: planes grown from a seed.
+// The planes that calls are handed, grown from a seed by a generator that oracle/*-cases has too, so that a line needn't spell them.
 ghost use Prim.Native.Nat.{_<_};
 
-// The next state of a linear congruential generator.
+// The next state of a linear congruential generator, modulo 2^32.
 fn next(state: u32) -> u32 {
     ((state as u64 * 1_103_515_245 + 12_345) % 4_294_967_296) as u32
 }
 
-// A byte of a plane, by its shape: of all values, of the sixteen smallest, or always the same: 77, or from 256 on the shape's low byte.
+// A byte of a plane by its shape. Shape 0 gives all values, from the state's upper eight bits; shape 1 the sixteen smallest, from its
+// upper four; shape 2 always 77; any other always the shape's own low byte.
 fn shaped(state: u32, shape: usize) -> u8 {
     if shape == 0 {
         return (state / 16_777_216) as u8;
@@ -20,7 +21,7 @@ fn shaped(state: u32, shape: usize) -> u8 {
     (shape % 256) as u8
 }
 
-// Inner: the bytes of a plane, from a number that stands for it: the generator's top bits.
+// Inner: fills a plane with bytes of a shape, from the generator's states behind a seed.
 pub fn grow(plane: &mut [u8], seed: usize, shape: usize) {
     let mut state = (seed % 4_294_967_296) as u32;
     let mut i = 0;
@@ -31,7 +32,7 @@ pub fn grow(plane: &mut [u8], seed: usize, shape: usize) {
     }
 }
 
-// Inner: a plane of n bytes, with room for as many as a word can say.
+// Inner: a plane of n bytes at the front of a buffer of 65,536, which has room for as many as a word of four hex digits can say.
 pub fn grown(n: usize, seed: usize, shape: usize) -> [u8; 65_536]
     requires { ⌜ n < 65536 ⌝ }
 {
@@ -40,7 +41,7 @@ pub fn grown(n: usize, seed: usize, shape: usize) -> [u8; 65_536]
     plane
 }
 
-// Inner: plane k of a line of three: Y, Cb and Cr.
+// Inner: plane k of the three that a line speaks of: 0 is Y, 1 Cb and 2 Cr. Their seeds follow each other, so that no two are alike.
 pub fn plane(text: &[u8], k: usize) -> [u8; 65_536]
     requires { ⌜ k < 3 ⌝ }
 {

@@ -1,8 +1,8 @@
-// The numbers of a line: words of four hex digits, a blank before each, after a byte for the kind.
+// The numbers of a line, which is a byte for the kind and then words of four hex digits with a blank before each.
 // Past a line's end every byte is 0 and every digit too.
 ghost use Prim.Native.Nat.{_<_};
 
-// Inner: the byte at a place.
+// Inner: the byte at a place of a line; 0 past its end.
 pub fn byte(text: &[u8], at: usize) -> u8 {
     if at < text.len() {
         return text[at];
@@ -10,7 +10,7 @@ pub fn byte(text: &[u8], at: usize) -> u8 {
     0
 }
 
-// A hex digit; 0 for any other byte, whose line then has a wrong number in it.
+// The value of a hex digit. Any other byte gives 0, so that a line with one has a wrong number in it and its answer shows that.
 fn digit(b: u8) -> usize
     ensures { λ r. ⌜ r < 16 ⌝ }
 {
@@ -29,6 +29,7 @@ fn digit(b: u8) -> usize
     0
 }
 
+// The number of the two digits at a place.
 fn two(text: &[u8], at: usize) -> usize
     requires { ⌜ at < 65536 ⌝ }
     ensures { λ r. ⌜ r < 256 ⌝ }
@@ -36,6 +37,7 @@ fn two(text: &[u8], at: usize) -> usize
     digit(byte(text, at)) * 16 + digit(byte(text, at + 1))
 }
 
+// The number of the four digits at a place.
 fn four(text: &[u8], at: usize) -> usize
     requires { ⌜ at < 65534 ⌝ }
     ensures { λ r. ⌜ r < 65536 ⌝ }
@@ -51,7 +53,7 @@ pub fn eight(text: &[u8], at: usize) -> usize
     four(text, at) * 65_536 + four(text, at + 4)
 }
 
-// Inner: word k of a line.
+// Inner: word k of a line, counted from 0. It stands behind the kind and k words of five bytes, blank and digits.
 pub fn word(text: &[u8], k: usize) -> usize
     requires { ⌜ k < 1000 ⌝ }
     ensures { λ r. ⌜ r < 65536 ⌝ }
@@ -59,7 +61,7 @@ pub fn word(text: &[u8], k: usize) -> usize
     four(text, 2 + 5 * k)
 }
 
-// Inner: words k and k+1 as one number.
+// Inner: words k and k+1 of a line as one number, the upper half first.
 pub fn long(text: &[u8], k: usize) -> usize
     requires { ⌜ k < 999 ⌝ }
     ensures { λ r. ⌜ r < 4294967296 ⌝ }
@@ -67,7 +69,7 @@ pub fn long(text: &[u8], k: usize) -> usize
     word(text, k) * 65_536 + word(text, k + 1)
 }
 
-// Inner: a size, stride or row: ffff stands for the largest usize.
+// Inner: word k of a line where it is a size, a stride or a row. ffff stands for the largest usize, 2^64 - 1, so that calls meet it too.
 pub fn size(text: &[u8], k: usize) -> usize
     requires { ⌜ k < 1000 ⌝ }
 {

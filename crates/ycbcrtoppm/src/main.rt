@@ -1,4 +1,6 @@
-// The picture program: three PGM images on standard input, a PPM or the line of a refusal on standard output.
+// 'The picture program' of document 01: three PGM images on standard input, a PPM or the line of a refusal on standard output.
+//
+// All that it decides is `picture::picture`'s; this reads, lends the memory and writes.
 ghost use Prim.Native.Nat.{_≤_};
 ghost use lib.ListN.{length};
 ghost use Rattle.ycbcrtoppm.specs.Lengths.{writtenLength};
@@ -6,16 +8,19 @@ use libc::STDIN_FILENO;
 use libc::STDOUT_FILENO;
 use picture::Outcome;
 
-// The longest input and one byte more, by which a longer one is seen to be too long.
+// How much is read: the longest input, netpbm's `Reading::LONGEST` of 49,152 bytes, and one more, by which a longer one is seen to be
+// too long.
 const INPUT: usize = 49_153;
 
-// The most scratch that a picture of 128 columns asks for, 64 · 128 + 8 · 128.
+// The most scratch that a picture asks for, 64 · cw + 8 · w floats: with netpbm's `Image::WIDTH` of 128 columns and as many cells that is
+// 64 · 128 + 8 · 128.
 const SCRATCH: usize = 9_216;
 
-// The longest header, and three bytes for each byte of the longest input. With as much, 9 and 10 are never given: `room-enough` of picture's proofs.
+// The most that is written: the longest header, netpbm's `Line::ROOM` of 16 bytes, and three bytes for each byte of the longest input,
+// 16 + 3 · 49,152. With `SCRATCH` and `OUT` refusals 9 and 10 are never given: `room-enough` of picture's proofs.
 const OUT: usize = 147_472;
 
-// The picture at the front of out, or the refusal's line; whether all of it was written.
+// Writes the picture that stands at the front of `out`, or the refusal's line, to standard output; says whether all of it was written.
 fn write_outcome(outcome: Outcome, out: &[u8]) -> bool
     requires { ⌜ writtenLength outcome ≤ length (now out) ⌝ }
 {
@@ -30,6 +35,7 @@ fn write_outcome(outcome: Outcome, out: &[u8]) -> bool
     }
 }
 
+// A refusal is an outcome like any other and leaves the status 0; only output that can't be written is a failure.
 fn main() {
     let mut input = [0u8; INPUT];
     let mut s = [0.0f32; SCRATCH];

@@ -1,3 +1,6 @@
+-- There are three ways out, each with its law of Readings for the outcome: `scratch-short` for 9, `out-short` for 10, `both-long` for the
+-- picture. On refusal nothing has been written, so that the slices are as they were by `refl`; otherwise they are what `put_ppm` promises.
+-- No product wraps, since what was read has 49,152 pixels at most (`pixels-most`).
 use mathlib.Core.Path.{refl, sym, _∙_, ap}
 use native.Mathlib.Omega.{arith}
 use borrow.Author.Needs.{needs}
@@ -9,7 +12,7 @@ use Rattle.netpbm.proofs.Acceptance.{taken}
 use Rattle.picture.specs.declared.Outcome.the-variants.{Written}
 use Rattle.picture.specs.Picture.{inputPlanes}
 use Rattle.picture.proofs.Fronts.{header-most, line-length, ppm-length}
-use Rattle.picture.proofs.Readings.{layout-sound, pixels-most, scratch-short, told, both-long, out-short}
+use Rattle.picture.proofs.Readings.{layout-sound, pixels-most, scratch-short, read-accepted, both-long, out-short}
 use Rattle.picture.proofs.written.Statement.{statement}
 use Rattle.picture.proofs.written.Tie as tie
 
@@ -20,7 +23,7 @@ returns : tie.Need-returns
 returns c =
     let s = c .before .before .before .before .before in
     let a = s .args in
-    record { answers = scratch-short (told _ _ _ _ _ (s .pre)) (a .s .now) (a .out .now) (rw (sym (c .before .scratch-need .ensures)) (c .if1 .taken)); gives = refl; scratches = refl }
+    record { answers = scratch-short (read-accepted _ _ _ _ _ (s .pre)) (a .s .now) (a .out .now) (rw (sym (c .before .scratch-need .ensures)) (c .if1 .taken)); gives = refl; scratches = refl }
 
 ppm-header-requires : tie.Need-ppm-header-requires
 ppm-header-requires c κs = let t = taken _ _ _ _ _ (c .before .before .before .before .before .pre) in let o = layout-sound t in (t .width, o .h-most)
@@ -46,7 +49,7 @@ returns-2 c =
     let s = c .before .before .before .before .before .before .before .before .before in
     let a = s .args in
     let n = ppm-length (a .layout) _ (c .before .before .before .ppm-header .ensures) in
-    record { answers = out-short (told _ _ _ _ _ (s .pre)) (a .s .now) (a .out .now) (rw (sym (c .before .before .before .before .before .scratch-need .ensures)) (c .before .before .before .before .if1 .left)) (rw (sym n) (c .if2 .taken)); gives = refl; scratches = refl }
+    record { answers = out-short (read-accepted _ _ _ _ _ (s .pre)) (a .s .now) (a .out .now) (rw (sym (c .before .before .before .before .before .scratch-need .ensures)) (c .before .before .before .before .if1 .left)) (rw (sym n) (c .if2 .taken)); gives = refl; scratches = refl }
 
 put-ppm-requires : tie.Need-put-ppm-requires
 put-ppm-requires c κs =
@@ -64,7 +67,7 @@ returns-3 : tie.Need-returns-3
 returns-3 c =
     let s = c .before .before .before .before .before .before .before .before .before .before .before .before .before .before .before .before in
     let a = s .args in
-    let t = told _ _ _ _ _ (s .pre) in
+    let t = read-accepted _ _ _ _ _ (s .pre) in
     let n = ppm-length (a .layout) _ (c .before .before .before .before .before .before .before .before .before .before .ppm-header .ensures) in
     let w = c .before .before .before .before .put-ppm .ensures in
     record {

@@ -1,3 +1,5 @@
+-- The invariant has the index below the count and the count within the room, whose length no write changes (`length-set`).
+-- The source may be shorter: it is read by `byte`, which takes every place, so only the sum of `from` and the index must not wrap.
 use mathlib.Core.Path.{_≡_}
 use Prim.Native.Nat.{_-_, _≤_}
 use native.Mathlib.Omega.{arith}

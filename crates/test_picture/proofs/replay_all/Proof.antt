@@ -1,3 +1,5 @@
+-- The loop counts to 65,536 at most, the line keeps its 17 bytes, and the three slices that are lent keep their lengths.
+-- The one fact that a turn hands to the next is that the input so far fits its buffer, which `replayed` asks for and promises again.
 use mathlib.Core.Path.{_≡_}
 use Prim.Native.Nat.{_-_, _≤_}
 use native.Mathlib.Omega.{arith}

@@ -1,3 +1,5 @@
+-- There are three branches: the input becomes the base, `picture` is called with the front of the buffer, or a piece is put behind it.
+-- The length of that front is the one fact given by hand (`length-take`); that the input still fits is what `put_piece` promises of its piece.
 use native.Mathlib.Omega.{arith}
 use lib.ListN.{length-take}
 use borrow.Author.Needs.{needs}

@@ -1,3 +1,5 @@
+-- The plane's length and the output's are words, so below 2^16, and scratch's is limited to 200,000: each slice is a front of its array.
+-- `length-take` gives the length of such a front. Nothing is promised of what is written, so that is all.
 use native.Mathlib.Omega.{arith}
 use lib.ListN.{length-take}
 use borrow.Author.Needs.{needs}

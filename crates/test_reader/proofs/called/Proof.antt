@@ -1,3 +1,5 @@
+-- A plane's buffer has 65,536 bytes and its length is a word, so below that: each slice that is lent is a front of its array.
+-- `length-take` gives the length of such a front; the rest is found by search, since the reader's calls ask for nothing.
 use native.Mathlib.Omega.{arith}
 use lib.ListN.{length-take}
 use borrow.Author.Needs.{needs}

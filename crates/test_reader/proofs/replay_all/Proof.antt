@@ -1,3 +1,5 @@
+-- The loop counts to 65,536 at most, the line keeps its 142 bytes, and scratch, which is lent to each call, keeps its length.
+-- No step is hard, since the reader's calls take every state and every slice.
 use mathlib.Core.Path.{_≡_}
 use Prim.Native.Nat.{_-_, _≤_}
 use native.Mathlib.Omega.{arith}

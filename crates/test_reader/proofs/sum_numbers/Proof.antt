@@ -1,3 +1,5 @@
+-- The index stays within the slice, which is what the two reads of each number ask for, and the loop ends since fewer are left each time.
+-- `low` and `added` take every number, so nothing else is to be shown.
 use Prim.Native.Nat.{_-_, _≤_}
 use native.Mathlib.Omega.{arith}
 use lib.ListN.{length}

@@ -1,3 +1,5 @@
+-- The loop counts to 65,536 at most, and the line keeps its 20 bytes, which is what reading into it and lending it ask for.
+-- Nothing is promised of what is written: that is compared with the stored lines, and only safety is proved.
 use mathlib.Core.Path.{_≡_}
 use Prim.Native.Nat.{_-_, _≤_}
 use native.Mathlib.Omega.{arith}

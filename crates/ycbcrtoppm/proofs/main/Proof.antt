@@ -1,3 +1,5 @@
+-- All but one need is found by search, since `picture` asks for nothing of what it is lent.
+-- The one is that `write_outcome` finds the whole picture in out: `outcome-fits`, which follows from what `picture` promises.
 use native.Mathlib.Omega.{arith}
 use borrow.Author.Needs.{needs}
 use Rattle.ycbcrtoppm.proofs.Fits.{outcome-fits}

@@ -1,3 +1,5 @@
+-- Five texts are put one behind the other. `line-more` of Written says after each what the line holds, and after the last that is `ppmHeader`.
+-- The work is in the room: a width has three digits at most and a height four, so that every part fits 16 bytes (`width-most` and its like).
 use mathlib.Core.Path.{_≡_}
 use mathlib.Core.List.{List, [], _∷_, _++_}
 use Prim.Native.Nat.{ℕ, _≤_}

@@ -1,3 +1,5 @@
+-- Three texts are put one behind the other. `line-more` of Written says after each what the line holds, and after the last that is
+-- `refusalLine`. There is always room: the number is a byte, so that it has three digits at most (`three-most`).
 use mathlib.Core.Path.{_≡_}
 use mathlib.Core.List.{List, [], _∷_, _++_}
 use Prim.Native.Nat.{ℕ, _≤_, _<_}

@@ -1,3 +1,6 @@
+-- The code tests numbers as they are held, so what it gives is the first of `heldTests`; by `held-tests` of Fields these are the image's own
+-- (`answered`). Each branch has passed the tests before its own (`pass1` to `pass7`). The last test's arithmetic rests on those: the blank
+-- behind the maxval stands inside, so nothing goes below 0, and the width is 128 at most, so the product doesn't wrap (`inside`, `area`).
 use mathlib.Core.Path.{_≡_, sym, ap, _∙_}
 use mathlib.Core.Bool.{not}
 use mathlib.Core.List.{List, []}
@@ -22,7 +25,7 @@ start c = c .before .before
 abbrev tests : (c : tie.Start) → List Test
 tests c = heldTests (c .args .input .now) (c .args .at) (c .args .width) (c .args .height) (c .args .maxval)
 
--- the tests are the image's
+-- the first of the tests on the numbers as they are held is the first of the image's own
 answered : (c : tie.Start) (a : Answer) → first (tests c) ≡ a → a ≡ first (imageTests (c .args .input .now) (c .args .at))
 answered c a e = sym e ∙ ap first (held-tests (c .pre .1) (c .pre .0))
 

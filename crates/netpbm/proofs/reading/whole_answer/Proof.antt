@@ -1,3 +1,5 @@
+-- Where the images were refused their answer stands (`pick-refused`). Otherwise the answer is the first of three tests (`later`), and each
+-- branch has passed those before its own (`pass1`, `pass2`); no step is hard, the tests are the code's conditions themselves.
 use mathlib.Core.Path.{_≡_, sym, _∙_}
 use mathlib.Core.Bool.{true}
 use mathlib.Core.List.{List, [], _∷_}
@@ -9,7 +11,7 @@ use Rattle.laws.specs.Refusals.{Test, first, accepted}
 use Rattle.laws.proofs.Refusals.{refused-here, passed-over, failed-accepted}
 use Rattle.image.specs.Tests.{badSize}
 use Rattle.netpbm.specs.Reading.{noRatio}
-use Rattle.netpbm.specs.Forms.{answerHeld}
+use Rattle.netpbm.specs.HeldInput.{answerHeld}
 use Rattle.netpbm.proofs.Whole.{pick-refused, pick-accepted}
 use Rattle.netpbm.proofs.reading.whole_answer.Statement.{statement}
 use Rattle.netpbm.proofs.reading.whole_answer.Tie as tie

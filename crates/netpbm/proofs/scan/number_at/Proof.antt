@@ -1,3 +1,6 @@
+-- The loop's invariant is `Counting` of Numbers: the value so far, with the digits that are left behind it, makes the number as it is held.
+-- That a value may be limited before its last digit is the hard step, and stands there (`counting-more`); here it remains that a digit
+-- stands inside the input (`digit-inside`), so that `end` doesn't wrap and the loop ends.
 use mathlib.Core.Path.{_≡_, refl, sym, _∙_}
 use mathlib.Core.Bool.{true}
 use Prim.Native.Nat.{_-_}

@@ -1,3 +1,5 @@
+-- Each part of the input that is lent begins inside it, since all rows of what was read do (`rows-inside` of Readings).
+-- What `fill` then leaves is the input's picture by `filled`, where the one argument stands: `fill` accepts these parts.
 use native.Mathlib.Omega.{arith}
 use borrow.Author.Needs.{needs}
 use Rattle.netpbm.proofs.Acceptance.{taken}

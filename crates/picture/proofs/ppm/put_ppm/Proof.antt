@@ -1,3 +1,5 @@
+-- `ppm-is` of Fronts carries it: the line at the front and what `put_pixels` left in the part behind it are `ppmOver` together.
+-- The needs before it are sums of lengths: the header has 16 bytes at most (`header-most`), and out room for it and the pixels (`ppm-covers`).
 use mathlib.Core.Path.{_∙_, ap}
 use native.Mathlib.Omega.{arith}
 use lib.ListN.{length-drop, length}
@@ -6,7 +8,7 @@ use Rattle.laws.proofs.Lists.{length-put}
 use Rattle.netpbm.specs.Lines.{ppmHeader}
 use Rattle.netpbm.proofs.Acceptance.{taken}
 use Rattle.picture.proofs.Fronts.{header-most, line-length, ppm-covers, picture-layout, ppm-is}
-use Rattle.picture.proofs.Readings.{to-end, told}
+use Rattle.picture.proofs.Readings.{to-end, read-accepted}
 use Rattle.picture.proofs.ppm.put_ppm.Statement.{statement}
 use Rattle.picture.proofs.ppm.put_ppm.Tie as tie
 
@@ -75,7 +77,7 @@ returns c =
     let m = header-most (a .layout .w) (a .layout .h) (t .width) in
     let k = ppm-covers (a .layout) in
     let g = s .pre .1 .1 .1 in
-    let o = told _ _ _ _ _ (s .pre .0) in
+    let o = read-accepted _ _ _ _ _ (s .pre .0) in
     let w = c .before .before .before .before .put-pixels .ensures in
     (ppm-is _ (a .layout) (picture-layout (a .input .now) (a .layout) (o .layout-is)) (a .header) (s .pre .1 .0) (a .out .now) (omega arith) _ _ (c .before .before .before .before .before .before .before .before .before .put-line .ensures) (w .0), w .1)
 

@@ -1,3 +1,5 @@
+-- Digits are pushed from the highest down. Digits has `digitsOf n` spelled out for one, two, three and four digits, and each branch rewrites
+-- by its one. The same laws give how many digits there are (`has-1` to `has-4`), and so that there is room for each push.
 use mathlib.Core.Path.{_≡_, ap, _∙_}
 use Prim.Native.Nat.{_+_, _/_, _%_}
 use native.Mathlib.Omega.{arith}

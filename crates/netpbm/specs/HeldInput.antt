@@ -1,4 +1,4 @@
--- What the inner functions hold of three images. Definitions only.
+-- The whole input as the inner functions hold it: the layout of three images as Held has them, and the answer to them. Definitions only.
 use mathlib.Core.Bool.{Bool}
 use mathlib.Core.List.{[], _∷_}
 use Rattle.laws.specs.declared.answers.Answer.{Answer}
@@ -9,7 +9,7 @@ use Rattle.image.specs.Tests.{badSize}
 use Rattle.netpbm.specs.declared.pgm.Image.{Image}
 use Rattle.netpbm.specs.Reading.{ratioFor, noRatio}
 
--- the layout of three images
+-- the layout that the sides of three images make, of which Reading's `inputLayout` is the same over the input itself
 unfoldable pub layoutHeld : Image → Image → Image → Layout
 layoutHeld y cb cr = record {
   w = y .w;
@@ -22,11 +22,11 @@ layoutHeld y cb cr = record {
   maxval = 255;
 }
 
--- a refusal stands; past it the other answers
+-- the first answer where it is a refusal, and the second where the first is accepted
 abbrev pub orAnswer : Answer → Answer → Answer
 orAnswer Accepted a = a
 orAnswer (Refused n) a = Refused n
 
--- the answer to three images: theirs, then what is left over, the sides and the ratios
+-- the answer to the whole input: the images' own, then the tests for bytes left over, for the sides and for the ratios
 unfoldable pub answerHeld : Answer → Bool → Layout → Answer
 answerHeld a left l = orAnswer a (first ((left, 14) ∷ (badSize l, 2) ∷ (noRatio l, 5) ∷ []))
