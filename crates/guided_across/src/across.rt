@@ -14,6 +14,8 @@ use crate::luma::luma_row;
 use crate::sums::load_row;
 use crate::sums::product_sum_row;
 use crate::sums::sum_row;
+use guided_window::ChromaBuffer;
+use guided_window::LumaBuffer;
 use guided_window::first_of;
 use guided_window::slot_at;
 use image::Chroma;
@@ -28,15 +30,15 @@ pub struct Slots {
     pub products: usize,
 }
 
-// The buffers n, n + 1 and n + 2 of chroma row j.
+// The three buffers of chroma row j from buffer n on: luma's (cells, sums, sums of squares), or a component's (cells, sums, sums of products).
 fn slots_at(layout: Layout, n: usize, j: usize) -> Slots
     requires { ⌜ Sound layout × (n < 13) ⌝ }
     ensures { λ t. ⌜ SlotsGiven layout n j t ⌝ }
 {
     Slots {
         at: slot_at(layout, n, j),
-        sums: slot_at(layout, n + 1, j),
-        products: slot_at(layout, n + 2, j),
+        sums: slot_at(layout, n + ChromaBuffer::SUM, j),
+        products: slot_at(layout, n + ChromaBuffer::PRODUCT_SUM, j),
     }
 }
 
@@ -46,7 +48,7 @@ fn luma_part(layout: Layout, plane: &[u8], stride: usize, j: usize, s: &mut [f32
     requires { ⌜ (j < layout .ch) × (scratchNeed layout ≤ length (now s)) ⌝ }
     ensures { λ _. ⌜ now (s .exit) ≡ lumaPart layout (sampleAt (layout .«sample_bytes») (planeOf (now (plane .entry)) stride)) j (now (s .entry)) ⌝ }
 {
-    let t = slots_at(layout, 0, j);
+    let t = slots_at(layout, LumaBuffer::CELL, j);
     let y = t.at;
     let cw = layout.cw;
     luma_row(layout, plane, stride, j, s, y);
@@ -60,7 +62,7 @@ fn chroma_part(layout: Layout, plane: &[u8], stride: usize, k: Chroma, j: usize,
     requires { ⌜ (j < layout .ch) × (scratchNeed layout ≤ length (now s)) ⌝ }
     ensures { λ _. ⌜ now (s .exit) ≡ chromaPart layout (sampleAt (layout .«sample_bytes») (planeOf (now (plane .entry)) stride)) k j (now (s .entry)) ⌝ }
 {
-    let y = slot_at(layout, 0, j);
+    let y = slot_at(layout, LumaBuffer::CELL, j);
     let t = slots_at(layout, first_of(k), j);
     let c = t.at;
     let cw = layout.cw;

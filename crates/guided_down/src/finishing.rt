@@ -10,6 +10,7 @@ ghost use Rattle.guided.specs.Scratch.{finish};
 ghost use Rattle.guided_window.specs.Lent.{ChromaCells, componentsOf};
 ghost use Rattle.guided_down.specs.Down.{downRow};
 use crate::extremes::extreme_row;
+use guided_window::ChromaBuffer;
 use guided_window::slot_at;
 use image::Chroma;
 use image::Components;
@@ -22,8 +23,8 @@ fn down_row(layout: Layout, plane: &[u8], stride: usize, k: Chroma, j: usize, s:
     ensures { λ _. ⌜ now (s .exit) ≡ downRow layout (planeOf (now (plane .entry)) stride) k j (now (s .entry)) ⌝ }
 {
     let n = guided_window::first_of(k);
-    let least = slot_at(layout, n + 4, j);
-    let greatest = slot_at(layout, n + 5, j);
+    let least = slot_at(layout, n + ChromaBuffer::LEAST, j);
+    let greatest = slot_at(layout, n + ChromaBuffer::GREATEST, j);
     crate::slopes::slope_row(layout, k, j, s);
     extreme_row(layout, plane, stride, false, j, s, least);
     extreme_row(layout, plane, stride, true, j, s, greatest);

@@ -10,6 +10,8 @@ ghost use Rattle.guided_down.specs.Slopes.{slopeBy, meanAt, slopeAt, slo
 ghost use Rattle.image.specs.Tests.{Sound};
 ghost use Rattle.image.specs.Scratch.{scratchNeed};
 use guided::Geometry;
+use guided_window::ChromaBuffer;
+use guided_window::LumaBuffer;
 use guided_window::Window;
 use guided_window::first_of;
 use guided_window::slot_at;
@@ -134,10 +136,10 @@ fn stats_at(layout: Layout, k: Chroma, j: usize) -> Stats
 {
     let first = first_of(k);
     Stats {
-        y: window_at(layout, 1, j),
-        yy: window_at(layout, 2, j),
-        c: window_at(layout, first + 1, j),
-        yc: window_at(layout, first + 2, j),
+        y: window_at(layout, LumaBuffer::SUM, j),
+        yy: window_at(layout, LumaBuffer::SQUARE_SUM, j),
+        c: window_at(layout, first + ChromaBuffer::SUM, j),
+        yc: window_at(layout, first + ChromaBuffer::PRODUCT_SUM, j),
     }
 }
 
@@ -147,6 +149,6 @@ pub fn slope_row(layout: Layout, k: Chroma, j: usize, s: &mut [f32])
     ensures { λ _. ⌜ now (s .exit) ≡ slopeRow layout k j (now (s .entry)) ⌝ }
 {
     let t = stats_at(layout, k, j);
-    let dst = slot_at(layout, first_of(k) + 3, j);
+    let dst = slot_at(layout, first_of(k) + ChromaBuffer::SLOPE, j);
     slope_cells(s, t, epsilon_of(layout), layout.cw, dst);
 }

@@ -5,6 +5,7 @@ ghost use Rattle.image.specs.Tests.{Sound};
 ghost use Rattle.fround.specs.Rounding.{fmin, fmax};
 ghost use Rattle.guided.specs.Scratch.{finishedAt, columnOf};
 ghost use Rattle.guided_pixels.specs.Values.{bandsOf};
+use guided_window::ChromaBuffer;
 use image::Chroma;
 use image::Layout;
 
@@ -46,8 +47,8 @@ pub fn bands_of(layout: Layout, k: Chroma, j: usize) -> Bands
     Bands {
         cells: crate::columns::column_at(layout, m),
         slopes: crate::columns::column_at(layout, m + 1),
-        least: guided_window::slot_at(layout, n + 4, j),
-        greatest: guided_window::slot_at(layout, n + 5, j),
+        least: guided_window::slot_at(layout, n + ChromaBuffer::LEAST, j),
+        greatest: guided_window::slot_at(layout, n + ChromaBuffer::GREATEST, j),
     }
 }
 

@@ -5,6 +5,7 @@ ghost use lib.ListN.{length};
 ghost use Rattle.image.specs.Tests.{Sound};
 ghost use Rattle.image.specs.Scratch.{scratchNeed};
 ghost use Rattle.guided_pixels.specs.Columns.{lerpRun, ColumnGiven, downColumn};
+use guided_window::Window;
 use image::Layout;
 
 // The n cells at a and at b, lerped by f, to s from dst on.
@@ -19,12 +20,12 @@ fn lerp_row(s: &mut [f32], a: usize, b: usize, f: f32, n: usize, dst: usize)
     }
 }
 
-// Inner: where row of cells m of a picture row begins.
+// Inner: where row of cells m of a picture row begins: these rows lie behind the window.
 pub fn column_at(layout: Layout, m: usize) -> usize
     requires { ⌜ Sound layout × (m < 5) ⌝ }
     ensures { λ r. ⌜ ColumnGiven layout m r ⌝ }
 {
-    3 * layout.w + (45 + m) * guided_window::pitch_of(layout.cw)
+    Window::FRONT * layout.w + (Window::BUFFERS + m) * guided_window::pitch_of(layout.cw)
 }
 
 // Inner: buffer n of the window, lerped down for picture row y into row of cells m.

@@ -11,6 +11,7 @@ use crate::columns::column_at;
 use crate::detail_runs::detail_run;
 use crate::detail_twos::detail_twos;
 use crate::pairs::cell_at;
+use guided_window::Window;
 use guided_window::sample_at;
 use image::Layout;
 use taps::Phase;
@@ -152,6 +153,6 @@ pub fn detail_row(layout: Layout, plane: &[u8], stride: usize, y: usize, s: &mut
     ensures { λ _. ⌜ now (s .exit) ≡ detailLine layout (planeOf (now (plane .entry)) stride) y (now (s .entry)) ⌝ }
 {
     let src = column_at(layout, 0);
-    let dst = 2 * layout.w;
+    let dst = Window::DETAIL * layout.w;
     detail_cells(layout, plane, stride, y, s, src, dst);
 }

@@ -13,6 +13,8 @@ use crate::bands::column_of;
 use crate::columns::down_column;
 use crate::details::detail_row;
 use crate::values::value_row;
+use guided_window::ChromaBuffer;
+use guided_window::LumaBuffer;
 use image::Chroma;
 use image::Components;
 use image::Layout;
@@ -25,7 +27,7 @@ fn downs(layout: Layout, k: Chroma, y: usize, s: &mut [f32])
     let n = guided_window::first_of(k);
     let m = column_of(k);
     down_column(layout, n, m, y, s);
-    down_column(layout, n + 3, m + 1, y, s);
+    down_column(layout, n + ChromaBuffer::SLOPE, m + 1, y, s);
 }
 
 // A component's rows of cells of row y, and its finished row.
@@ -49,7 +51,7 @@ pub fn guided_row(
     requires { ⌜ Cells layout (planeOf (now y) «y_stride») × (row < layout .h) × (scratchNeed layout ≤ length (now s)) ⌝ }
     ensures { λ _. ⌜ ((cb cr : Plane) → now (s .exit) ≡ windowRow (pictureOf layout (record { y = planeOf (now (y .entry)) «y_stride»; cb = cb; cr = cr })) (componentsOf components) row (now (s .entry))) ⌝ }
 {
-    down_column(layout, 0, 0, row, s);
+    down_column(layout, LumaBuffer::CELL, 0, row, s);
     detail_row(layout, y, y_stride, row, s);
     component(layout, Chroma::Cb, row, s);
     let Components::Both = components else {

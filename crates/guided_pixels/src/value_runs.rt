@@ -7,6 +7,7 @@ ghost use Rattle.guided_pixels.specs.Values.{BandsInside, valueAt, value
 use crate::bands::Bands;
 use crate::bands::limited;
 use crate::pairs::across_pixel;
+use guided_window::Window;
 use image::Layout;
 
 // A component's value in column x: its cells and slopes lerped across, the detail between them, raised to the least and lowered to the greatest of its cell.
@@ -19,7 +20,7 @@ fn value_at(layout: Layout, s: &[f32], t: Bands, x: usize) -> f32
     let i = x / layout.rh;
     let lo = t.least;
     let hi = t.greatest;
-    let d = s[2 * layout.w + x];
+    let d = s[Window::DETAIL * layout.w + x];
     limited(c + a * d, s[lo + i], s[hi + i])
 }
 

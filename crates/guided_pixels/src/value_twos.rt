@@ -10,6 +10,7 @@ use crate::bands::limited;
 use crate::pairs::Pair;
 use crate::pairs::pair_at;
 use crate::value_runs::value_run;
+use guided_window::Window;
 use image::Layout;
 use lanes::Lanes;
 use lanes::put_block;
@@ -24,7 +25,7 @@ fn value_pair(layout: Layout, s: &[f32], t: Bands, i: usize) -> Pair
     let a = pair_at(s, t.slopes, i);
     let lo = t.least;
     let hi = t.greatest;
-    let at = 2 * layout.w;
+    let at = Window::DETAIL * layout.w;
     let least = s[lo + (i + 1)];
     let greatest = s[hi + (i + 1)];
     let d = s[at + (2 + 2 * i)];

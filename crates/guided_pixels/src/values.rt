@@ -13,6 +13,7 @@ use crate::bands::limited;
 use crate::pairs::cell_at;
 use crate::value_runs::value_run;
 use crate::value_twos::value_twos;
+use guided_window::Window;
 use image::Chroma;
 use image::Layout;
 use taps::Phase;
@@ -29,7 +30,7 @@ fn value_cell(layout: Layout, phases: [Phase; 4], s: &mut [f32], t: Bands, dst: 
     let hi = t.greatest;
     let least = s[lo + i];
     let greatest = s[hi + i];
-    let at = 2 * layout.w;
+    let at = Window::DETAIL * layout.w;
     let rh = layout.rh;
     let x = i * rh;
     let mut k = 0;
@@ -65,7 +66,11 @@ fn value_one(layout: Layout, s: &[f32], t: Bands, x: usize) -> f32
     let hi = t.greatest;
     let c = taps::lerp(s[cells + x], s[cells + (x + 1)], 0.0);
     let a = taps::lerp(s[slopes + x], s[slopes + (x + 1)], 0.0);
-    limited(c + a * s[2 * layout.w + x], s[lo + x], s[hi + x])
+    limited(
+        c + a * s[Window::DETAIL * layout.w + x],
+        s[lo + x],
+        s[hi + x],
+    )
 }
 
 // Of n cells, from cell 1 on, at ratio 1.

@@ -16,6 +16,46 @@ pub struct Window {
     pub down: usize,
 }
 
+impl Window {
+    // The buffers of a slot, and those of the window: three slots, so that row r lies in slot r mod 3.
+    pub const SLOT: usize = 15;
+
+    pub const BUFFERS: usize = 45;
+
+    // What stands before the buffers, in rows as wide as the picture: the finished rows of Cb and Cr, then the detail.
+    pub const DETAIL: usize = 2;
+
+    pub const FRONT: usize = 3;
+}
+
+// The buffers of a slot that luma has, by number.
+pub struct LumaBuffer;
+
+impl LumaBuffer {
+    pub const CELL: usize = 0;
+
+    pub const SUM: usize = 1;
+
+    pub const SQUARE_SUM: usize = 2;
+}
+
+// The buffers of a slot that a component has, counted from its first.
+pub struct ChromaBuffer;
+
+impl ChromaBuffer {
+    pub const CELL: usize = 0;
+
+    pub const SUM: usize = 1;
+
+    pub const PRODUCT_SUM: usize = 2;
+
+    pub const SLOPE: usize = 3;
+
+    pub const LEAST: usize = 4;
+
+    pub const GREATEST: usize = 5;
+}
+
 // Inner: how far apart the row buffers of cw cells begin.
 pub fn pitch_of(cw: usize) -> usize
     requires { ⌜ cw ≤ 8192 ⌝ }
@@ -39,7 +79,7 @@ pub fn slot_at(layout: Layout, n: usize, r: usize) -> usize
     requires { ⌜ Sound layout × (n < 15) ⌝ }
     ensures { λ x. ⌜ SlotGiven layout n r x ⌝ }
 {
-    3 * layout.w + (r % 3 * 15 + n) * pitch_of(layout.cw)
+    Window::FRONT * layout.w + (r % 3 * Window::SLOT + n) * pitch_of(layout.cw)
 }
 
 // Inner: buffer n round chroma row j.

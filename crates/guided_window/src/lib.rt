@@ -3,6 +3,8 @@ mod buffers;
 mod neighbours;
 mod samples;
 
+pub use buffers::ChromaBuffer;
+pub use buffers::LumaBuffer;
 pub use buffers::Window;
 pub use buffers::first_of;
 pub use buffers::pitch_of;

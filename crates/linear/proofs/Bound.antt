@@ -97,25 +97,13 @@ down-near a b k d al bl h l =
     (lerp-bound (f32 a) (f32 b) (fractionOf k d) a b 1 k d 0 (lit≤ tt) (omega arith) (le-of-lt h) al bl (lit≤ tt) (tap-fraction k d h l .part) (whole-near a (le-trans al (lit≤ tt))) (whole-near b (le-trans bl (lit≤ tt))))
 
 -- four cells by any two taps of the table, within 16 / 256
-<<<<<<< HEAD
-pub bilinear-near : (c : ℕ → ℕ → ℕ) → ((j i : ℕ) → c j i ≤ 65535) → (v h : Spot) → Valid v → Valid h → Near (acrossBy (tapOn h) (downBy (tapOn v) c)) (exactNum c v h) 0 (exactDen v h) 16
+pub bilinear-near : (c : ℕ → ℕ → ℕ) → ((j i : ℕ) → c j i ≤ 65535) → (v h : Spot) → Valid v → Valid h → NearFraction (acrossBy (tapOn h) (downBy (tapOn v) c)) (exactNum c v h) 0 (exactDen v h) 16
 bilinear-near c b v h p q =
-    let column : (i : ℕ) → Near (downBy (tapOn v) c i) (mix (c (v .near) i) (c (v .far) i) (v .k) (v .d)) 0 (v .d) 4 =
+    let column : (i : ℕ) → NearFraction (downBy (tapOn v) c i) (mix (c (v .near) i) (c (v .far) i) (v .k) (v .d)) 0 (v .d) 4 =
     λ i. down-near (c (v .near) i) (c (v .far) i) (v .k) (v .d) (b (v .near) i) (b (v .far) i) (p .part) (p .small) in
     let small : (i : ℕ) → mix (c (v .near) i) (c (v .far) i) (v .k) (v .d) ≤ 65535 * v .d =
     λ i. subst (λ (x : ℕ). mix (c (v .near) i) (c (v .far) i) (v .k) (v .d) ≤ 65535 * x) (one-mul (v .d))
     (mix-le (c (v .near) i) (c (v .far) i) (v .k) (v .d) 1 (le-of-lt (p .part)) (b (v .near) i) (b (v .far) i)) in
     lerp-bound (downBy (tapOn v) c (h .near)) (downBy (tapOn v) c (h .far)) (fractionOf (h .k) (h .d)) (mix (c (v .near) (h .near)) (c (v .far) (h .near)) (v .k) (v .d))
     (mix (c (v .near) (h .far)) (c (v .far) (h .far)) (v .k) (v .d)) (v .d) (h .k) (h .d) 4 (omega arith) (omega arith) (le-of-lt (q .part)) (small (h .near)) (small (h .far)) (lit≤ tt)
-=======
-pub bilinear-near : (c : ℕ → ℕ → ℕ) → ((i j : ℕ) → c i j ≤ 65535) → (v h : Spot) → Valid v → Valid h → NearFraction (acrossBy (tapOn h) (downBy (tapOn v) c)) (exactNum c v h) 0 (exactDen v h) 16
-bilinear-near c b v h p q =
-    let column : (i : ℕ) → NearFraction (downBy (tapOn v) c i) (mix (c i (v .near)) (c i (v .far)) (v .k) (v .d)) 0 (v .d) 4 =
-    λ i. down-near (c i (v .near)) (c i (v .far)) (v .k) (v .d) (b i (v .near)) (b i (v .far)) (p .part) (p .small) in
-    let small : (i : ℕ) → mix (c i (v .near)) (c i (v .far)) (v .k) (v .d) ≤ 65535 * v .d =
-    λ i. subst (λ (x : ℕ). mix (c i (v .near)) (c i (v .far)) (v .k) (v .d) ≤ 65535 * x) (one-mul (v .d))
-    (mix-le (c i (v .near)) (c i (v .far)) (v .k) (v .d) 1 (le-of-lt (p .part)) (b i (v .near)) (b i (v .far))) in
-    lerp-bound (downBy (tapOn v) c (h .near)) (downBy (tapOn v) c (h .far)) (fractionOf (h .k) (h .d)) (mix (c (h .near) (v .near)) (c (h .near) (v .far)) (v .k) (v .d))
-    (mix (c (h .far) (v .near)) (c (h .far) (v .far)) (v .k) (v .d)) (v .d) (h .k) (h .d) 4 (omega arith) (omega arith) (le-of-lt (q .part)) (small (h .near)) (small (h .far)) (lit≤ tt)
->>>>>>> bc64099ff3da4ce20fabbca3443c12dffd5f1618
     (tap-fraction (h .k) (h .d) (q .part) (q .small) .part) (column (h .near)) (column (h .far))

@@ -37,13 +37,8 @@ pub record Spanned (c : ℕ → ℕ → ℕ) (v h : Spot) (lo hi : ℕ) : Type 0
 -- at every row and column, ratios 1 to 4, for samples up to 65,535
 pub record LinearClaims : Type 0 where
   -- the float is within 16 / 256 of exactNum / exactDen
-<<<<<<< HEAD
   pub within : (l : Layout) (c : ℕ → ℕ → ℕ) → ((j i : ℕ) → c j i ≤ 65535) → (0 < l .rh) × (l .rh ≤ 4) → (0 < l .rv) × (l .rv ≤ 4) → (y x : ℕ)
-      → Near (linearSample l c y x) (exactNum c (rowSpot l y) (columnSpot l x)) 0 (exactDen (rowSpot l y) (columnSpot l x)) 16
-=======
-  pub within : (l : Layout) (c : ℕ → ℕ → ℕ) → ((i j : ℕ) → c i j ≤ 65535) → (0 < l .rh) × (l .rh ≤ 4) → (0 < l .rv) × (l .rv ≤ 4) → (y x : ℕ)
       → NearFraction (linearSample l c y x) (exactNum c (rowSpot l y) (columnSpot l x)) 0 (exactDen (rowSpot l y) (columnSpot l x)) 16
->>>>>>> bc64099ff3da4ce20fabbca3443c12dffd5f1618
   -- and lies between any two whole numbers that its four cells lie between
   pub spanned : (l : Layout) (c : ℕ → ℕ → ℕ) → (0 < l .rh) × (l .rh ≤ 4) → (0 < l .rv) × (l .rv ≤ 4) → (y x lo hi : ℕ) → hi ≤ 65535
       → Spanned c (rowSpot l y) (columnSpot l x) lo hi → T (le (f32 lo) (linearSample l c y x)) × T (le (linearSample l c y x) (f32 hi))
