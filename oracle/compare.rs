@@ -3,7 +3,8 @@
 use oracle::{Bytes, Chroma, GuidedReader, Numbers};
 // The one path into what is compared: the public crate, which through-c.rs has under the same name.
 use sources::reconstruction::{
-    self as ours, Answer, ChromaUpsampling, Geometry, Layout, Phase, Pixel, Reader, YcbcrKernel,
+    self as ours, Answer, ChromaUpsampling, Geometry, Layout, Phase, Pixel, Reader, Strides,
+    YcbcrKernel,
 };
 
 /// Marsaglia's 64-bit xorshift with the shifts 13, 7, 17.
@@ -32,6 +33,10 @@ struct Picture {
     y: Plane,
     cb: Plane,
     cr: Plane,
+}
+
+fn strides(p: &Picture) -> Strides {
+    Strides { y: p.y.stride, cb: p.cb.stride, cr: p.cr.stride }
 }
 
 /// Noise, flat noise with peaks, or a slope; with padding and surplus.
@@ -137,7 +142,7 @@ impl Course {
 
     fn open(&mut self, p: &Picture) {
         let a = ours::open(
-            p.layout, &p.y.data, p.y.stride, &p.cb.data, p.cb.stride, &p.cr.data, p.cr.stride,
+            p.layout, &p.y.data, &p.cb.data, &p.cr.data, strides(p),
             &self.scratch, self.state,
         );
         self.expect(a.answer == Answer::Accepted);
@@ -163,7 +168,7 @@ impl Course {
         let l = p.layout;
         let (mut cb, mut cr) = (vec![-7.0f32; l.w + 2], vec![-9.0f32; l.w + 1]);
         let a = ours::row(
-            self.state, &p.y.data, p.y.stride, &p.cb.data, p.cb.stride, &p.cr.data, p.cr.stride,
+            self.state, &p.y.data, &p.cb.data, &p.cr.data, strides(p),
             y, &mut self.scratch, &mut cb, &mut cr,
         );
         if l.h <= y || y < self.place {
@@ -265,7 +270,7 @@ fn fill(r: &mut Random, t: usize) -> usize {
         false => (YcbcrKernel::Exact, oracle::Kernel::Exact),
     };
     let a = ours::fill(
-        l, &p.y.data, p.y.stride, &p.cb.data, p.cb.stride, &p.cr.data, p.cr.stride,
+        l, &p.y.data, &p.cb.data, &p.cr.data, strides(&p),
         up, kernel, size, &mut s, &mut out,
     );
     let whole = l.w * l.h * size;

@@ -52,6 +52,17 @@ pub mod reconstruction {
     }
 
     #[derive(Clone, Copy, Debug, PartialEq)]
+    pub struct Strides {
+        pub y: usize,
+        pub cb: usize,
+        pub cr: usize,
+    }
+
+    fn raw_strides(s: Strides) -> ChromaStrides {
+        ChromaStrides { y: s.y, cb: s.cb, cr: s.cr }
+    }
+
+    #[derive(Clone, Copy, Debug, PartialEq)]
     pub struct Phase {
         pub left: bool,
         pub f: f32,
@@ -200,10 +211,10 @@ pub mod reconstruction {
 
     #[allow(clippy::too_many_arguments)]
     pub fn open(
-        layout: Layout, y: &[u8], y_stride: usize, cb: &[u8], cb_stride: usize, cr: &[u8], cr_stride: usize,
+        layout: Layout, y: &[u8], cb: &[u8], cr: &[u8], strides: Strides,
         s: &[f32], reader: Reader,
     ) -> Reply {
-        let strides = ChromaStrides { y: y_stride, cb: cb_stride, cr: cr_stride };
+        let strides = raw_strides(strides);
         // SAFETY: each pointer and length are one slice's, and nothing is written.
         reply(unsafe {
             chroma_open(
@@ -220,10 +231,10 @@ pub mod reconstruction {
 
     #[allow(clippy::too_many_arguments)]
     pub fn row(
-        reader: Reader, y: &[u8], y_stride: usize, cb: &[u8], cb_stride: usize, cr: &[u8], cr_stride: usize,
+        reader: Reader, y: &[u8], cb: &[u8], cr: &[u8], strides: Strides,
         row: usize, s: &mut [f32], out_cb: &mut [f32], out_cr: &mut [f32],
     ) -> Reply {
-        let strides = ChromaStrides { y: y_stride, cb: cb_stride, cr: cr_stride };
+        let strides = raw_strides(strides);
         guarded_floats(s, |s| {
             guarded_floats(out_cb, |b| {
                 guarded_floats(out_cr, |r| {
@@ -252,10 +263,10 @@ pub mod reconstruction {
 
     #[allow(clippy::too_many_arguments)]
     pub fn fill(
-        layout: Layout, y: &[u8], y_stride: usize, cb: &[u8], cb_stride: usize, cr: &[u8], cr_stride: usize,
+        layout: Layout, y: &[u8], cb: &[u8], cr: &[u8], strides: Strides,
         upsampling: ChromaUpsampling, kernel: YcbcrKernel, size: usize, s: &mut [f32], out: &mut [u8],
     ) -> Answer {
-        let strides = ChromaStrides { y: y_stride, cb: cb_stride, cr: cr_stride };
+        let strides = raw_strides(strides);
         guarded_floats(s, |s| {
             guarded(out, 165, |out| {
                 // SAFETY: each pointer and length are one slice's; the copies overlap nothing.
