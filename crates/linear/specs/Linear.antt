@@ -48,14 +48,14 @@ pub record Ready (l : Layout) (p : Plane) (space : ℕ) : Type 0 where
 
 -- ---- what the papers leave free: what scratch holds after an accepted call
 
--- where the cells of a row that were lerped down lie: behind two finished rows of w values
-abbrev pub columnAt : Layout → ℕ
-columnAt l = 2 * l .w
+-- where the cells of a row lie in scratch once they are lerped down: behind two finished rows of w values
+abbrev pub linearCellsAt : Layout → ℕ
+linearCellsAt l = 2 * l .w
 
--- scratch after row y: the cells lerped down at columnAt, and from them the finished row at `at`
+-- scratch after row y: the cells lerped down, at linearCellsAt, and the finished row that they give, at `at`
 unfoldable pub linearRow : Layout → Plane → ℕ → ℕ → List Float → List Float
 linearRow l p at y s =
-    put (put s (columnAt l) (l .cw) (linearDown l (sampleAt (l .«sample_bytes») p) y))
+    put (put s (linearCellsAt l) (l .cw) (linearDown l (sampleAt (l .«sample_bytes») p) y))
     at (l .w) (linearSample l (sampleAt (l .«sample_bytes») p) y)
 
 -- scratch after the first n rows of a plane, each at 0
