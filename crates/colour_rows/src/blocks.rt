@@ -8,33 +8,33 @@ ghost use Rattle.colour_rows.specs.Colours.{colourBy, rowColour, colourR
 ghost use Rattle.colour_rows.specs.Lent.{RowLent, Blocked};
 ghost use Rattle.kernels.specs.declared.kernel.YcbcrKernel.the-variants.{Exact, FixedPoint16};
 ghost use Rattle.image.specs.Samples.{planeOf};
-use crate::samples::chroma16;
-use crate::samples::luma16;
-use crate::samples::whole16;
-use crate::samples::wide16;
+use crate::samples::chroma_block;
+use crate::samples::luma_block;
+use crate::samples::whole_chroma_block;
+use crate::samples::wide_block;
 use image::Layout;
 use kernel_blocks::Block;
 use kernels::YcbcrKernel;
 
 // Sixteen pixels by the exact kernel at maxval 255, of luma y and of the chroma of the columns from x on.
-fn exact16(y: [u16; Block::LEN], s: &[f32], w: usize, x: usize) -> [[u8; Block::LEN]; 3]
+fn exact_pixels(y: [u16; Block::LEN], s: &[f32], w: usize, x: usize) -> [[u8; Block::LEN]; 3]
     requires { ⌜ (x + 16 ≤ w) × (2 * w ≤ length (now s)) ⌝ }
     ensures { λ r. ⌜ ((k : ℕ) → k < 16 → blockPixel r k ≡ colourBy
         Exact 255 (getD y k 0) (cellAt (now (s .entry)) 0 (x + k)) (cellAt (now (s .entry)) w (x + k))) ⌝ }
 {
-    let cb = chroma16(s, 0, x);
-    let cr = chroma16(s, w, x);
-    kernel_blocks::rgb_block(wide16(y), cb, cr)
+    let cb = chroma_block(s, 0, x);
+    let cr = chroma_block(s, w, x);
+    kernel_blocks::rgb_block(wide_block(y), cb, cr)
 }
 
 // Sixteen pixels by the fixed kernel, of luma y and of the chroma of the columns from x on. It doesn't look at maxval, d in the contract.
-fn fixed16(y: [u16; Block::LEN], s: &[f32], w: usize, x: usize) -> [[u8; Block::LEN]; 3]
+fn fixed_pixels(y: [u16; Block::LEN], s: &[f32], w: usize, x: usize) -> [[u8; Block::LEN]; 3]
     requires { ⌜ (x + 16 ≤ w) × (2 * w ≤ length (now s)) ⌝ }
     ensures { λ r. ⌜ ((d k : ℕ) → k < 16 → blockPixel r k ≡ colourBy
         FixedPoint16 d (getD y k 0) (cellAt (now (s .entry)) 0 (x + k)) (cellAt (now (s .entry)) w (x + k))) ⌝ }
 {
-    let cb = whole16(s, 0, x);
-    let cr = whole16(s, w, x);
+    let cb = whole_chroma_block(s, 0, x);
+    let cr = whole_chroma_block(s, w, x);
     kernel_blocks::fixed_block(y, cb, cr)
 }
 
@@ -53,10 +53,10 @@ fn block_at(
     ensures { λ r. ⌜ ((k : ℕ) → k < 16 → blockPixel r k ≡ rowColour
         kernel layout (planeOf (now (plane .entry)) stride) row (now (s .entry)) (x + k)) ⌝ }
 {
-    let y = luma16(layout, plane, stride, row, x);
+    let y = luma_block(layout, plane, stride, row, x);
     match kernel {
-        YcbcrKernel::Exact => exact16(y, s, layout.w, x),
-        YcbcrKernel::FixedPoint16 => fixed16(y, s, layout.w, x),
+        YcbcrKernel::Exact => exact_pixels(y, s, layout.w, x),
+        YcbcrKernel::FixedPoint16 => fixed_pixels(y, s, layout.w, x),
     }
 }
 

@@ -11,9 +11,9 @@ ghost use Rattle.colour_rows.specs.Colours.{colourBy, colourRow};
 ghost use Rattle.colour_rows.specs.Lent.{RowLent};
 ghost use Rattle.kernels.specs.declared.kernel.YcbcrKernel.the-variants.{Exact, FixedPoint16};
 ghost use Rattle.image.specs.Samples.{planeOf};
-use crate::samples::chroma_at;
+use crate::samples::chroma_256ths;
 use crate::samples::luma_at;
-use crate::samples::whole_at;
+use crate::samples::whole_chroma;
 use image::Layout;
 use kernels::Rgb;
 use kernels::YcbcrKernel;
@@ -23,7 +23,7 @@ fn exact_pixel(y: u32, cb: f32, cr: f32) -> Rgb
     requires { ⌜ y ≤ 65535 ⌝ }
     ensures { λ p. ⌜ colourOf p ≡ colourBy Exact 255 y cb cr ⌝ }
 {
-    kernels::ycbcr_frac_to_rgb8_8bit(y, chroma_at(cb), chroma_at(cr))
+    kernels::ycbcr_frac_to_rgb8_8bit(y, chroma_256ths(cb), chroma_256ths(cr))
 }
 
 // Chroma in 256ths at a maxval other than 255, up to 16,776,960 = 65,535 * 256. That is past the limit of rounding by the grid, so that it
@@ -47,7 +47,7 @@ fn fixed_pixel(y: u32, cb: f32, cr: f32) -> Rgb
     requires { ⌜ y ≤ 65535 ⌝ }
     ensures { λ p. ⌜ ((d : ℕ) → colourOf p ≡ colourBy FixedPoint16 d y cb cr) ⌝ }
 {
-    kernels::ycbcr_to_rgb8_fixed(y, whole_at(cb) as u32, whole_at(cr) as u32)
+    kernels::ycbcr_to_rgb8_fixed(y, whole_chroma(cb) as u32, whole_chroma(cr) as u32)
 }
 
 // A pixel by either kernel at any maxval.

@@ -1,4 +1,5 @@
--- A linear row over scratch is the definition's: what down leaves in the column buffer is what across reads there.
+-- A linear row over scratch is the definition's: what down leaves in the buffer of cells is what across reads there (`across-read`), since each
+-- tap's cells are among them. `Scratched` is the invariant of a plane's loop, and `ready` what an accepted call may rely on.
 use mathlib.Core.Path.{_≡_, refl, ap, _∙_}
 use mathlib.Core.Bool.{false}
 use mathlib.Core.List.{List, [], _∷_, _++_}
@@ -30,7 +31,7 @@ use Rattle.linear.specs.Stores.{storeRun}
 use Rattle.taps.proofs.Spots.{tap-given}
 use Rattle.laws.proofs.Counts.{none-plus, plus-none}
 
--- down by the row's tap
+-- down by the row's tap: what is put into scratch are the definition's cells
 pub down-is : (l : Layout) (p : Plane) (y : ℕ) (t : Tap) (s : List Float) → t ≡ tapOf (l .rv) (l .ch) y
     → downRun (p .bytes) (l .«sample_bytes») (t .i0 * p .stride) (t .i1 * p .stride) (t .f) (l .cw) (linearCellsAt l) s ≡ put s (linearCellsAt l) (l .cw) (linearDown l (sampleAt (l .«sample_bytes») p) y)
 unfolding downRun linearDown sampleAt
@@ -40,7 +41,7 @@ down-is l p y t s e = ap (λ (u : Tap). put s (linearCellsAt l) (l .cw) (downBy 
 across-read : (s : List Float) (at cw : ℕ) (f : ℕ → Float) (t : Tap) → at + cw ≤ length s → t .i0 < cw → t .i1 < cw → acrossBy t (cellAt (put s at cw f) at) ≡ acrossBy t f
 across-read s at cw f t h p q = rw (put-inside s at cw f (t .i0) nan p h, put-inside s at cw f (t .i1) nan q h) refl
 
--- then across
+-- across from the cells that scratch holds: scratch afterwards is `linearRow`'s
 pub row-is : (l : Layout) (p : Plane) (dst y : ℕ) (s : List Float) → Sound l → linearCellsAt l + l .cw ≤ length s
     → acrossRun (linearCellsAt l) (l .cw) (l .rh) dst 0 (l .w) (put s (linearCellsAt l) (l .cw) (linearDown l (sampleAt (l .«sample_bytes») p) y)) ≡ linearRow l p dst y s
 unfolding acrossRun linearRow linearSample
@@ -64,7 +65,7 @@ length-row l p at y s =
     length-put (put s (linearCellsAt l) (l .cw) (linearDown l (sampleAt (l .«sample_bytes») p) y)) at (l .w) (linearSample l (sampleAt (l .«sample_bytes») p) y)
     ∙ length-put s (linearCellsAt l) (l .cw) (linearDown l (sampleAt (l .«sample_bytes») p) y)
 
--- and the finished row is read back where it lies
+-- the finished row is read back where it lies
 pub row-read : (l : Layout) (p : Plane) (at y : ℕ) (s : List Float) (x : ℕ) → x < l .w → at + l .w ≤ length s → cellAt (linearRow l p at y s) at x ≡ linearSample l (sampleAt (l .«sample_bytes») p) y x
 unfolding linearRow
 row-read l p at y s x h k = put-inside _ at (l .w) (linearSample l (sampleAt (l .«sample_bytes») p) y) x nan h (rw (length-put s (linearCellsAt l) (l .cw) (linearDown l (sampleAt (l .«sample_bytes») p) y)) k)

@@ -11,7 +11,7 @@ use taps::lerp;
 use taps::tap_at;
 
 // Outputs from, .. from + n - 1 of a row over the cw cells at src, each by its own tap. This form is for the edges of a row, for ratio 1
-// and for narrow rows.
+// and for narrow rows. A row has at most `Layout::SIDE` = 8,192 outputs, and the cells lie behind them, so that no store reaches a cell.
 fn across_taps(s: &mut [f32], src: usize, cw: usize, r: usize, dst: usize, from: usize, n: usize)
     requires { ⌜ (0 < r) × (r ≤ 4) × (0 < cw) × (from + n ≤ 8192) × (from + n ≤ cw * r) ⌝ }
     requires { ⌜ (dst + from + n ≤ src) × (src + cw ≤ length (now s)) ⌝ }

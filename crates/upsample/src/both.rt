@@ -20,7 +20,7 @@ fn put_pair(out: &mut [u16], at: usize, before: u32, middle: u32, after: u32)
 }
 
 // The two outputs of a cell as `put_pair` has them, in 16 bits: sums of bytes are at most 1,020 = 4 * 255, so that nothing passes 65,535.
-fn put_bytes(out: &mut [u16], at: usize, before: u16, middle: u16, after: u16)
+fn put_pair_u16(out: &mut [u16], at: usize, before: u16, middle: u16, after: u16)
     requires { ⌜ at + 2 ≤ length (now out) ⌝ }
     requires { ⌜ (before ≤ 1020) × (middle ≤ 1020) × (after ≤ 1020) ⌝ }
     ensures { λ _. ⌜ now (out .exit) ≡ set (set (now (out .entry)) at ((3 * middle + before + 8) / 16)) (at + 1) ((3 * middle + after + 7) / 16) ⌝ }
@@ -91,7 +91,7 @@ fn inner_bytes(plane: &[u8], near: usize, far: usize, cw: usize, out: &mut [u16]
         let before = byte_sum(plane, near, far, k);
         let middle = byte_sum(plane, near, far, k + 1);
         let after = byte_sum(plane, near, far, k + 2);
-        put_bytes(out, at + 2 * k, before, middle, after);
+        put_pair_u16(out, at + 2 * k, before, middle, after);
         k += 1;
     }
 }

@@ -1,3 +1,5 @@
+-- The row is down and then across, as LinearRows has them: `down-is` turns the first call's run into the definition's cells, `row-is` the second's
+-- into `linearRow`. What is to be shown here is room: both rows of the tap end within the plane (`rows`), cells and row within scratch (`room`).
 use mathlib.Core.Path.{ap, _∙_}
 use Prim.Native.Nat.{_+_, _*_, _≤_}
 use Rattle.image.specs.Samples.{Plane, planeOf}
