@@ -20,11 +20,11 @@ use Rattle.taps.specs.declared.positions.Tap.{Tap}
 use Rattle.taps.specs.Taps.{lerpOf, tapOf}
 use Rattle.linear.specs.AcrossRows.{acrossBy}
 
--- the cells of a column lerped down by a tap
+-- two cells of column i lerped down by a tap
 abbrev pub downBy : Tap → (ℕ → ℕ → ℕ) → ℕ → Float
 downBy t c i = lerpOf (f32 (c (t .i0) i)) (f32 (c (t .i1) i)) (t .f)
 
--- row y down, at cell i
+-- cell i of row y, lerped down by the row's tap
 unfoldable pub linearDown : Layout → (ℕ → ℕ → ℕ) → ℕ → ℕ → Float
 linearDown l c y i = downBy (tapOf (l .rv) (l .ch) y) c i
 
