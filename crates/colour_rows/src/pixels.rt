@@ -1,5 +1,5 @@
-// A row pixel by pixel, by the plain forms of the kernels: for the exact kernel at another maxval than 255, and for rows narrower than a
-// block.
+// A row pixel by pixel, by the plain forms of the kernels: where maxval is not 255, so that the exact kernel has no block, and in rows
+// narrower than a block.
 ghost use mathlib.Core.Path.{_≡_};
 ghost use mathlib.Core.Logic.{_≢_};
 ghost use Prim.Native.Nat.{ℕ, _+_, _*_, _≤_};

@@ -1,5 +1,4 @@
-// Sizes, ratios, sample bytes and maxval, and the tests on them. Each test is answered for every number, so that a caller may ask any of
-// them first.
+// Sizes, ratios, sample bytes and maxval, and the tests on them. Each test answers for every number, so that any may be asked first.
 ghost use mathlib.Core.Path.{_≡_};
 ghost use Rattle.laws.specs.Refusals.{first};
 ghost use Rattle.image.specs.Tests.{mostOf, divCeil, badSize, badRatio, badSamples, badChroma, layoutTests};
@@ -88,7 +87,7 @@ impl Layout {
         )
     }
 
-    // Inner: the lowest of refusals 2 to 5 that applies, with which every call over a picture begins.
+    // Inner: the lowest of refusals 2 to 5 that applies, with which open, the calls for planes and fill begin.
     pub fn answer(self, fixed: bool) -> Answer
         ensures { λ r. ⌜ r ≡ first (layoutTests fixed self) ⌝ }
     {

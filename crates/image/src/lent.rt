@@ -6,8 +6,8 @@ ghost use Rattle.image.specs.Scratch.{scratchNeed};
 use crate::layout::Layout;
 use crate::strides::Strides;
 
-// Inner: how many values of scratch every call over a picture asks for. No sum wraps, since a sound layout's sides are at most
-// `Layout::SIDE`.
+// Inner: how many values of scratch open, row, fill and the linear and guided planes ask for. Nothing wraps, since a sound layout's sides
+// are at most `Layout::SIDE`.
 pub fn scratch_need(layout: Layout) -> usize
     requires { ⌜ Sound layout ⌝ }
     ensures { λ r. ⌜ r ≡ scratchNeed layout ⌝ }

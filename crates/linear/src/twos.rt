@@ -13,8 +13,7 @@ use taps::lerp;
 pub struct Twos;
 
 impl Twos {
-    // A row as wide as this has a block of eight pairs of cells at ratio 2: it has 2 * (Lanes::CELLS + 1) outputs, two for each of nine
-    // cells.
+    // A row as wide as this has a block of eight pairs of cells: 2 * (Lanes::CELLS + 1) outputs, two for each of nine cells.
     pub const ROW: usize = 18;
 }
 

@@ -1,5 +1,4 @@
-// A row at ratio (2,1): one axis, across. Cell i gives two outputs: output 2i weighs in the cell before it, output 2i + 1 the cell after
-// it.
+// A row at ratio (2,1): one axis, across. Of the two outputs of cell i, 2i weighs in the cell before it and 2i + 1 the cell after it.
 ghost use mathlib.Core.Path.{_≡_};
 ghost use Prim.Native.Nat.{_+_, _-_, _*_, _/_, _≤_, _<_};
 ghost use lib.ListN.{length, set};

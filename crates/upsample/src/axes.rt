@@ -2,8 +2,7 @@
 ghost use mathlib.Core.Path.{_≡_};
 ghost use Prim.Native.Nat.{_+_, _*_, _/_, _≤_};
 
-// Inner: three parts of the near cell and one of the far, divided by 4. Cells are at most 65,535, so that the sum fits 32 bits and the
-// quotient 16.
+// Inner: three parts of the near cell and one of the far, divided by 4. Cells are at most 65,535, so that the quotient fits 16 bits.
 pub fn one_axis(near: u32, far: u32, bias: u32) -> u16
     requires { ⌜ (near ≤ 65535) × (far ≤ 65535) × (bias ≤ 2) ⌝ }
     ensures { λ r. ⌜ r ≡ (3 * near + far + bias) / 4 ⌝ }

@@ -1,5 +1,5 @@
-// A row at ratio (2,2): the vertical sums of two rows of cells, weighed across. Cell i gives two outputs: output 2i weighs in the sum
-// before it, output 2i + 1 the sum after it.
+// A row at ratio (2,2): the vertical sums of two rows of cells, weighed across. Of the two outputs of cell i, 2i weighs in the sum before
+// it and 2i + 1 the sum after it.
 ghost use mathlib.Core.Path.{_≡_};
 ghost use Prim.Native.Nat.{_+_, _-_, _*_, _/_, _≤_, _<_};
 ghost use lib.ListN.{length, set};
