@@ -26,7 +26,7 @@ module _ (y : ℕ) (b r : Float) {cb cr : ℕ} where
   unfolding colourBy chroma256 limit256 exactColour
   exact-by p q = rw (p, q) refl
 
-  -- and at another
+  -- the exact kernel at another maxval
   pub scaled-by : (d : ℕ) → d ≢ 255 → cb ≡ roundClamped 16776960 (b ⊗ f32 256) → cr ≡ roundClamped 16776960 (r ⊗ f32 256) → exactAt d y cb cr ≡ colourBy Exact d y b r
   unfolding colourBy chroma256 limit256 exactColour
   scaled-by d n p q = let z : eqb d 255 ≡ false = ne-eqb d 255 n in rw (z, p, q) refl

@@ -4,7 +4,7 @@ use Prim.Native.Nat.{ℕ, _+_, _*_}
 use native.Mathlib.Omega.{arith}
 use Rattle.image.specs.Samples.{Plane, sampleOf, sampleAt}
 
--- samples of one byte and of two
+-- the sample k columns after x, by its first byte: samples of one byte and of two
 module _ (b : ℕ) (p : Plane) (x k row : ℕ) where
   pub one-byte : b ≡ 1 → sampleOf 1 (p .bytes) (row * p .stride + x + k) ≡ sampleAt b p row (x + k)
   unfolding sampleAt

@@ -34,9 +34,10 @@ colourBy FixedPoint16 d y cb cr = fixed255 y (wholeChroma cb) (wholeChroma cr)
 
 -- ---- one row, from luma's plane and the finished rows of chroma that lie in scratch, Cb's at 0 and Cr's at w
 
+-- the colour of column x in row y
 unfoldable pub rowColour : YcbcrKernel → Layout → Plane → ℕ → List Float → ℕ → Colour
 rowColour kernel l p y s x = colourBy kernel (l .maxval) (sampleAt (l .«sample_bytes») p y x) (cellAt s 0 x) (cellAt s (l .w) x)
 
--- its w pixels, `size` bytes each, stored from `at` on
+-- the output after a row's w pixels, `size` bytes each, were stored from `at` on
 unfoldable pub colourRow : YcbcrKernel → Layout → Plane → ℕ → List Float → ℕ → ℕ → List ℕ → List ℕ
 colourRow kernel l p y s at size out = pixels out at size (rowColour kernel l p y s) (l .w)

@@ -1,4 +1,4 @@
-// A row by blocks of sixteen pixels. The last block ends with the row: it overlaps the one before, and stores what that stored again.
+// A row by blocks of sixteen pixels. The last block ends with the row: it overlaps the block before it and stores again what that stored.
 ghost use mathlib.Core.Path.{_≡_};
 ghost use Prim.Native.Nat.{ℕ, _+_, _*_, _≤_, _<_};
 ghost use lib.ListN.{length, getD};
@@ -8,35 +8,37 @@ ghost use Rattle.colour_rows.specs.Colours.{colourBy, rowColour, colourR
 ghost use Rattle.colour_rows.specs.Lent.{RowLent, Blocked};
 ghost use Rattle.kernels.specs.declared.kernel.YcbcrKernel.the-variants.{Exact, FixedPoint16};
 ghost use Rattle.image.specs.Samples.{planeOf};
-use crate::samples::chroma16;
-use crate::samples::luma16;
-use crate::samples::whole16;
-use crate::samples::wide16;
+use crate::samples::chroma_block;
+use crate::samples::luma_block;
+use crate::samples::whole_chroma_block;
+use crate::samples::wide_block;
 use image::Layout;
 use kernel_blocks::Block;
 use kernels::YcbcrKernel;
 
-// Sixteen pixels by the exact kernel at maxval 255, chroma from column x on.
-fn exact16(y: [u16; Block::LEN], s: &[f32], w: usize, x: usize) -> [[u8; Block::LEN]; 3]
+// Sixteen pixels by the exact kernel at maxval 255, of luma y and of the chroma of the columns from x on.
+fn exact_pixels(y: [u16; Block::LEN], s: &[f32], w: usize, x: usize) -> [[u8; Block::LEN]; 3]
     requires { ⌜ (x + 16 ≤ w) × (2 * w ≤ length (now s)) ⌝ }
-    ensures { λ r. ⌜ ((k : ℕ) → k < 16 → blockPixel r k ≡ colourBy Exact 255 (getD y k 0) (cellAt (now (s .entry)) 0 (x + k)) (cellAt (now (s .entry)) w (x + k))) ⌝ }
+    ensures { λ r. ⌜ ((k : ℕ) → k < 16 → blockPixel r k ≡ colourBy
+        Exact 255 (getD y k 0) (cellAt (now (s .entry)) 0 (x + k)) (cellAt (now (s .entry)) w (x + k))) ⌝ }
 {
-    let cb = chroma16(s, 0, x);
-    let cr = chroma16(s, w, x);
-    kernel_blocks::rgb_block(wide16(y), cb, cr)
+    let cb = chroma_block(s, 0, x);
+    let cr = chroma_block(s, w, x);
+    kernel_blocks::rgb_block(wide_block(y), cb, cr)
 }
 
-// The same by the fixed kernel.
-fn fixed16(y: [u16; Block::LEN], s: &[f32], w: usize, x: usize) -> [[u8; Block::LEN]; 3]
+// Sixteen pixels by the fixed kernel, of luma y and of the chroma of the columns from x on. It doesn't look at maxval, d in the contract.
+fn fixed_pixels(y: [u16; Block::LEN], s: &[f32], w: usize, x: usize) -> [[u8; Block::LEN]; 3]
     requires { ⌜ (x + 16 ≤ w) × (2 * w ≤ length (now s)) ⌝ }
-    ensures { λ r. ⌜ ((d k : ℕ) → k < 16 → blockPixel r k ≡ colourBy FixedPoint16 d (getD y k 0) (cellAt (now (s .entry)) 0 (x + k)) (cellAt (now (s .entry)) w (x + k))) ⌝ }
+    ensures { λ r. ⌜ ((d k : ℕ) → k < 16 → blockPixel r k ≡ colourBy
+        FixedPoint16 d (getD y k 0) (cellAt (now (s .entry)) 0 (x + k)) (cellAt (now (s .entry)) w (x + k))) ⌝ }
 {
-    let cb = whole16(s, 0, x);
-    let cr = whole16(s, w, x);
+    let cb = whole_chroma_block(s, 0, x);
+    let cr = whole_chroma_block(s, w, x);
     kernel_blocks::fixed_block(y, cb, cr)
 }
 
-// The sixteen pixels from column x on.
+// The sixteen pixels of a row from column x on, by either kernel.
 fn block_at(
     layout: Layout,
     kernel: YcbcrKernel,
@@ -48,16 +50,17 @@ fn block_at(
 ) -> [[u8; Block::LEN]; 3]
     requires { ⌜ RowLent layout (planeOf (now plane) stride) row (length (now s)) ⌝ }
     requires { ⌜ Blocked kernel layout × (x + 16 ≤ layout .w) ⌝ }
-    ensures { λ r. ⌜ ((k : ℕ) → k < 16 → blockPixel r k ≡ rowColour kernel layout (planeOf (now (plane .entry)) stride) row (now (s .entry)) (x + k)) ⌝ }
+    ensures { λ r. ⌜ ((k : ℕ) → k < 16 → blockPixel r k ≡ rowColour
+        kernel layout (planeOf (now (plane .entry)) stride) row (now (s .entry)) (x + k)) ⌝ }
 {
-    let y = luma16(layout, plane, stride, row, x);
+    let y = luma_block(layout, plane, stride, row, x);
     match kernel {
-        YcbcrKernel::Exact => exact16(y, s, layout.w, x),
-        YcbcrKernel::FixedPoint16 => fixed16(y, s, layout.w, x),
+        YcbcrKernel::Exact => exact_pixels(y, s, layout.w, x),
+        YcbcrKernel::FixedPoint16 => fixed_pixels(y, s, layout.w, x),
     }
 }
 
-// The row with three bytes a pixel. The size is a constant in the loop, so that the stores of a block are plain ones.
+// A row with three bytes a pixel. The size is a constant in the loop, so that the stores of a block are plain ones.
 fn blocks3(
     layout: Layout,
     kernel: YcbcrKernel,
@@ -70,7 +73,8 @@ fn blocks3(
 )
     requires { ⌜ RowLent layout (planeOf (now plane) stride) row (length (now s)) ⌝ }
     requires { ⌜ Blocked kernel layout × (at + layout .w * 3 ≤ length (now out)) ⌝ }
-    ensures { λ _. ⌜ now (out .exit) ≡ colourRow kernel layout (planeOf (now (plane .entry)) stride) row (now (s .entry)) at 3 (now (out .entry)) ⌝ }
+    ensures { λ _. ⌜ now (out .exit) ≡ colourRow
+        kernel layout (planeOf (now (plane .entry)) stride) row (now (s .entry)) at 3 (now (out .entry)) ⌝ }
 {
     let mut done = 0;
     while done < layout.w {
@@ -81,7 +85,8 @@ fn blocks3(
     }
 }
 
-// The same with four bytes a pixel, stored as words; `low` has the bits of their colour bytes.
+// A row with four bytes a pixel, stored as words of 32 bits. `low` has the bits of the three colour bytes, 16,777,215 = 2^24 - 1; the
+// fourth byte keeps what it held.
 fn blocks4(
     layout: Layout,
     kernel: YcbcrKernel,
@@ -95,7 +100,8 @@ fn blocks4(
 )
     requires { ⌜ RowLent layout (planeOf (now plane) stride) row (length (now s)) ⌝ }
     requires { ⌜ Blocked kernel layout × (at + layout .w * 4 ≤ length (now out)) × (low ≡ 16777215) ⌝ }
-    ensures { λ _. ⌜ now (out .exit) ≡ colourRow kernel layout (planeOf (now (plane .entry)) stride) row (now (s .entry)) at 4 (now (out .entry)) ⌝ }
+    ensures { λ _. ⌜ now (out .exit) ≡ colourRow
+        kernel layout (planeOf (now (plane .entry)) stride) row (now (s .entry)) at 4 (now (out .entry)) ⌝ }
 {
     let mut done = 0;
     while done < layout.w {
@@ -106,7 +112,8 @@ fn blocks4(
     }
 }
 
-// Inner: the row, the pixel size chosen outside the loop. Four bytes a pixel have 2^24 - 1 as `low`, from the size, since it mustn't be a constant.
+// Inner: a row by blocks, the pixel size chosen outside the loop. The mask `low` of four bytes a pixel is 4 * 2^22 - 1 = 2^24 - 1. It is
+// computed from the size, since a mask that the compiler knows would make it read the fourth bytes one by one.
 pub fn block_row(
     layout: Layout,
     kernel: YcbcrKernel,
@@ -120,7 +127,8 @@ pub fn block_row(
 )
     requires { ⌜ RowLent layout (planeOf (now plane) stride) row (length (now s)) ⌝ }
     requires { ⌜ Blocked kernel layout × (3 ≤ size) × (size ≤ 4) × (at + layout .w * size ≤ length (now out)) ⌝ }
-    ensures { λ _. ⌜ now (out .exit) ≡ colourRow kernel layout (planeOf (now (plane .entry)) stride) row (now (s .entry)) at size (now (out .entry)) ⌝ }
+    ensures { λ _. ⌜ now (out .exit) ≡ colourRow
+        kernel layout (planeOf (now (plane .entry)) stride) row (now (s .entry)) at size (now (out .entry)) ⌝ }
 {
     if size == 3 {
         blocks3(layout, kernel, plane, stride, row, s, out, at);

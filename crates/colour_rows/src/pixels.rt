@@ -1,4 +1,5 @@
-// A row pixel by pixel, by the plain forms: what has no block, and rows narrower than one.
+// A row pixel by pixel, by the plain forms of the kernels: where maxval is not 255, so that the exact kernel has no block, and in rows
+// narrower than a block.
 ghost use mathlib.Core.Path.{_≡_};
 ghost use mathlib.Core.Logic.{_≢_};
 ghost use Prim.Native.Nat.{ℕ, _+_, _*_, _≤_};
@@ -10,9 +11,9 @@ ghost use Rattle.colour_rows.specs.Colours.{colourBy, colourRow};
 ghost use Rattle.colour_rows.specs.Lent.{RowLent};
 ghost use Rattle.kernels.specs.declared.kernel.YcbcrKernel.the-variants.{Exact, FixedPoint16};
 ghost use Rattle.image.specs.Samples.{planeOf};
-use crate::samples::chroma_at;
+use crate::samples::chroma_256ths;
 use crate::samples::luma_at;
-use crate::samples::whole_at;
+use crate::samples::whole_chroma;
 use image::Layout;
 use kernels::Rgb;
 use kernels::YcbcrKernel;
@@ -22,17 +23,18 @@ fn exact_pixel(y: u32, cb: f32, cr: f32) -> Rgb
     requires { ⌜ y ≤ 65535 ⌝ }
     ensures { λ p. ⌜ colourOf p ≡ colourBy Exact 255 y cb cr ⌝ }
 {
-    kernels::ycbcr_frac_to_rgb8_8bit(y, chroma_at(cb), chroma_at(cr))
+    kernels::ycbcr_frac_to_rgb8_8bit(y, chroma_256ths(cb), chroma_256ths(cr))
 }
 
-// Chroma in 256ths, past the grid's limit.
+// Chroma in 256ths at a maxval other than 255, up to 16,776,960 = 65,535 * 256. That is past the limit of rounding by the grid, so that it
+// goes by the float's bits.
 fn scaled_chroma(v: f32) -> u32
     ensures { λ r. ⌜ Rounded 16776960 (v ⊗ f32 256) r ⌝ }
 {
     fround::round_clamped_by_bits(v * 256.0, 16_776_960)
 }
 
-// A pixel by the exact kernel at another maxval.
+// A pixel by the exact kernel at a maxval other than 255.
 fn scaled_pixel(y: u32, cb: f32, cr: f32, maxval: u32) -> Rgb
     requires { ⌜ (y ≤ 65535) × (1 ≤ maxval) × (maxval ≤ 65535) × (maxval ≢ 255) ⌝ }
     ensures { λ p. ⌜ colourOf p ≡ colourBy Exact maxval y cb cr ⌝ }
@@ -40,15 +42,15 @@ fn scaled_pixel(y: u32, cb: f32, cr: f32, maxval: u32) -> Rgb
     kernels::ycbcr_frac_to_rgb8_at(y, scaled_chroma(cb), scaled_chroma(cr), maxval)
 }
 
-// A pixel by the fixed kernel: chroma goes to whole numbers first.
+// A pixel by the fixed kernel, for which chroma is first rounded to a whole number. It doesn't look at maxval, d in the contract.
 fn fixed_pixel(y: u32, cb: f32, cr: f32) -> Rgb
     requires { ⌜ y ≤ 65535 ⌝ }
     ensures { λ p. ⌜ ((d : ℕ) → colourOf p ≡ colourBy FixedPoint16 d y cb cr) ⌝ }
 {
-    kernels::ycbcr_to_rgb8_fixed(y, whole_at(cb) as u32, whole_at(cr) as u32)
+    kernels::ycbcr_to_rgb8_fixed(y, whole_chroma(cb) as u32, whole_chroma(cr) as u32)
 }
 
-// A pixel by either kernel.
+// A pixel by either kernel at any maxval.
 fn plain_pixel(kernel: YcbcrKernel, y: u32, cb: f32, cr: f32, maxval: u32) -> Rgb
     requires { ⌜ (y ≤ 65535) × (1 ≤ maxval) × (maxval ≤ 65535) ⌝ }
     ensures { λ p. ⌜ colourOf p ≡ colourBy kernel maxval y cb cr ⌝ }
@@ -64,7 +66,7 @@ fn plain_pixel(kernel: YcbcrKernel, y: u32, cb: f32, cr: f32, maxval: u32) -> Rg
     }
 }
 
-// Inner: a row pixel by pixel.
+// Inner: a row pixel by pixel, of `size` bytes each, to out from `at` on. Cb's finished row lies in scratch at 0, Cr's at w.
 pub fn plain_row(
     layout: Layout,
     kernel: YcbcrKernel,
@@ -78,7 +80,8 @@ pub fn plain_row(
 )
     requires { ⌜ RowLent layout (planeOf (now plane) stride) row (length (now s)) ⌝ }
     requires { ⌜ (3 ≤ size) × (at + layout .w * size ≤ length (now out)) ⌝ }
-    ensures { λ _. ⌜ now (out .exit) ≡ colourRow kernel layout (planeOf (now (plane .entry)) stride) row (now (s .entry)) at size (now (out .entry)) ⌝ }
+    ensures { λ _. ⌜ now (out .exit) ≡ colourRow
+        kernel layout (planeOf (now (plane .entry)) stride) row (now (s .entry)) at size (now (out .entry)) ⌝ }
 {
     let w = layout.w;
     let mut x = 0;

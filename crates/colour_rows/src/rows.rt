@@ -1,4 +1,4 @@
-// One row of colour, from luma's plane and the finished rows of chroma that lie in scratch: the inner loops of the original's fill_ycbcr_interp.
+// One row of colour, from luma's plane and the two finished rows of chroma that lie in scratch, by blocks or pixel by pixel.
 ghost use mathlib.Core.Path.{_≡_};
 ghost use mathlib.Core.Bool.{true};
 ghost use Prim.Native.Nat.{_+_, _*_, _≤_};
@@ -12,7 +12,7 @@ use image::Layout;
 use kernel_blocks::Block;
 use kernels::YcbcrKernel;
 
-// Whether a row goes by blocks: it is as wide as one, and its kernel has a block.
+// Whether a row goes by blocks: it is as wide as one, and its kernel has a block. The exact kernel has one at maxval 255 only.
 fn by_blocks(layout: Layout, kernel: YcbcrKernel) -> bool
     ensures { λ r. ⌜ (r ≡ true → Blocked kernel layout) ⌝ }
 {
@@ -25,7 +25,8 @@ fn by_blocks(layout: Layout, kernel: YcbcrKernel) -> bool
     }
 }
 
-// Inner: row `row` of luma's plane with the chroma that scratch holds, Cb's at 0 and Cr's at w, as w pixels of `size` bytes from `at` on. By blocks or pixel by pixel is chosen here, outside the loops.
+// Inner: row `row` of luma's plane with the chroma that scratch holds, Cb's at 0 and Cr's at w, as w pixels of `size` bytes, to out from
+// `at` on. By blocks or pixel by pixel is chosen here, outside the loops.
 pub fn colour_row(
     layout: Layout,
     kernel: YcbcrKernel,
@@ -39,7 +40,8 @@ pub fn colour_row(
 )
     requires { ⌜ RowLent layout (planeOf (now plane) stride) row (length (now s)) ⌝ }
     requires { ⌜ (3 ≤ size) × (size ≤ 4) × (at + layout .w * size ≤ length (now out)) ⌝ }
-    ensures { λ _. ⌜ now (out .exit) ≡ colourRow kernel layout (planeOf (now (plane .entry)) stride) row (now (s .entry)) at size (now (out .entry)) ⌝ }
+    ensures { λ _. ⌜ now (out .exit) ≡ colourRow
+        kernel layout (planeOf (now (plane .entry)) stride) row (now (s .entry)) at size (now (out .entry)) ⌝ }
 {
     if by_blocks(layout, kernel) {
         block_row(layout, kernel, size, plane, stride, row, s, out, at);

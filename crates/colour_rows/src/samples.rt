@@ -1,4 +1,4 @@
-// The samples of a row: luma from its plane, chroma from scratch, rounded; one by one and by sixteens.
+// The samples of a row, one by one and by sixteens: luma from its plane, chroma from scratch and rounded.
 ghost use mathlib.Core.Path.{_≡_};
 ghost use Prim.Native.Nat.{ℕ, _+_, _*_, _≤_, _<_};
 ghost use lib.ListN.{length, getD};
@@ -12,6 +12,7 @@ ghost use Rattle.colour_rows.specs.Gathered.{LumaRow, Sixteen};
 use image::Layout;
 use kernel_blocks::Block;
 
+// A sample as a number of 32 bits. Its contract keeps the bound that the kernels ask for.
 fn wide(x: u16) -> u32
     ensures { λ r. ⌜ (r ≡ x) × (r ≤ 65535) ⌝ }
 {
@@ -27,22 +28,22 @@ pub fn luma_at(layout: Layout, plane: &[u8], stride: usize, row: usize, x: usize
     wide(image::sample(plane, bytes, row * stride + x * bytes))
 }
 
-// Inner: chroma in 256ths, as maxval 255 has it.
-pub fn chroma_at(v: f32) -> u32
+// Inner: chroma in 256ths at maxval 255, limited to 65,536 = 256 * 256, since the kernel takes at most 32,768 to either side of 128 * 256.
+pub fn chroma_256ths(v: f32) -> u32
     ensures { λ r. ⌜ Rounded 65536 (v ⊗ f32 256) r ⌝ }
 {
     fround::round_clamped_by_grid(v * 256.0, 65_536)
 }
 
-// Inner: whole chroma, as the fixed kernel has it.
-pub fn whole_at(v: f32) -> u8
+// Inner: chroma rounded to a whole number in 0..=255, as the fixed kernel takes it.
+pub fn whole_chroma(v: f32) -> u8
     ensures { λ r. ⌜ r ≡ roundClamped 255 v ⌝ }
 {
     fround::round_clamped_by_grid(v, 255) as u8
 }
 
-// The sixteen one-byte samples from `at` on. The size is a constant in the loop, so that they compile to loads of many.
-fn bytes16(plane: &[u8], at: usize) -> [u16; Block::LEN]
+// The sixteen samples of one byte from byte `at` on. The size is a constant in the loop, so that they compile to loads of many.
+fn one_byte_block(plane: &[u8], at: usize) -> [u16; Block::LEN]
     requires { ⌜ at + 16 ≤ length (now plane) ⌝ }
     ensures { λ r. ⌜ Sixteen r (λ k. sampleOf 1 (now (plane .entry)) (at + k)) ⌝ }
 {
@@ -53,8 +54,8 @@ fn bytes16(plane: &[u8], at: usize) -> [u16; Block::LEN]
     v
 }
 
-// The same of two bytes each.
-fn pairs16(plane: &[u8], at: usize) -> [u16; Block::LEN]
+// The sixteen samples of two bytes from byte `at` on. The size is a constant in the loop, so that they compile to loads of many.
+fn two_byte_block(plane: &[u8], at: usize) -> [u16; Block::LEN]
     requires { ⌜ at + 32 ≤ length (now plane) ⌝ }
     ensures { λ r. ⌜ Sixteen r (λ k. sampleOf 2 (now (plane .entry)) (at + k * 2)) ⌝ }
 {
@@ -66,7 +67,7 @@ fn pairs16(plane: &[u8], at: usize) -> [u16; Block::LEN]
 }
 
 // Inner: luma of the sixteen columns from x on.
-pub fn luma16(
+pub fn luma_block(
     layout: Layout,
     plane: &[u8],
     stride: usize,
@@ -77,13 +78,13 @@ pub fn luma16(
     ensures { λ r. ⌜ Sixteen r (λ k. sampleAt (layout .«sample_bytes») (planeOf (now (plane .entry)) stride) row (x + k)) ⌝ }
 {
     if layout.sample_bytes == 1 {
-        return bytes16(plane, row * stride + x);
+        return one_byte_block(plane, row * stride + x);
     }
-    pairs16(plane, row * stride + x * 2)
+    two_byte_block(plane, row * stride + x * 2)
 }
 
-// Inner: luma as numbers of 32 bits.
-pub fn wide16(y: [u16; Block::LEN]) -> [u32; Block::LEN]
+// Inner: sixteen samples of luma as numbers of 32 bits, which the exact kernel computes with.
+pub fn wide_block(y: [u16; Block::LEN]) -> [u32; Block::LEN]
     ensures { λ r. ⌜ ((k : ℕ) → k < 16 → (getD r k 0 ≡ getD y k 0) × (getD r k 0 ≤ 65535)) ⌝ }
 {
     let mut v = [0u32; Block::LEN];
@@ -93,8 +94,9 @@ pub fn wide16(y: [u16; Block::LEN]) -> [u32; Block::LEN]
     v
 }
 
-// Inner: chroma of the sixteen columns from x on, of the finished row at src, in 256ths less its centre.
-pub fn chroma16(s: &[f32], src: usize, x: usize) -> [f32; Block::LEN]
+// Inner: chroma of the sixteen columns from x on of the finished row at src, in 256ths less 32,768 = 128 * 256, as floats for the exact
+// kernel's block.
+pub fn chroma_block(s: &[f32], src: usize, x: usize) -> [f32; Block::LEN]
     requires { ⌜ src + (x + 16) ≤ length (now s) ⌝ }
     ensures { λ r. ⌜ ((k : ℕ) → k < 16 → Centred (getD r k nan) (roundClamped 65536 (cellAt (now (s .entry)) src (x + k) ⊗ f32 256))) ⌝ }
 {
@@ -105,14 +107,14 @@ pub fn chroma16(s: &[f32], src: usize, x: usize) -> [f32; Block::LEN]
     v
 }
 
-// Inner: chroma of those columns as whole numbers.
-pub fn whole16(s: &[f32], src: usize, x: usize) -> [u8; Block::LEN]
+// Inner: chroma of the sixteen columns from x on of the finished row at src, as whole numbers for the fixed kernel's block.
+pub fn whole_chroma_block(s: &[f32], src: usize, x: usize) -> [u8; Block::LEN]
     requires { ⌜ src + (x + 16) ≤ length (now s) ⌝ }
     ensures { λ r. ⌜ Sixteen r (λ k. roundClamped 255 (cellAt (now (s .entry)) src (x + k))) ⌝ }
 {
     let mut v = [0u8; Block::LEN];
     for k in 0..Block::LEN {
-        v[k] = whole_at(s[src + (x + k)]);
+        v[k] = whole_chroma(s[src + (x + k)]);
     }
     v
 }

@@ -1,4 +1,5 @@
--- What a layout is whose tests all failed.
+-- What a layout is whose tests all failed: `sound` takes the tests apart by `neither` (an 'or' that is false has both sides false) and reads
+-- each side as a bound. The facts about cw and ch follow from Quotients, since test 5 says that they are the rounded-up quotients.
 use mathlib.Core.Path.{_≡_, refl}
 use mathlib.Core.Bool.{Bool, true, false, _&&_, _||_, not, cond}
 use Prim.Native.Nat.{ℕ, suc, _+_, _-_, _*_, _≤_, _<_}
@@ -84,7 +85,7 @@ sound fixed l f =
       lines = rw ch (ceil-covers (l .h) (l .rv) (r .1 .0));
     }
 
--- the same of a layout whose answer is no refusal
+-- a layout whose answer is no refusal is sound
 pub sound-answer : (fixed : Bool) (l : Layout) → accepted (first (layoutTests fixed l)) ≡ true → Sound l
 sound-answer fixed l e = sound fixed l (accepted-failed (layoutTests fixed l) (accepted-is (first (layoutTests fixed l)) e))
 

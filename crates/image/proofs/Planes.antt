@@ -1,4 +1,5 @@
 -- Laws of refusal 7's test: what the code's divisions say of its products, and where the samples of a plane that passes stand.
+-- `same-test` carries the first part: two comparisons are equal where each side's truth and falsehood give the other's; the rest is arithmetic.
 use mathlib.Core.Path.{_≡_, refl, sym}
 use mathlib.Core.Bool.{Bool, true, false}
 use Prim.Native.Nat.{ℕ, _+_, _-_, _*_, _/_, _≤_, _<_}
@@ -47,7 +48,7 @@ module _ (bytes w h stride len : ℕ) where
 
 -- ---- a plane that passes
 
--- its rows lie apart, and the last one ends within the data
+-- the rows of a plane that passes lie apart, and the last one ends within the data
 pub record Holds (bytes w h stride len : ℕ) : Type 0 where
   pub row : w * bytes ≤ stride
   pub last : (h - 1) * stride + w * bytes ≤ len
@@ -62,11 +63,11 @@ holds bytes w h stride len e =
 pub row-inside : {bytes w h stride len : ℕ} → Holds bytes w h stride len → (y : ℕ) → y < h → y * stride + w * bytes ≤ len
 row-inside {bytes} {w} {h} {stride} o y l = omega (arith, o .last, row-begins y h stride l)
 
--- and so does the sample in column x of row y
+-- the sample in column x of row y ends within the data
 pub sample-inside : {bytes w h stride len : ℕ} → Holds bytes w h stride len → (x y : ℕ) → x < w → y < h → place bytes stride y x + bytes ≤ len
 sample-inside {bytes} {w} o x y k l = omega (arith, row-inside o y l, row-fits x w bytes k)
 
--- the same of a plane as a call is lent it
+-- a plane as a call is lent it, with its layout, passes where `shortPlane` is false
 pub short-holds : (l : Layout) (w h : ℕ) (p : Plane) → shortPlane l w h p ≡ false → Holds (l .«sample_bytes») w h (p .stride) (length (p .bytes))
 unfolding shortPlane
 short-holds l w h p e = holds (l .«sample_bytes») w h (p .stride) (length (p .bytes)) e

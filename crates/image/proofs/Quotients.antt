@@ -1,4 +1,5 @@
--- Laws of the rounded-up quotient.
+-- Laws of the rounded-up quotient (n + (r - 1)) / r. Equations come from n = (n / r) * r + n % r, bounds from turning a quotient below m into a
+-- number below m * r. Products with r are not linear, so that omega is handed them as terms; `ceil-most` needs the most of it.
 use mathlib.Core.Path.{_≡_, ap, _∙_}
 use mathlib.Core.Logic.{inl, inr}
 use Prim.Native.Nat.{ℕ, suc, _+_, _-_, _*_, _/_, _%_, _≤_, _<_}

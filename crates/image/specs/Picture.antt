@@ -17,13 +17,13 @@ pub record Picture : Type 0 where
   pub luma : ℕ → ℕ → ℕ
   pub chroma : Chroma → ℕ → ℕ → ℕ
 
--- the planes that a call is lent
+-- the planes of a picture, as a call is lent them
 pub record Planes : Type 0 where
   pub y : Plane
   pub cb : Plane
   pub cr : Plane
 
--- lent as three slices and their strides
+-- the planes that a call is lent as three slices and their strides
 abbrev pub planesOf : List ℕ → List ℕ → List ℕ → Strides → Planes
 planesOf y cb cr strides = record { y = planeOf y (strides .y); cb = planeOf cb (strides .cb); cr = planeOf cr (strides .cr) }
 

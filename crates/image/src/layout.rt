@@ -1,4 +1,4 @@
-// Sizes, ratios, sample bytes and maxval, and the tests on them. Each test is answered for every number.
+// Sizes, ratios, sample bytes and maxval, and the tests on them. Each test answers for every number, so that any may be asked first.
 ghost use mathlib.Core.Path.{_≡_};
 ghost use Rattle.laws.specs.Refusals.{first};
 ghost use Rattle.image.specs.Tests.{mostOf, divCeil, badSize, badRatio, badSamples, badChroma, layoutTests};
@@ -20,10 +20,10 @@ pub struct Layout {
 }
 
 impl Layout {
-    // The longest side of a picture.
+    // The longest side of a picture, in pixels.
     pub const SIDE: usize = 8_192;
 
-    // The largest ratio.
+    // The largest ratio, across and down: how many pixels a cell has along one side.
     pub const RATIO: usize = 4;
 }
 
@@ -40,7 +40,7 @@ pub fn div_ceil(n: usize, r: usize) -> usize
     n / r + 1
 }
 
-// The largest number that samples of so many bytes hold.
+// The largest number that a sample of so many bytes holds: 2^8 - 1 for one byte, 2^16 - 1 for two.
 fn most(sample_bytes: usize) -> usize
     ensures { λ r. ⌜ r ≡ mostOf «sample_bytes» ⌝ }
 {
@@ -48,7 +48,7 @@ fn most(sample_bytes: usize) -> usize
 }
 
 impl Layout {
-    // Inner: refusal 2's test.
+    // Inner: refusal 2's test, whether a side is 0 or longer than `Layout::SIDE`.
     pub fn bad_size(self) -> bool
         ensures { λ r. ⌜ r ≡ badSize self ⌝ }
     {
@@ -58,7 +58,7 @@ impl Layout {
         )
     }
 
-    // Inner: refusal 3's test.
+    // Inner: refusal 3's test, whether a ratio is 0 or larger than `Layout::RATIO`.
     pub fn bad_ratio(self) -> bool
         ensures { λ r. ⌜ r ≡ badRatio self ⌝ }
     {
@@ -68,7 +68,7 @@ impl Layout {
         )
     }
 
-    // Inner: refusal 4's test; `fixed` for a fill by the fixed kernel.
+    // Inner: refusal 4's test on sample bytes and maxval. `fixed` says that the fixed kernel fills, which is for maxval 255 only.
     pub fn bad_samples(self, fixed: bool) -> bool
         ensures { λ r. ⌜ r ≡ badSamples fixed self ⌝ }
     {
@@ -77,7 +77,7 @@ impl Layout {
         either(either(bytes, range), both(fixed, self.maxval != 255))
     }
 
-    // Inner: refusal 5's test.
+    // Inner: refusal 5's test, whether the chroma size is other than the rounded-up quotient of size and ratio.
     pub fn bad_chroma(self) -> bool
         ensures { λ r. ⌜ r ≡ badChroma self ⌝ }
     {
@@ -87,7 +87,7 @@ impl Layout {
         )
     }
 
-    // Inner: the lowest of refusals 2 to 5 that applies.
+    // Inner: the lowest of refusals 2 to 5 that applies, with which open, the calls for planes and fill begin.
     pub fn answer(self, fixed: bool) -> Answer
         ensures { λ r. ⌜ r ≡ first (layoutTests fixed self) ⌝ }
     {

@@ -6,7 +6,8 @@ ghost use Rattle.image.specs.Scratch.{scratchNeed};
 use crate::layout::Layout;
 use crate::strides::Strides;
 
-// Inner: how many values of scratch every call over a picture asks for.
+// Inner: how many values of scratch open, row, fill and the linear and guided planes ask for. Nothing wraps, since a sound layout's sides
+// are at most `Layout::SIDE`.
 pub fn scratch_need(layout: Layout) -> usize
     requires { ⌜ Sound layout ⌝ }
     ensures { λ r. ⌜ r ≡ scratchNeed layout ⌝ }
@@ -14,7 +15,7 @@ pub fn scratch_need(layout: Layout) -> usize
     64 * layout.cw + 8 * layout.w
 }
 
-// Inner: refusal 7's test for the three planes of a picture.
+// Inner: refusal 7's test for the three planes of a picture: luma's has w by h samples, those of Cb and Cr have cw by ch.
 pub fn bad_planes(layout: Layout, y: &[u8], cb: &[u8], cr: &[u8], strides: Strides) -> bool
     ensures { λ r. ⌜ r ≡ badPlanes layout (planesOf (now (y .entry)) (now (cb .entry)) (now (cr .entry)) strides) ⌝ }
 {

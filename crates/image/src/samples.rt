@@ -6,7 +6,7 @@ ghost use lib.ListN.{length};
 ghost use Rattle.image.specs.Tests.{badPlane};
 ghost use Rattle.image.specs.Samples.{sampleOf};
 
-// Whether a * b is more than n. It divides, so that no product can pass 2^64.
+// Whether a * b is more than n. It divides, since the product of two numbers that a caller hands over may be past 2^64.
 fn product_passes(a: usize, b: usize, n: usize) -> bool
     ensures { λ r. ⌜ r ≡ ltb n (a * b) ⌝ }
 {
@@ -16,14 +16,15 @@ fn product_passes(a: usize, b: usize, n: usize) -> bool
     n / b < a
 }
 
-// How many rows stand before the last.
+// How many rows stand before the last of h rows; none where h is 0.
 fn rows_before(h: usize) -> usize
     ensures { λ r. ⌜ r ≡ h - 1 ⌝ }
 {
     if h == 0 { 0 } else { h - 1 }
 }
 
-// Inner: refusal 7's test, for a plane of h rows of w samples whose data has len bytes. It is answered for every number.
+// Inner: refusal 7's test, for a plane of h rows of w samples whose data has len bytes. It is answered for every number: where the stride
+// holds a row, w * sample_bytes is at most the stride and doesn't wrap.
 pub fn bad_plane(sample_bytes: usize, w: usize, h: usize, stride: usize, len: usize) -> bool
     ensures { λ r. ⌜ r ≡ badPlane «sample_bytes» w h stride len ⌝ }
 {
@@ -37,13 +38,14 @@ pub fn bad_plane(sample_bytes: usize, w: usize, h: usize, stride: usize, len: us
     product_passes(rows_before(h), stride, len - row)
 }
 
+// A byte as a number of 16 bits. Its contract spares the reads below a proof that the cast fits.
 fn wide(x: u8) -> u16
     ensures { λ r. ⌜ (r ≡ x) × (r < 256) ⌝ }
 {
     x as u16
 }
 
-// Inner: the sample whose first byte stands at `at`.
+// Inner: the sample whose first byte stands at `at`; two bytes are little-endian.
 pub fn sample(plane: &[u8], sample_bytes: usize, at: usize) -> u16
     requires { ⌜ (1 ≤ «sample_bytes») × («sample_bytes» ≤ 2) × (at + «sample_bytes» ≤ length (now plane)) ⌝ }
     ensures { λ r. ⌜ r ≡ sampleOf «sample_bytes» (now (plane .entry)) at ⌝ }

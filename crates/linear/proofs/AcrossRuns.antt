@@ -1,4 +1,5 @@
 -- Outputs between neighbouring cells: which cells and which fraction each has, shown once for any ratio.
+-- The hard step is `between-spot`: output r / 2 + m lies between cells m / r and m / r + 1, by splitting m as (m / r) * r + m % r.
 use mathlib.Core.Path.{_≡_, refl, sym, ap, _∙_}
 use mathlib.Core.List.{List}
 use Prim.Native.Nat.{ℕ, _+_, _-_, _*_, _/_, _%_, _≤_, _<_}
@@ -50,7 +51,7 @@ between-spot r len m p h =
     whole : (r q j m : ℕ) → q * r + j ≡ m → (2 * (r / 2 + m) + 1) * 1 - r ≡ q * (2 * r) + (2 * (r / 2 + j) + 1 - r)
     whole r q j m e = omega arith
 
--- so the outputs between n pairs of cells are those of the row from r / 2 on
+-- the outputs between n pairs of cells are those of the row from r / 2 on
 pub between-taps : (r src cw n dst : ℕ) (s : List Float) → 1 < r → n < cw → betweenRun r src n (dst + r / 2) s ≡ acrossRun src cw r dst (r / 2) (r * n) s
 unfolding betweenRun acrossRun tapOf
 between-taps r src cw n dst s p h =

@@ -1,4 +1,5 @@
--- The linear float lies within 1 / 16 of the exact bilinear value: a lerp of floats within e / 256 is within (4 + 3e) / 256.
+-- The linear float lies within 1 / 16 of the exact bilinear value: a lerp of floats within e / 256 is within (4 + 3e) / 256 (`lerp-bound`).
+-- Down from exact samples that is 4 / 256, then across 16 / 256. The work is that each rounding is of a number up to 2^16, and adds 1 / 256 at most.
 use mathlib.Core.Path.{_≡_, ap, _∙_, subst}
 use Prim.Native.Nat.{ℕ, _+_, _-_, _*_, _≤_, _<_}
 use native.Mathlib.Nat.{le-trans, le-of-lt, mul-le-mul-right, mul-le-mul, mul-pos, one-mul}
@@ -73,7 +74,7 @@ lerp-near a b f p q c k d e r x y z zc l pl ql sx sy sz v g h =
     near-aim (lerpOf a b f) (p * d + (q + 0) * k) (0 * d + (0 + p) * k) (c * d) z (mix p q k d) 0 (aimed p q k d l)
     (add-near a (mul binary32 f (sub binary32 b a)) (p * d) (0 * d) ((q + 0) * k) ((0 + p) * k) (c * d) e y z sz (near-widen a p 0 c e d g) t)
 
--- the same slack, written otherwise
+-- nearness with its slack written otherwise
 near-as : (x : Float) (p n c e d : ℕ) → e ≡ d → NearFraction x p n c e → NearFraction x p n c d
 near-as x p n c e d k h = subst (λ (z : ℕ). NearFraction x p n c z) k h
 

@@ -1,4 +1,5 @@
--- A linear row over scratch is the definition's: what down leaves in the column buffer is what across reads there.
+-- A linear row over scratch is the definition's: what down leaves in the buffer of cells is what across reads there (`across-read`), since each
+-- tap's cells are among them. `Scratched` is the invariant of a plane's loop, and `ready` what an accepted call may rely on.
 use mathlib.Core.Path.{_≡_, refl, ap, _∙_}
 use mathlib.Core.Bool.{false}
 use mathlib.Core.List.{List, [], _∷_, _++_}
@@ -22,7 +23,7 @@ use Rattle.image.specs.Samples.{Plane, sampleAt}
 use Rattle.fround.specs.Rounding.{roundClamped}
 use Rattle.taps.specs.declared.positions.Tap.{Tap}
 use Rattle.taps.specs.Taps.{tapOf, TapGiven}
-use Rattle.linear.specs.Linear.{downBy, linearDown, linearSample, linearRow, linearScratch, columnAt, linearTests, Ready}
+use Rattle.linear.specs.Linear.{downBy, linearDown, linearSample, linearRow, linearScratch, linearCellsAt, linearTests, Ready}
 use Rattle.image.specs.Scratch.{scratchNeed, cellAt}
 use Rattle.linear.specs.Down.{downRun}
 use Rattle.linear.specs.AcrossRows.{acrossBy, acrossRun}
@@ -30,29 +31,29 @@ use Rattle.linear.specs.Stores.{storeRun}
 use Rattle.taps.proofs.Spots.{tap-given}
 use Rattle.laws.proofs.Counts.{none-plus, plus-none}
 
--- down by the row's tap
+-- down by the row's tap: what is put into scratch are the definition's cells
 pub down-is : (l : Layout) (p : Plane) (y : ℕ) (t : Tap) (s : List Float) → t ≡ tapOf (l .rv) (l .ch) y
-    → downRun (p .bytes) (l .«sample_bytes») (t .i0 * p .stride) (t .i1 * p .stride) (t .f) (l .cw) (columnAt l) s ≡ put s (columnAt l) (l .cw) (linearDown l (sampleAt (l .«sample_bytes») p) y)
+    → downRun (p .bytes) (l .«sample_bytes») (t .i0 * p .stride) (t .i1 * p .stride) (t .f) (l .cw) (linearCellsAt l) s ≡ put s (linearCellsAt l) (l .cw) (linearDown l (sampleAt (l .«sample_bytes») p) y)
 unfolding downRun linearDown sampleAt
-down-is l p y t s e = ap (λ (u : Tap). put s (columnAt l) (l .cw) (downBy u (sampleAt (l .«sample_bytes») p))) e
+down-is l p y t s e = ap (λ (u : Tap). put s (linearCellsAt l) (l .cw) (downBy u (sampleAt (l .«sample_bytes») p))) e
 
 -- cells that scratch holds, lerped across by a tap whose cells are among them
 across-read : (s : List Float) (at cw : ℕ) (f : ℕ → Float) (t : Tap) → at + cw ≤ length s → t .i0 < cw → t .i1 < cw → acrossBy t (cellAt (put s at cw f) at) ≡ acrossBy t f
 across-read s at cw f t h p q = rw (put-inside s at cw f (t .i0) nan p h, put-inside s at cw f (t .i1) nan q h) refl
 
--- then across
-pub row-is : (l : Layout) (p : Plane) (dst y : ℕ) (s : List Float) → Sound l → columnAt l + l .cw ≤ length s
-    → acrossRun (columnAt l) (l .cw) (l .rh) dst 0 (l .w) (put s (columnAt l) (l .cw) (linearDown l (sampleAt (l .«sample_bytes») p) y)) ≡ linearRow l p dst y s
+-- across from the cells that scratch holds: scratch afterwards is `linearRow`'s
+pub row-is : (l : Layout) (p : Plane) (dst y : ℕ) (s : List Float) → Sound l → linearCellsAt l + l .cw ≤ length s
+    → acrossRun (linearCellsAt l) (l .cw) (l .rh) dst 0 (l .w) (put s (linearCellsAt l) (l .cw) (linearDown l (sampleAt (l .«sample_bytes») p) y)) ≡ linearRow l p dst y s
 unfolding acrossRun linearRow linearSample
 row-is l p dst y s o h =
     let g = linearDown l (sampleAt (l .«sample_bytes») p) y in
-    let xs = put s (columnAt l) (l .cw) g in
-    ap (λ (at : ℕ). put xs at (l .w) (λ i. acrossBy (tapOf (l .rh) (l .cw) (0 + i)) (cellAt xs (columnAt l)))) (plus-none dst)
+    let xs = put s (linearCellsAt l) (l .cw) g in
+    ap (λ (at : ℕ). put xs at (l .w) (λ i. acrossBy (tapOf (l .rh) (l .cw) (0 + i)) (cellAt xs (linearCellsAt l)))) (plus-none dst)
     ∙ put-same xs dst (l .w) _ _ (λ i k.
     let t = tapOf (l .rh) (l .cw) i in
     let n : TapGiven (l .rh) (l .cw) i t = tap-given (l .rh) (l .cw) i t (o .cw-some) (within i k (o .cells)) refl in
-    ap (λ (j : ℕ). acrossBy (tapOf (l .rh) (l .cw) j) (cellAt xs (columnAt l))) (none-plus i)
-    ∙ across-read s (columnAt l) (l .cw) g t h (n .i0-inside) (n .i1-inside))
+    ap (λ (j : ℕ). acrossBy (tapOf (l .rh) (l .cw) j) (cellAt xs (linearCellsAt l))) (none-plus i)
+    ∙ across-read s (linearCellsAt l) (l .cw) g t h (n .i0-inside) (n .i1-inside))
   where
     within : (i : ℕ) → i < l .w → l .w ≤ l .cw * l .rh → i < l .cw * l .rh
     within i k c = omega arith
@@ -61,13 +62,13 @@ row-is l p dst y s o h =
 pub length-row : (l : Layout) (p : Plane) (at y : ℕ) (s : List Float) → length (linearRow l p at y s) ≡ length s
 unfolding linearRow
 length-row l p at y s =
-    length-put (put s (columnAt l) (l .cw) (linearDown l (sampleAt (l .«sample_bytes») p) y)) at (l .w) (linearSample l (sampleAt (l .«sample_bytes») p) y)
-    ∙ length-put s (columnAt l) (l .cw) (linearDown l (sampleAt (l .«sample_bytes») p) y)
+    length-put (put s (linearCellsAt l) (l .cw) (linearDown l (sampleAt (l .«sample_bytes») p) y)) at (l .w) (linearSample l (sampleAt (l .«sample_bytes») p) y)
+    ∙ length-put s (linearCellsAt l) (l .cw) (linearDown l (sampleAt (l .«sample_bytes») p) y)
 
--- and the finished row is read back where it lies
+-- the finished row is read back where it lies
 pub row-read : (l : Layout) (p : Plane) (at y : ℕ) (s : List Float) (x : ℕ) → x < l .w → at + l .w ≤ length s → cellAt (linearRow l p at y s) at x ≡ linearSample l (sampleAt (l .«sample_bytes») p) y x
 unfolding linearRow
-row-read l p at y s x h k = put-inside _ at (l .w) (linearSample l (sampleAt (l .«sample_bytes») p) y) x nan h (rw (length-put s (columnAt l) (l .cw) (linearDown l (sampleAt (l .«sample_bytes») p) y)) k)
+row-read l p at y s x h k = put-inside _ at (l .w) (linearSample l (sampleAt (l .«sample_bytes») p) y) x nan h (rw (length-put s (linearCellsAt l) (l .cw) (linearDown l (sampleAt (l .«sample_bytes») p) y)) k)
 
 -- ---- a plane's loop
 

@@ -1,4 +1,5 @@
--- A lerp never leaves the span of its two ends, for ends that are not negative and a fraction from 0 to 7 / 8: the rounded part of the rounded difference is at most the exact difference.
+-- A lerp never leaves the span of its two ends, for ends that are not negative and a fraction from 0 to 7 / 8: the rounded part of the
+-- rounded difference is at most the exact difference. That is the hard step, `portion-within`: two roundings add less than 1 / 8 of it.
 use mathlib.Core.Path.{_≡_, sym, ap, subst}
 use mathlib.Core.Bool.{Bool, true, false, not}
 use Prim.Native.Nat.{ℕ, _+_, _-_, _*_, _^_, _≤_, _<_}
@@ -37,7 +38,7 @@ far-under X h = go (2 ^ 165) (2 ^ 277) h (lit< tt)
     go : (b o : ℕ) → X ≤ b → 2 * b + 1 < o → 2 * X + 1 < o
     go b o h l = omega arith
 
--- so the difference has a value
+-- a difference of samples is far from an overflow too, so that it has a value
 diff-under : (D : ℕ) → D ≤ 2 ^ 165 → diff D < 2 ^ 277
 diff-under D h = under-kept D (2 ^ 149) D (pow-pos 149) (le-refl (D * 2 ^ 149)) (far-under D h)
 
@@ -183,5 +184,5 @@ pub bilinear-between : (c : ℕ → ℕ → ℕ) (v h : Spot) → Valid v → Va
 bilinear-between c v h p q lo hi t s =
     held-between (acrossBy (tapOn h) (downBy (tapOn v) c)) lo hi (le-trans (s .near-near .0) (le-trans (s .near-near .1) t)) t
     (lerp-held (downBy (tapOn v) c (h .near)) (downBy (tapOn v) c (h .far)) (fractionOf (h .k) (h .d)) (h .k) (h .d) (lo * 2 ^ 149) (hi * 2 ^ 149) (sample-top hi t)
-    (tap-fraction (h .k) (h .d) (q .part) (q .small)) (column-held (c (v .near) (h .near)) (c (v .far) (h .near)) v lo hi p t (s .near-near) (s .near-far))
-    (column-held (c (v .near) (h .far)) (c (v .far) (h .far)) v lo hi p t (s .far-near) (s .far-far)))
+    (tap-fraction (h .k) (h .d) (q .part) (q .small)) (column-held (c (v .near) (h .near)) (c (v .far) (h .near)) v lo hi p t (s .near-near) (s .far-near))
+    (column-held (c (v .near) (h .far)) (c (v .far) (h .far)) v lo hi p t (s .near-far) (s .far-far)))

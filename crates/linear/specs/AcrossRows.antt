@@ -15,10 +15,10 @@ acrossBy t g = lerpOf (g (t .i0)) (g (t .i1)) (t .f)
 unfoldable pub acrossRun : ℕ → ℕ → ℕ → ℕ → ℕ → ℕ → List Float → List Float
 acrossRun src cw r dst from n s = put s (dst + from) n (λ i. acrossBy (tapOf r cw (from + i)) (cellAt s src))
 
--- output i of those between neighbouring cells, r to each pair, of which the first is output r / 2 of the row
+-- output i of those between neighbouring cells at src, r to each pair; the first of them is output r / 2 of the row
 abbrev pub betweenAt : ℕ → List Float → ℕ → ℕ → Float
 betweenAt r s src i = lerpOf (cellAt s src (i / r)) (cellAt s src (i / r + 1)) (fractionOf (2 * (r / 2 + i % r) + 1 - r) (2 * r))
 
--- those of n pairs, put at dst
+-- the outputs between n pairs of neighbouring cells, put at dst
 unfoldable pub betweenRun : ℕ → ℕ → ℕ → ℕ → List Float → List Float
 betweenRun r src n dst s = put s dst (r * n) (betweenAt r s src)

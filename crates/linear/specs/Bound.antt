@@ -27,11 +27,11 @@ rowSpot l y = spotOf 1 (l .rv) (l .ch) y
 abbrev pub columnSpot : Layout → ℕ → Spot
 columnSpot l x = spotOf 1 (l .rh) (l .cw) x
 
--- all four cells of the value lie between lo and hi
+-- all four cells of the value lie between lo and hi; a field's first word is of the cell's row, its second of the column
 pub record Spanned (c : ℕ → ℕ → ℕ) (v h : Spot) (lo hi : ℕ) : Type 0 where
   pub near-near : (lo ≤ c (v .near) (h .near)) × (c (v .near) (h .near) ≤ hi)
-  pub near-far : (lo ≤ c (v .far) (h .near)) × (c (v .far) (h .near) ≤ hi)
-  pub far-near : (lo ≤ c (v .near) (h .far)) × (c (v .near) (h .far) ≤ hi)
+  pub far-near : (lo ≤ c (v .far) (h .near)) × (c (v .far) (h .near) ≤ hi)
+  pub near-far : (lo ≤ c (v .near) (h .far)) × (c (v .near) (h .far) ≤ hi)
   pub far-far : (lo ≤ c (v .far) (h .far)) × (c (v .far) (h .far) ≤ hi)
 
 -- at every row and column, ratios 1 to 4, for samples up to 65,535
@@ -39,6 +39,6 @@ pub record LinearClaims : Type 0 where
   -- the float is within 16 / 256 of exactNum / exactDen
   pub within : (l : Layout) (c : ℕ → ℕ → ℕ) → ((j i : ℕ) → c j i ≤ 65535) → (0 < l .rh) × (l .rh ≤ 4) → (0 < l .rv) × (l .rv ≤ 4) → (y x : ℕ)
       → NearFraction (linearSample l c y x) (exactNum c (rowSpot l y) (columnSpot l x)) 0 (exactDen (rowSpot l y) (columnSpot l x)) 16
-  -- and lies between any two whole numbers that its four cells lie between
+  -- the float lies between any two whole numbers that its four cells lie between
   pub spanned : (l : Layout) (c : ℕ → ℕ → ℕ) → (0 < l .rh) × (l .rh ≤ 4) → (0 < l .rv) × (l .rv ≤ 4) → (y x lo hi : ℕ) → hi ≤ 65535
       → Spanned c (rowSpot l y) (columnSpot l x) lo hi → T (le (f32 lo) (linearSample l c y x)) × T (le (linearSample l c y x) (f32 hi))

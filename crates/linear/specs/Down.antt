@@ -11,6 +11,6 @@ use Rattle.taps.specs.Taps.{lerpOf}
 abbrev pub downAt : List ℕ → ℕ → ℕ → ℕ → Float → ℕ → Float
 downAt plane bytes a b f i = lerpOf (f32 (sampleOf bytes plane (a + i * bytes))) (f32 (sampleOf bytes plane (b + i * bytes))) f
 
--- n of them, put at dst
+-- the first n samples of the two rows, lerped by f, put at dst
 unfoldable pub downRun : List ℕ → ℕ → ℕ → ℕ → Float → ℕ → ℕ → List Float → List Float
 downRun plane bytes a b f n dst s = put s dst n (downAt plane bytes a b f)

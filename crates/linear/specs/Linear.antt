@@ -20,11 +20,11 @@ use Rattle.taps.specs.declared.positions.Tap.{Tap}
 use Rattle.taps.specs.Taps.{lerpOf, tapOf}
 use Rattle.linear.specs.AcrossRows.{acrossBy}
 
--- the cells of a column lerped down by a tap
+-- two cells of column i lerped down by a tap
 abbrev pub downBy : Tap → (ℕ → ℕ → ℕ) → ℕ → Float
 downBy t c i = lerpOf (f32 (c (t .i0) i)) (f32 (c (t .i1) i)) (t .f)
 
--- row y down, at cell i
+-- cell i of row y, lerped down by the row's tap
 unfoldable pub linearDown : Layout → (ℕ → ℕ → ℕ) → ℕ → ℕ → Float
 linearDown l c y i = downBy (tapOf (l .rv) (l .ch) y) c i
 
@@ -48,14 +48,14 @@ pub record Ready (l : Layout) (p : Plane) (space : ℕ) : Type 0 where
 
 -- ---- what the papers leave free: what scratch holds after an accepted call
 
--- where the cells of a row that were lerped down lie: behind two finished rows of w values
-abbrev pub columnAt : Layout → ℕ
-columnAt l = 2 * l .w
+-- where the cells of a row lie in scratch once they are lerped down: behind two finished rows of w values
+abbrev pub linearCellsAt : Layout → ℕ
+linearCellsAt l = 2 * l .w
 
--- scratch after row y: the cells lerped down at columnAt, and from them the finished row at `at`
+-- scratch after row y: the cells lerped down, at linearCellsAt, and the finished row that they give, at `at`
 unfoldable pub linearRow : Layout → Plane → ℕ → ℕ → List Float → List Float
 linearRow l p at y s =
-    put (put s (columnAt l) (l .cw) (linearDown l (sampleAt (l .«sample_bytes») p) y))
+    put (put s (linearCellsAt l) (l .cw) (linearDown l (sampleAt (l .«sample_bytes») p) y))
     at (l .w) (linearSample l (sampleAt (l .«sample_bytes») p) y)
 
 -- scratch after the first n rows of a plane, each at 0

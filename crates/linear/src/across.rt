@@ -1,4 +1,5 @@
-// Rows of lent scratch, lerped across from cells.
+// Rows lerped across from cells that lie in scratch behind them. Between two cells the fractions of a ratio repeat, so that a loop with
+// constant fractions gives the floats of the taps; taps themselves are computed only at a row's edges, at ratio 1 and in narrow rows.
 ghost use mathlib.Core.Path.{_≡_};
 ghost use Prim.Native.Nat.{_+_, _*_, _≤_, _<_};
 ghost use lib.ListN.{length};
@@ -9,7 +10,8 @@ use taps::fraction;
 use taps::lerp;
 use taps::tap_at;
 
-// n outputs of a row over the cells at src, from output `from` on, each by its own tap: the edges, all of ratio 1, and narrow rows.
+// Outputs from, .. from + n - 1 of a row over the cw cells at src, each by its own tap. This form is for the edges of a row, for ratio 1
+// and for narrow rows. A row has at most `Layout::SIDE` = 8,192 outputs, and the cells lie behind them, so that no store reaches a cell.
 fn across_taps(s: &mut [f32], src: usize, cw: usize, r: usize, dst: usize, from: usize, n: usize)
     requires { ⌜ (0 < r) × (r ≤ 4) × (0 < cw) × (from + n ≤ 8192) × (from + n ≤ cw * r) ⌝ }
     requires { ⌜ (dst + from + n ≤ src) × (src + cw ≤ length (now s)) ⌝ }
@@ -65,7 +67,7 @@ fn across_fours(s: &mut [f32], src: usize, n: usize, dst: usize)
     }
 }
 
-// The outputs between n pairs of neighbouring cells: a loop for each ratio, with no tap in it.
+// The outputs between n pairs of neighbouring cells, by a loop for each ratio that has no tap in it.
 fn across_between(s: &mut [f32], src: usize, r: usize, n: usize, dst: usize)
     requires { ⌜ (1 < r) × (r ≤ 4) × (dst + r * n ≤ src) × (src + (n + 1) ≤ length (now s)) × (r ≡ 2 → 8 ≤ n) ⌝ }
     ensures { λ _. ⌜ now (s .exit) ≡ betweenRun r src n dst (now (s .entry)) ⌝ }
@@ -81,7 +83,8 @@ fn across_between(s: &mut [f32], src: usize, r: usize, n: usize, dst: usize)
     across_fours(s, src, n, dst);
 }
 
-// Inner: a row of w outputs at ratio r over the cw cells at src, to s from dst on: edge, pairs of cells, edge.
+// Inner: a row of w outputs at ratio r over the cw cells at src, to s from dst on. The first r / 2 outputs lie before the middle of cell 0;
+// then come those between pairs of cells, r to a pair, then the rest.
 pub fn across_row(s: &mut [f32], src: usize, cw: usize, r: usize, dst: usize, w: usize)
     requires { ⌜ (0 < r) × (r ≤ 4) × (0 < cw) × (0 < w) × (w ≤ 8192) × (w ≤ cw * r) ⌝ }
     requires { ⌜ (dst + w ≤ src) × (src + cw ≤ length (now s)) ⌝ }

@@ -1,11 +1,11 @@
-// The cells of a linear row over lent scratch, lerped down from a plane.
+// The cells of a linear row, lerped down from two rows of a plane into scratch.
 ghost use mathlib.Core.Path.{_≡_};
 ghost use Prim.Native.Nat.{_+_, _*_, _≤_};
 ghost use lib.ListN.{length};
 ghost use Rattle.linear.specs.Down.{downRun};
 use taps::lerp;
 
-// Inner: n samples of the two rows of a plane that begin at a and b, lerped by f, to s from dst on.
+// Inner: n samples of the two rows of a plane that begin at bytes a and b, lerped by f, to s from dst on.
 pub fn down_row(
     plane: &[u8],
     sample_bytes: usize,

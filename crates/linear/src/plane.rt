@@ -1,4 +1,4 @@
-// Linear reconstruction: rows of scratch, and the public call for a whole chroma plane.
+// Linear reconstruction: one row in scratch, and the public call for a whole chroma plane.
 ghost use mathlib.Core.Path.{_≡_};
 ghost use Prim.Native.Nat.{_+_, _*_, _≤_, _<_};
 ghost use lib.ListN.{length};
@@ -12,7 +12,8 @@ use image::Layout;
 use laws::Answer;
 use taps::tap_at;
 
-// Inner: row y of a chroma plane, to scratch from dst on: the cells down into the column buffer behind the two finished rows, then across.
+// Inner: row y of a chroma plane, to scratch from dst on. The cells are lerped down into a buffer behind room for two finished rows (Cb's
+// and Cr's, as fill has them), and from there across.
 pub fn linear_row(layout: Layout, plane: &[u8], stride: usize, y: usize, s: &mut [f32], dst: usize)
     requires { ⌜ Ready layout (planeOf (now plane) stride) (length (now s)) ⌝ }
     requires { ⌜ (y < layout .h) × (dst ≤ layout .w) ⌝ }
@@ -21,12 +22,12 @@ pub fn linear_row(layout: Layout, plane: &[u8], stride: usize, y: usize, s: &mut
     let t = tap_at(layout.rv, layout.ch, y);
     let a = t.i0 * stride;
     let b = t.i1 * stride;
-    let column = 2 * layout.w;
-    down_row(plane, layout.sample_bytes, a, b, t.f, layout.cw, s, column);
-    across_row(s, column, layout.cw, layout.rh, dst, layout.w);
+    let cells = 2 * layout.w;
+    down_row(plane, layout.sample_bytes, a, b, t.f, layout.cw, s, cells);
+    across_row(s, cells, layout.cw, layout.rh, dst, layout.w);
 }
 
-// Inner: the lowest refusal of `linear_plane` that applies; `space` and `room` are the lengths of scratch and output. It writes nothing.
+// Inner: the lowest refusal of `linear_plane` that applies. `space` and `room` are the lengths of scratch and output; nothing is written.
 pub fn linear_answer(
     layout: Layout,
     plane: &[u8],
@@ -58,7 +59,7 @@ pub fn linear_answer(
     Answer::Accepted
 }
 
-// Every row of the plane: lerped into scratch at 0, then rounded into out.
+// Every row of the plane, each lerped into scratch at 0 and then rounded into out.
 fn linear_rows(layout: Layout, plane: &[u8], stride: usize, s: &mut [f32], out: &mut [u16])
     requires { ⌜ Ready layout (planeOf (now plane) stride) (length (now s)) ⌝ }
     requires { ⌜ layout .w * layout .h ≤ length (now out) ⌝ }
@@ -75,8 +76,8 @@ fn linear_rows(layout: Layout, plane: &[u8], stride: usize, s: &mut [f32], out: 
     }
 }
 
-// One whole chroma plane, linear: w by h values, rounded and limited to 0..=maxval, into out. Refusals 2, 3, 4, 5, 7, 9 and 10.
-// Scratch afterwards is `linearScratch` of specs/Linear.
+// One whole chroma plane by linear interpolation: w by h values, rounded and limited to 0..=maxval, into out. It answers refusals 2, 3, 4,
+// 5, 7, 9 and 10. What scratch holds after an accepted call is `linearScratch` of specs/Linear.
 pub fn linear_plane(
     layout: Layout,
     plane: &[u8],
@@ -84,7 +85,9 @@ pub fn linear_plane(
     s: &mut [f32],
     out: &mut [u16],
 ) -> Answer
-    ensures { λ r. ⌜ LinearGiven layout (planeOf (now (plane .entry)) stride) (now (s .entry)) (now (out .entry)) r (now (s .exit)) (now (out .exit)) ⌝ }
+    ensures { λ r. ⌜ LinearGiven
+        layout (planeOf (now (plane .entry)) stride) (now (s .entry)) (now (out .entry))
+        r (now (s .exit)) (now (out .exit)) ⌝ }
 {
     let answer = linear_answer(layout, plane, stride, s.len(), out.len());
     if laws::refused(answer) {

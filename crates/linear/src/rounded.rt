@@ -1,10 +1,10 @@
-// Finished rows rounded to samples.
+// Finished rows of floats rounded to the samples of a plane, as `reconstruct` of the original does.
 ghost use mathlib.Core.Path.{_≡_};
 ghost use Prim.Native.Nat.{_+_, _≤_};
 ghost use lib.ListN.{length};
 ghost use Rattle.linear.specs.Stores.{storeRun};
 
-// Inner: n values of s from src on, rounded and limited to 0..=maxval, to out from at on.
+// Inner: n values of s from src on, rounded and limited to 0..=maxval, to out from `at` on.
 pub fn store_row(s: &[f32], src: usize, n: usize, maxval: u32, out: &mut [u16], at: usize)
     requires { ⌜ (maxval ≤ 65535) × (src + n ≤ length (now s)) × (at + n ≤ length (now out)) ⌝ }
     ensures { λ _. ⌜ now (out .exit) ≡ storeRun (now (s .entry)) src n maxval at (now (out .entry)) ⌝ }

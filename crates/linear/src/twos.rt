@@ -1,4 +1,4 @@
-// The two outputs between each pair of neighbouring cells at ratio 2: eight pairs at a time, so that many are computed at once.
+// The two outputs between each pair of neighbouring cells at ratio 2: eight pairs at a time, so that the compiler computes many at once.
 ghost use mathlib.Core.Path.{_≡_};
 ghost use Prim.Native.Nat.{ℕ, _+_, _*_, _≤_, _<_};
 ghost use lib.Ieee.{nan};
@@ -9,10 +9,11 @@ use lanes::put_block;
 use taps::fraction;
 use taps::lerp;
 
+// Rows at ratio 2, two outputs to a cell.
 pub struct Twos;
 
 impl Twos {
-    // A row as wide as this has eight pairs of cells at ratio 2.
+    // A row as wide as this has a block of eight pairs of cells: 2 * (Lanes::CELLS + 1) outputs, two for each of nine cells.
     pub const ROW: usize = 18;
 }
 
@@ -33,7 +34,8 @@ fn twos_block(s: &[f32], src: usize, i: usize) -> [f32; Lanes::PIXELS]
     v
 }
 
-// Inner: the outputs between n pairs of the cells at src, to s from dst on. The last block ends with them: it overlaps the one before, and stores what that stored again.
+// Inner: the outputs between n pairs of the cells at src, to s from dst on. The last block ends with the last pair: it overlaps the block
+// before it and stores again what that stored.
 pub fn across_twos(s: &mut [f32], src: usize, n: usize, dst: usize)
     requires { ⌜ (8 ≤ n) × (dst + 2 * n ≤ src) × (src + (n + 1) ≤ length (now s)) ⌝ }
     ensures { λ _. ⌜ now (s .exit) ≡ betweenRun 2 src n dst (now (s .entry)) ⌝ }

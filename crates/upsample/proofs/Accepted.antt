@@ -1,4 +1,5 @@
 -- What a call that was accepted has been handed: sizes, the three kinds of ratios, and where its rows lie.
+-- The kinds are test 6 taken apart by cases over its comparisons: all but the wanted one compute to a contradiction. The rest is quotients.
 use mathlib.Core.Path.{_≡_, refl}
 use mathlib.Core.Bool.{Bool, true, false, _&&_, _||_, not}
 use Prim.Native.Nat.{ℕ, _+_, _*_, _/_, _≤_, _<_}

@@ -9,7 +9,7 @@ use lib.ListN.{getD}
 use Rattle.image.specs.Samples.{sampleOf}
 use Rattle.upsample.specs.Pairs.{RowInside, cells}
 
--- its first cells lie inside too
+-- the first cells of a row that lies inside lie inside too
 pub cells-to : {bytes n row len : ℕ} → RowInside bytes n row len → (i : ℕ) → i < n → RowInside bytes (i + 1) row len
 cells-to {bytes} {n} {row} {len} o i h =
     let m : (i + 1) * bytes ≤ n * bytes = mul-le-mul-right bytes (omega arith) in

@@ -1,4 +1,4 @@
--- What the inner functions write of a row. Definitions only.
+-- What the inner functions read and write of a row, as their contracts say it. Definitions only.
 use mathlib.Core.Bool.{cond}
 use mathlib.Core.List.{List}
 use Prim.Native.Nat.{ℕ, _+_, _*_, _/_, _≤_, _<_}
@@ -9,15 +9,15 @@ use Rattle.upsample.specs.Weights.{even, weighed, far}
 abbrev pub cells : ℕ → List ℕ → ℕ → ℕ → ℕ
 cells bytes plane row i = sampleOf bytes plane (row + i * bytes)
 
--- the vertical sums of two rows
+-- the vertical sums of the two rows of cells that begin at near and far
 abbrev pub sums : ℕ → List ℕ → ℕ → ℕ → ℕ → ℕ
 sums bytes plane near far i = 3 * cells bytes plane near i + cells bytes plane far i
 
--- a row at ratio (1, 2)
+-- output x of a row at ratio (1,2), between the rows of cells that begin at near and far
 unfoldable pub downRow : ℕ → List ℕ → ℕ → ℕ → ℕ → ℕ → ℕ
 downRow bytes plane near far bias x = (sums bytes plane near far x + bias) / 4
 
--- a row at ratio (2, 2), from n vertical sums c
+-- output x of a row at ratio (2,2), from n vertical sums c
 unfoldable pub bothRow : ℕ → (ℕ → ℕ) → ℕ → ℕ
 bothRow n c x = (weighed n c x + cond (even x) 8 7) / 16
 

@@ -25,10 +25,11 @@ triangularSample l c y x =
     (cond (eqb (l .rh) 1) (oneAxis (l .ch) (λ j. c j x) y)
     (bothAxes (l .cw) (l .ch) c y x))
 
--- 6: "triangular with ratios not (2,1), (1,2), (2,2), or rh 2 and cw at most 2"
+-- whether the ratios are rh across and rv down
 abbrev pub ratios : Layout → ℕ → ℕ → Bool
 ratios l rh rv = eqb (l .rh) rh && eqb (l .rv) rv
 
+-- 6: "triangular with ratios not (2,1), (1,2), (2,2), or rh 2 and cw at most 2"
 unfoldable pub badTriangular : Layout → Bool
 badTriangular l = not (ratios l 2 1 || (ratios l 1 2 || ratios l 2 2)) || (eqb (l .rh) 2 && leb (l .cw) 2)
 

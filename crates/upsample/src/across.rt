@@ -1,4 +1,4 @@
-// A row at ratio (2, 1): one axis, across. A cell gives two outputs: 2i weighs in the cell before it, 2i + 1 the one after.
+// A row at ratio (2,1): one axis, across. Of the two outputs of cell i, 2i weighs in the cell before it and 2i + 1 the cell after it.
 ghost use mathlib.Core.Path.{_≡_};
 ghost use Prim.Native.Nat.{_+_, _-_, _*_, _/_, _≤_, _<_};
 ghost use lib.ListN.{length, set};
@@ -8,7 +8,7 @@ ghost use Rattle.upsample.specs.Pairs.{RowInside, Doubled, cells};
 use crate::axes::one_axis;
 use crate::weights::cell;
 
-// The two outputs of a cell.
+// The two outputs of the cell `near`, whose neighbours are `before` and `after`, at `at` and at + 1.
 fn put_pair(out: &mut [u16], at: usize, before: u32, near: u32, after: u32)
     requires { ⌜ at + 2 ≤ length (now out) ⌝ }
     requires { ⌜ (before ≤ 65535) × (near ≤ 65535) × (after ≤ 65535) ⌝ }
@@ -29,11 +29,12 @@ fn first_cell(plane: &[u8], sample_bytes: usize, row: usize, cw: usize, out: &mu
     put_pair(out, at, near, near, after);
 }
 
-// The outputs of the cells between the first and the last, for either size of sample.
+// The outputs of the cells between the first and the last of a row, for either size of sample.
 fn inner_pairs(plane: &[u8], sample_bytes: usize, row: usize, cw: usize, out: &mut [u16], at: usize)
     requires { ⌜ RowInside «sample_bytes» cw row (length (now plane)) ⌝ }
     requires { ⌜ (2 < cw) × (at + 2 * (cw - 2) ≤ length (now out)) ⌝ }
-    ensures { λ _. ⌜ now (out .exit) ≡ put (now (out .entry)) at (2 * (cw - 2)) (λ x. oneAxis cw (cells «sample_bytes» (now (plane .entry)) row) (2 + x)) ⌝ }
+    ensures { λ _. ⌜ now (out .exit) ≡ put (now (out .entry)) at (2 * (cw - 2))
+        (λ x. oneAxis cw (cells «sample_bytes» (now (plane .entry)) row) (2 + x)) ⌝ }
 {
     let n = cw - 2;
     let mut k = 0;
@@ -46,11 +47,13 @@ fn inner_pairs(plane: &[u8], sample_bytes: usize, row: usize, cw: usize, out: &m
     }
 }
 
-// The same. The size of a sample stands in each call as a literal, so that each size has a loop of its own.
+// The outputs of the cells between the first and the last of a row. The size of a sample stands in each call of `inner_pairs` as a literal,
+// so that the compiler makes a loop for each size.
 fn inner_cells(plane: &[u8], sample_bytes: usize, row: usize, cw: usize, out: &mut [u16], at: usize)
     requires { ⌜ RowInside «sample_bytes» cw row (length (now plane)) ⌝ }
     requires { ⌜ (2 < cw) × (at + 2 * (cw - 2) ≤ length (now out)) ⌝ }
-    ensures { λ _. ⌜ now (out .exit) ≡ put (now (out .entry)) at (2 * (cw - 2)) (λ x. oneAxis cw (cells «sample_bytes» (now (plane .entry)) row) (2 + x)) ⌝ }
+    ensures { λ _. ⌜ now (out .exit) ≡ put (now (out .entry)) at (2 * (cw - 2))
+        (λ x. oneAxis cw (cells «sample_bytes» (now (plane .entry)) row) (2 + x)) ⌝ }
 {
     if sample_bytes == 1 {
         inner_pairs(plane, 1, row, cw, out, at);
@@ -71,7 +74,8 @@ fn last_cell(
 )
     requires { ⌜ RowInside «sample_bytes» cw row (length (now plane)) ⌝ }
     requires { ⌜ (2 < cw) × (1 ≤ n) × (n ≤ 2) × (at + n ≤ length (now out)) ⌝ }
-    ensures { λ _. ⌜ now (out .exit) ≡ put (now (out .entry)) at n (λ x. oneAxis cw (cells «sample_bytes» (now (plane .entry)) row) (2 * (cw - 1) + x)) ⌝ }
+    ensures { λ _. ⌜ now (out .exit) ≡ put (now (out .entry)) at n
+        (λ x. oneAxis cw (cells «sample_bytes» (now (plane .entry)) row) (2 * (cw - 1) + x)) ⌝ }
 {
     let before = cell(plane, sample_bytes, row, cw - 2);
     let last = cell(plane, sample_bytes, row, cw - 1);
@@ -82,7 +86,7 @@ fn last_cell(
     put_pair(out, at, before, last, last);
 }
 
-// Inner: the w values of the row.
+// Inner: the w values of the row of cells that begins at byte `row`, to out from `at` on.
 pub fn across_row(
     plane: &[u8],
     sample_bytes: usize,

@@ -1,4 +1,4 @@
-// Whether a call is turned down. Nothing is written here.
+// Whether a call of `triangular_plane` is turned down, and by which number. Nothing is written here.
 ghost use mathlib.Core.Path.{_≡_};
 ghost use Rattle.laws.specs.Refusals.{first};
 ghost use Rattle.image.specs.Samples.{Plane, planeOf};
@@ -6,14 +6,14 @@ ghost use Rattle.upsample.specs.Triangular.{badTriangular, ratios, trian
 use image::Layout;
 use laws::Answer;
 
-// Whether the ratios are rh and rv.
+// Whether the layout's ratios are rh across and rv down.
 fn ratios_are(layout: Layout, rh: usize, rv: usize) -> bool
     ensures { λ r. ⌜ r ≡ ratios layout rh rv ⌝ }
 {
     laws::both(layout.rh == rh, layout.rv == rv)
 }
 
-// Refusal 6's test.
+// Refusal 6's test: ratios other than (2,1), (1,2) and (2,2), or two cells or fewer across at rh 2.
 fn bad_triangular(layout: Layout) -> bool
     ensures { λ r. ⌜ r ≡ badTriangular layout ⌝ }
 {
@@ -22,7 +22,7 @@ fn bad_triangular(layout: Layout) -> bool
     laws::either(!known, laws::both(layout.rh == 2, layout.cw <= 2))
 }
 
-// Inner: the lowest of refusals 2 to 7 and 10 that applies; `room` is the length of the output. It writes nothing.
+// Inner: the lowest of refusals 2 to 7 and 10 that applies. `room` is the length of the output.
 pub fn triangular_answer(layout: Layout, plane: &[u8], stride: usize, room: usize) -> Answer
     ensures { λ r. ⌜ r ≡ first (triangularTests layout (planeOf (now (plane .entry)) stride) room) ⌝ }
 {

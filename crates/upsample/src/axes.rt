@@ -1,8 +1,8 @@
-// The weighing of cells along one axis and along both: of the original's src/jpeg/upsample.rs.
+// The weighing of a near and a far cell, along one axis and along both, as the original's src/jpeg/upsample.rs has it.
 ghost use mathlib.Core.Path.{_≡_};
 ghost use Prim.Native.Nat.{_+_, _*_, _/_, _≤_};
 
-// Inner: one axis, for cells of at most 65,535.
+// Inner: three parts of the near cell and one of the far, divided by 4. Cells are at most 65,535, so that the quotient fits 16 bits.
 pub fn one_axis(near: u32, far: u32, bias: u32) -> u16
     requires { ⌜ (near ≤ 65535) × (far ≤ 65535) × (bias ≤ 2) ⌝ }
     ensures { λ r. ⌜ r ≡ (3 * near + far + bias) / 4 ⌝ }
@@ -10,7 +10,8 @@ pub fn one_axis(near: u32, far: u32, bias: u32) -> u16
     ((3 * near + far + bias) >> 2) as u16
 }
 
-// Inner: both axes, for vertical sums of such cells.
+// Inner: three parts of the near vertical sum and one of the far, divided by 16. A vertical sum has four parts of cells, so that it is at
+// most 262,140 = 4 * 65,535.
 pub fn both_axes(near: u32, far: u32, bias: u32) -> u16
     requires { ⌜ (near ≤ 262140) × (far ≤ 262140) × (bias ≤ 8) ⌝ }
     ensures { λ r. ⌜ r ≡ (3 * near + far + bias) / 16 ⌝ }

@@ -1,4 +1,5 @@
-// A row at ratio (2, 2): the vertical sums of two rows, across. A cell gives two outputs: 2i weighs in the cell before it, 2i + 1 the one after.
+// A row at ratio (2,2): the vertical sums of two rows of cells, weighed across. Of the two outputs of cell i, 2i weighs in the sum before
+// it and 2i + 1 the sum after it.
 ghost use mathlib.Core.Path.{_≡_};
 ghost use Prim.Native.Nat.{_+_, _-_, _*_, _/_, _≤_, _<_};
 ghost use lib.ListN.{length, set};
@@ -8,7 +9,7 @@ use crate::axes::both_axes;
 use crate::weights::byte_sum;
 use crate::weights::cell_sum;
 
-// The two outputs of a cell.
+// The two outputs of the cell whose vertical sum is `middle`, at `at` and at + 1. Sums are at most 262,140 = 4 * 65,535.
 fn put_pair(out: &mut [u16], at: usize, before: u32, middle: u32, after: u32)
     requires { ⌜ at + 2 ≤ length (now out) ⌝ }
     requires { ⌜ (before ≤ 262140) × (middle ≤ 262140) × (after ≤ 262140) ⌝ }
@@ -18,8 +19,8 @@ fn put_pair(out: &mut [u16], at: usize, before: u32, middle: u32, after: u32)
     out[at + 1] = both_axes(middle, after, 7);
 }
 
-// The same in 16 bits, for sums of bytes.
-fn put_bytes(out: &mut [u16], at: usize, before: u16, middle: u16, after: u16)
+// The two outputs of a cell as `put_pair` has them, in 16 bits: sums of bytes are at most 1,020 = 4 * 255, so that nothing passes 65,535.
+fn put_pair_u16(out: &mut [u16], at: usize, before: u16, middle: u16, after: u16)
     requires { ⌜ at + 2 ≤ length (now out) ⌝ }
     requires { ⌜ (before ≤ 1020) × (middle ≤ 1020) × (after ≤ 1020) ⌝ }
     ensures { λ _. ⌜ now (out .exit) ≡ set (set (now (out .entry)) at ((3 * middle + before + 8) / 16)) (at + 1) ((3 * middle + after + 7) / 16) ⌝ }
@@ -48,7 +49,7 @@ fn first_cell(
     put_pair(out, at, middle, middle, after);
 }
 
-// The outputs of the cells between the first and the last.
+// The outputs of the cells between the first and the last of a row, for either size of sample.
 fn inner_pairs(
     plane: &[u8],
     sample_bytes: usize,
@@ -61,7 +62,8 @@ fn inner_pairs(
     requires { ⌜ RowInside «sample_bytes» cw near (length (now plane)) ⌝ }
     requires { ⌜ RowInside «sample_bytes» cw far (length (now plane)) ⌝ }
     requires { ⌜ (2 < cw) × (at + 2 * (cw - 2) ≤ length (now out)) ⌝ }
-    ensures { λ _. ⌜ now (out .exit) ≡ put (now (out .entry)) at (2 * (cw - 2)) (λ x. bothRow cw (sums «sample_bytes» (now (plane .entry)) near far) (2 + x)) ⌝ }
+    ensures { λ _. ⌜ now (out .exit) ≡ put (now (out .entry)) at (2 * (cw - 2))
+        (λ x. bothRow cw (sums «sample_bytes» (now (plane .entry)) near far) (2 + x)) ⌝ }
 {
     let n = cw - 2;
     let mut k = 0;
@@ -74,12 +76,14 @@ fn inner_pairs(
     }
 }
 
-// The outputs of the cells between the first and the last, for samples of one byte.
+// The outputs of the cells between the first and the last of a row, for samples of one byte. In 16 bits the compiler computes twice as many
+// at once as in 32.
 fn inner_bytes(plane: &[u8], near: usize, far: usize, cw: usize, out: &mut [u16], at: usize)
     requires { ⌜ RowInside 1 cw near (length (now plane)) ⌝ }
     requires { ⌜ RowInside 1 cw far (length (now plane)) ⌝ }
     requires { ⌜ (2 < cw) × (at + 2 * (cw - 2) ≤ length (now out)) ⌝ }
-    ensures { λ _. ⌜ now (out .exit) ≡ put (now (out .entry)) at (2 * (cw - 2)) (λ x. bothRow cw (sums 1 (now (plane .entry)) near far) (2 + x)) ⌝ }
+    ensures { λ _. ⌜ now (out .exit) ≡ put (now (out .entry)) at (2 * (cw - 2))
+        (λ x. bothRow cw (sums 1 (now (plane .entry)) near far) (2 + x)) ⌝ }
 {
     let n = cw - 2;
     let mut k = 0;
@@ -87,12 +91,12 @@ fn inner_bytes(plane: &[u8], near: usize, far: usize, cw: usize, out: &mut [u16]
         let before = byte_sum(plane, near, far, k);
         let middle = byte_sum(plane, near, far, k + 1);
         let after = byte_sum(plane, near, far, k + 2);
-        put_bytes(out, at + 2 * k, before, middle, after);
+        put_pair_u16(out, at + 2 * k, before, middle, after);
         k += 1;
     }
 }
 
-// The same for either size of sample.
+// The outputs of the cells between the first and the last of a row: samples of one byte have a loop of their own, in 16 bits.
 fn inner_cells(
     plane: &[u8],
     sample_bytes: usize,
@@ -105,7 +109,8 @@ fn inner_cells(
     requires { ⌜ RowInside «sample_bytes» cw near (length (now plane)) ⌝ }
     requires { ⌜ RowInside «sample_bytes» cw far (length (now plane)) ⌝ }
     requires { ⌜ (2 < cw) × (at + 2 * (cw - 2) ≤ length (now out)) ⌝ }
-    ensures { λ _. ⌜ now (out .exit) ≡ put (now (out .entry)) at (2 * (cw - 2)) (λ x. bothRow cw (sums «sample_bytes» (now (plane .entry)) near far) (2 + x)) ⌝ }
+    ensures { λ _. ⌜ now (out .exit) ≡ put (now (out .entry)) at (2 * (cw - 2))
+        (λ x. bothRow cw (sums «sample_bytes» (now (plane .entry)) near far) (2 + x)) ⌝ }
 {
     if sample_bytes == 1 {
         inner_bytes(plane, near, far, cw, out, at);
@@ -128,7 +133,8 @@ fn last_cell(
     requires { ⌜ RowInside «sample_bytes» cw near (length (now plane)) ⌝ }
     requires { ⌜ RowInside «sample_bytes» cw far (length (now plane)) ⌝ }
     requires { ⌜ (2 < cw) × (1 ≤ n) × (n ≤ 2) × (at + n ≤ length (now out)) ⌝ }
-    ensures { λ _. ⌜ now (out .exit) ≡ put (now (out .entry)) at n (λ x. bothRow cw (sums «sample_bytes» (now (plane .entry)) near far) (2 * (cw - 1) + x)) ⌝ }
+    ensures { λ _. ⌜ now (out .exit) ≡ put (now (out .entry)) at n
+        (λ x. bothRow cw (sums «sample_bytes» (now (plane .entry)) near far) (2 * (cw - 1) + x)) ⌝ }
 {
     let before = cell_sum(plane, sample_bytes, near, far, cw - 2);
     let last = cell_sum(plane, sample_bytes, near, far, cw - 1);
@@ -139,7 +145,7 @@ fn last_cell(
     put_pair(out, at, before, last, last);
 }
 
-// Inner: the w values of the row.
+// Inner: the w values of the row between the rows of cells that begin at bytes `near` and `far`, to out from `at` on.
 pub fn both_row(
     plane: &[u8],
     sample_bytes: usize,

@@ -1,4 +1,4 @@
-// A row at ratio (1, 2): one axis, down.
+// A row at ratio (1,2): one axis, down. Each output weighs the cell of its own column in two rows of cells.
 ghost use mathlib.Core.Path.{_≡_};
 ghost use Prim.Native.Nat.{_+_, _≤_};
 ghost use lib.ListN.{length};
@@ -7,7 +7,7 @@ ghost use Rattle.upsample.specs.Pairs.{RowInside, downRow};
 use crate::axes::one_axis;
 use crate::weights::cell;
 
-// The w values of a row between the rows of cells at near and far, for either size of sample.
+// The w values of a row between the rows of cells that begin at bytes `near` and `far`, for either size of sample.
 fn down_cells(
     plane: &[u8],
     sample_bytes: usize,
@@ -35,7 +35,8 @@ fn down_cells(
     }
 }
 
-// Inner: the same. The size of a sample stands in each call as a literal, so that each size has a loop of its own.
+// Inner: the w values of a row between the rows of cells that begin at bytes `near` and `far`. The size of a sample stands in each call of
+// `down_cells` as a literal, so that the compiler makes a loop for each size.
 pub fn down_row(
     plane: &[u8],
     sample_bytes: usize,

@@ -1,5 +1,4 @@
-// Triangular chroma upsampling of a whole plane: the original's src/jpeg/upsample.rs.
-
+// Triangular chroma upsampling of a whole plane: `triangular` of the original's src/jpeg/upsample.rs, and the public call.
 ghost use mathlib.Core.Path.{_≡_};
 ghost use Prim.Native.Nat.{_*_, _<_};
 ghost use lib.ListN.{length};
@@ -11,11 +10,13 @@ ghost use Rattle.upsample.specs.Triangular.{TriangularGiven, triangularT
 use image::Layout;
 use laws::Answer;
 
-// Row y of an accepted call.
+// Row y of an accepted call, by the ratios. At rv 1 a row of cells is a row of output; at rv 2 output row y lies between cell row y / 2 and
+// the far one.
 fn triangular_row(layout: Layout, plane: &[u8], stride: usize, y: usize, out: &mut [u16])
     requires { ⌜ first (triangularTests layout (planeOf (now plane) stride) (length (now out))) ≡ Accepted ⌝ }
     requires { ⌜ y < layout .h ⌝ }
-    ensures { λ _. ⌜ now (out .exit) ≡ put (now (out .entry)) (y * layout .w) (layout .w) (triangularSample layout (sampleAt (layout .«sample_bytes») (planeOf (now (plane .entry)) stride)) y) ⌝ }
+    ensures { λ _. ⌜ now (out .exit) ≡ put (now (out .entry)) (y * layout .w) (layout .w)
+        (triangularSample layout (sampleAt (layout .«sample_bytes») (planeOf (now (plane .entry)) stride)) y) ⌝ }
 {
     let bytes = layout.sample_bytes;
     let cw = layout.cw;
@@ -35,7 +36,7 @@ fn triangular_row(layout: Layout, plane: &[u8], stride: usize, y: usize, out: &m
     crate::both::both_row(plane, bytes, near, far, cw, w, out, at);
 }
 
-// All rows of an accepted call.
+// All rows of an accepted call, one after another.
 fn triangular(layout: Layout, plane: &[u8], stride: usize, out: &mut [u16])
     requires { ⌜ first (triangularTests layout (planeOf (now plane) stride) (length (now out))) ≡ Accepted ⌝ }
     ensures { λ _. ⌜ now (out .exit) ≡ triangularPlane layout (planeOf (now (plane .entry)) stride) (now (out .entry)) ⌝ }
@@ -47,7 +48,7 @@ fn triangular(layout: Layout, plane: &[u8], stride: usize, out: &mut [u16])
     }
 }
 
-// One whole chroma plane, triangular: w by h values into out. Refusals 2, 3, 4, 5, 6, 7 and 10.
+// One whole chroma plane by triangular weights: w by h values into out. It answers refusals 2, 3, 4, 5, 6, 7 and 10, and takes no scratch.
 pub fn triangular_plane(layout: Layout, plane: &[u8], stride: usize, out: &mut [u16]) -> Answer
     ensures { λ r. ⌜ TriangularGiven layout (planeOf (now (plane .entry)) stride) (now (out .entry)) r (now (out .exit)) ⌝ }
 {

@@ -1,3 +1,5 @@
+-- The size is 3 or 4 by the contract, so that each branch knows it and its callee's row is the row of that size.
+-- The mask is 4 * 4,194,304 - 1 = 16,777,215 in the second branch, which omega computes.
 use mathlib.Core.Path.{_≡_, ap, _∙_}
 use Prim.Native.Nat.{ℕ}
 use native.Mathlib.Omega.{arith}

@@ -1,3 +1,5 @@
+-- A loop that stores pixels (`Stored` of kernel_blocks) by blocks of sixteen; the last overlaps what is stored and stores it again, by
+-- `stored-over`. `place` says where a block begins and ends, which needs a row as wide as a block, and that is in `Blocked`.
 use borrow.Author.Needs.{needs}
 use Prim.Native.Nat.{_+_, _-_, _*_, _≤_, _<_}
 use native.Mathlib.Omega.{arith}

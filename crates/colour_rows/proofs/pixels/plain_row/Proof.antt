@@ -1,3 +1,5 @@
+-- A loop that stores pixels (`Stored` of kernel_blocks), one a turn by `stored-more`; `in-row-read` says that its samples are the row's.
+-- That pixel x fits the output is `row-fits`, the one product that omega doesn't find.
 use mathlib.Core.Path.{_∙_}
 use Prim.Native.Nat.{_+_, _-_, _*_, _≤_}
 use native.Mathlib.Omega.{arith}

@@ -1,3 +1,5 @@
+-- A loop that writes a run (`Run` of laws), four values a turn, each by `between-is`: output j of pair i is output 4i + j.
+-- The cells lie behind all that is written, so that by `run-after` they are still those that the call was handed.
 use borrow.Author.Needs.{needs}
 use mathlib.Core.Path.{_≡_, ap, _∙_}
 use Prim.Native.Nat.{_+_, _-_, _*_, _≤_}

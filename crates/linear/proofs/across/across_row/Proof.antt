@@ -1,3 +1,5 @@
+-- Head, pairs and rest are one run by `across-parts`, since each part leaves the cells, which lie behind the row, as they were.
+-- The pairs' loop is no loop over taps; `between-taps` says that its outputs are those of the taps from r / 2 on.
 use mathlib.Core.Path.{_≡_, ap, _∙_}
 use Prim.Native.Nat.{ℕ, _+_, _-_, _*_, _/_, _<_}
 use lib.Ieee.{Float}

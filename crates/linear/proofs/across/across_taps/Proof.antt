@@ -1,3 +1,5 @@
+-- A loop that writes a run (`Run` of laws), a value a turn, by the tap of its own position. The cells of the tap lie behind all that is
+-- written, so that by `run-after` the lerp reads what the call was handed; that they are cells of the row is the tap's own contract.
 use borrow.Author.Needs.{needs}
 use mathlib.Core.Path.{refl, _∙_}
 use Prim.Native.Nat.{_+_, _-_, _≤_}

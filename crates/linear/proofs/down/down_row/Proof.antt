@@ -1,3 +1,5 @@
+-- A loop that writes a run (`Run` of laws), each value a lerp of two samples. Sample i lies within its row by `row-fits`: i < n gives
+-- (i + 1) * bytes <= n * bytes, the one product that omega doesn't find; with it every read and every address is linear arithmetic.
 use borrow.Author.Needs.{needs}
 use Prim.Native.Nat.{_+_, _-_, _*_, _≤_}
 use Rattle.linear.specs.Down.{downAt, downRun}

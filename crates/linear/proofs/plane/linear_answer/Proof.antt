@@ -1,3 +1,5 @@
+-- The answer is the first of `linearTests`: a refused layout answers early (`refused-early`), and after it only the rest counts (`later`).
+-- The scratch test asks for a sound layout, which the passed layout tests give (`sound`); the area can't wrap for the same reason.
 use mathlib.Core.Path.{_≡_, refl, sym, ap, _∙_}
 use Prim.Native.Nat.{_*_, _≤_}
 use mathlib.Core.Bool.{true, false}
@@ -31,7 +33,7 @@ passed c = sym (ap accepted (c .before .before .answer .ensures)) ∙ not-false 
 sound : (c : tie.Else1) → Sound (c .before .before .before .before .args .layout)
 sound c = sound-answer false (c .before .before .before .before .args .layout) (passed c)
 
--- so that the rest answers
+-- where the layout's tests passed, the rest answers
 later : (c : tie.Else1) (a : Answer) → first (rest (c .before .before .before .before)) ≡ a
     → a ≡ first (linearTests (c .before .before .before .before .args .layout) (planeOf (c .before .before .before .before .args .plane .now) (c .before .before .before .before .args .stride)) (c .before .before .before .before .args .space) (c .before .before .before .before .args .room))
 unfolding linearTests

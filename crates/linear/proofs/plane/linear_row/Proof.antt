@@ -1,8 +1,10 @@
+-- The row is down and then across, as LinearRows has them: `down-is` turns the first call's run into the definition's cells, `row-is` the second's
+-- into `linearRow`. What is to be shown here is room: both rows of the tap end within the plane (`rows`), cells and row within scratch (`room`).
 use mathlib.Core.Path.{ap, _∙_}
 use Prim.Native.Nat.{_+_, _*_, _≤_}
 use Rattle.image.specs.Samples.{Plane, planeOf}
 use Rattle.image.proofs.Planes.{short-holds, row-inside}
-use Rattle.linear.specs.Linear.{columnAt}
+use Rattle.linear.specs.Linear.{linearCellsAt}
 use Rattle.image.specs.Scratch.{scratchNeed}
 use Rattle.linear.specs.AcrossRows.{acrossRun}
 use Rattle.linear.proofs.LinearRows.{down-is, row-is}
@@ -21,7 +23,7 @@ rows c =
     let o = short-holds l (l .cw) (l .ch) (planeOf (s .args .plane .now) (s .args .stride)) (s .pre .0 .plane) in
     (row-inside o (c .tap-at .result .i0) (c .tap-at .ensures .i0-inside), row-inside o (c .tap-at .result .i1) (c .tap-at .ensures .i1-inside))
 
--- the two finished rows and the column buffer fit
+-- the two finished rows and the cells behind them fit
 room : (c : tie.Start) → 2 * c .args .layout .w + c .args .layout .cw ≤ length (c .args .s .now)
 unfolding scratchNeed
 room c = omega arith
@@ -35,8 +37,8 @@ mul-a c = let h = rows (c .before) in omega arith
 mul-b : tie.Need-mul-b
 mul-b c = let h = rows (c .before .before) in omega arith
 
-mul-column : tie.Need-mul-column
-mul-column c = search needs
+mul-cells : tie.Need-mul-cells
+mul-cells c = search needs
 
 down-row-requires : tie.Need-down-row-requires
 down-row-requires c κs = let h = rows (c .before .before .before .before) in let k = room (c .before .before .before .before .before .before .before) in omega arith
@@ -55,7 +57,7 @@ returns c =
     let p : Plane = record { bytes = a .plane .now; stride = a .stride } in
     let t = c .before .before .before .before .before .before .before .before .before .before .before .tap-at in
     c .before .before .across-row .ensures
-    ∙ ap (acrossRun (columnAt l) (l .cw) (l .rh) (a .dst) 0 (l .w)) (c .before .before .before .before .before .before .down-row .ensures ∙ down-is l p (a .y) (t .result) (a .s .now) (t .ensures .is))
+    ∙ ap (acrossRun (linearCellsAt l) (l .cw) (l .rh) (a .dst) 0 (l .w)) (c .before .before .before .before .before .before .down-row .ensures ∙ down-is l p (a .y) (t .result) (a .s .now) (t .ensures .is))
     ∙ row-is l p (a .dst) (a .y) (a .s .now) (s .pre .0 .sound) (room s)
 
 pub linear-row-spec : {M : Type 1} → statement M
@@ -65,7 +67,7 @@ linear-row-spec =
     tap-at-requires
     mul-a
     mul-b
-    mul-column
+    mul-cells
     down-row-requires
     across-row-requires
     same-length

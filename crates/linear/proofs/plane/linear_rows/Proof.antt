@@ -1,3 +1,5 @@
+-- Two invariants go round the loop: the rows of out that are written (`Rows` of laws) and scratch after as many rows (`Scratched`).
+-- A turn's hard step is `stored-is`: what `store_row` rounds out of scratch is the row that `linear_row` has just left there.
 use mathlib.Core.Path.{ap, _∙_}
 use Prim.Native.Nat.{_+_, _-_, _*_, _≤_}
 use lib.Ieee.{Float}

@@ -1,3 +1,5 @@
+-- A loop that writes a run (`Run` of laws): the invariant is the run so far, and each turn adds a value by `run-more`.
+-- The one step of its own: maxval is below the grid's limit 4,194,304, so that rounding by the grid limits to maxval itself.
 use borrow.Author.Needs.{needs}
 use mathlib.Core.Path.{_≡_, ap, _∙_}
 use Prim.Native.Nat.{ℕ, _-_, _≤_, min}

@@ -1,3 +1,5 @@
+-- A loop that writes a run by blocks of sixteen. The last block overlaps what is stored, and stores the same again: `run-over`.
+-- `place` says where a block begins and ends; `between-same` that its cells are still those that the call was handed.
 use mathlib.Core.Path.{_∙_}
 use Prim.Native.Nat.{_+_, _-_, _*_, _≤_, _<_}
 use native.Mathlib.Omega.{arith}

@@ -1,3 +1,5 @@
+-- The block is filled from the front, two values a turn (`front-more`), each by `between-is`: outputs 0 and 1 of pair i + k are outputs
+-- 2i + 2k and 2i + 2k + 1. The slice isn't written, so that the cells are the call's without a law.
 use mathlib.Core.Path.{refl, ap, _∙_}
 use Prim.Native.Nat.{_+_, _-_, _*_, _≤_}
 use native.Mathlib.Omega.{arith}

@@ -1,3 +1,5 @@
+-- A loop that writes a run (`Run` of laws), two values a turn (`run-two`): cell k + 1 gives outputs 2 + 2k and 2 + 2k + 1.
+-- That they are the axis's is `one-even` and `one-odd` of Axis; no edge is near, so that k and k + 2 are the cells beside it.
 use mathlib.Core.Path.{refl}
 use Prim.Native.Nat.{_+_, _-_, _*_, _≤_}
 use native.Mathlib.Omega.{arith}

@@ -1,3 +1,5 @@
+-- One output or two, written from nothing (`run-one`, `run-two`). They are the axis's last by `one-even` and `one-odd` of Axis: the cell before
+-- the last is cw - 2, and the one after it is the last itself, since min (i + 1) (cw - 1) is cw - 1 there.
 use mathlib.Core.Path.{refl}
 use Prim.Native.Nat.{_+_, _-_, _*_}
 use native.Mathlib.Omega.{arith}

@@ -1,3 +1,5 @@
+-- The answer is the first of `triangularTests`: a refused layout answers early, and otherwise the passed tests drop one by one (`passed-over`)
+-- up to the one that applies (`refused-here`). The area w * h can't wrap, since the layout that passed is sound.
 use mathlib.Core.Path.{_≡_, sym, _∙_}
 use mathlib.Core.Bool.{true, false}
 use mathlib.Core.List.{[]}

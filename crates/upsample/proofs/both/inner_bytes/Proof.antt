@@ -1,3 +1,5 @@
+-- A loop that writes a run (`Run` of laws), two values a turn (`run-two`): cell k + 1 gives outputs 2 + 2k and 2 + 2k + 1.
+-- That they are the row's is `both-even` and `both-odd` of Axis, over the sums of bytes that `byte_sum` promises.
 use mathlib.Core.Path.{refl}
 use Prim.Native.Nat.{_+_, _-_, _*_, _≤_}
 use native.Mathlib.Omega.{arith}
@@ -37,14 +39,14 @@ add-byte-sum-2 c = omega arith
 byte-sum-requires-3 : tie.Need-byte-sum-requires-3 Inv-loop μ-loop
 byte-sum-requires-3 c κs = (cells-to (c .before .before .before .before .before .before .pre .0) (c .before .before .before .loop .k + 2) (omega arith), cells-to (c .before .before .before .before .before .before .pre .1 .0) (c .before .before .before .loop .k + 2) (omega arith))
 
-mul-put-bytes : tie.Need-mul-put-bytes Inv-loop μ-loop
-mul-put-bytes c = omega arith
+mul-put-pair-u16 : tie.Need-mul-put-pair-u16 Inv-loop μ-loop
+mul-put-pair-u16 c = omega arith
 
-add-put-bytes : tie.Need-add-put-bytes Inv-loop μ-loop
-add-put-bytes c = omega arith
+add-put-pair-u16 : tie.Need-add-put-pair-u16 Inv-loop μ-loop
+add-put-pair-u16 c = omega arith
 
-put-bytes-requires : tie.Need-put-bytes-requires Inv-loop μ-loop
-put-bytes-requires c κs = search needs
+put-pair-u16-requires : tie.Need-put-pair-u16-requires Inv-loop μ-loop
+put-pair-u16-requires c κs = search needs
 
 add-k : tie.Need-add-k Inv-loop μ-loop
 add-k c = omega arith
@@ -59,7 +61,7 @@ loop-again c =
     let v = sums 1 (a .plane .now) (a .near) (a .far) in
     let k = l .loop .k in (
       omega arith,
-      run-two (l .loop .inv .1) _ (a .at + 2 * k) (2 * (k + 1)) _ _ (c .before .before .put-bytes .ensures) refl (omega arith)
+      run-two (l .loop .inv .1) _ (a .at + 2 * k) (2 * (k + 1)) _ _ (c .before .before .put-pair-u16 .ensures) refl (omega arith)
           (omega (arith, both-even (a .cw) v k (k + 1) (2 + 2 * k) (omega arith) (omega arith), c .before .before .before .before .before .before .byte-sum .ensures .0, c .before .before .before .before .before .byte-sum2 .ensures .0))
           (omega (arith, both-odd (a .cw) v (k + 1) (k + 2) (2 + (2 * k + 1)) (omega arith) (omega arith), c .before .before .before .before .before .byte-sum2 .ensures .0, c .before .before .before .before .byte-sum3 .ensures .0)),
     )
@@ -83,9 +85,9 @@ inner-bytes-spec =
     byte-sum-requires-2
     add-byte-sum-2
     byte-sum-requires-3
-    mul-put-bytes
-    add-put-bytes
-    put-bytes-requires
+    mul-put-pair-u16
+    add-put-pair-u16
+    put-pair-u16-requires
     add-k
     loop-less
     loop-again

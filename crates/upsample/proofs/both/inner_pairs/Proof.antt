@@ -1,3 +1,5 @@
+-- A loop that writes a run (`Run` of laws), two values a turn (`run-two`): cell k + 1 gives outputs 2 + 2k and 2 + 2k + 1.
+-- That they are the row's is `both-even` and `both-odd` of Axis, over the sums that `cell_sum` promises for either size of sample.
 use mathlib.Core.Path.{refl}
 use Prim.Native.Nat.{_+_, _-_, _*_, _≤_}
 use native.Mathlib.Omega.{arith}

@@ -1,3 +1,5 @@
+-- One output or two, written from nothing (`run-one`, `run-two`). They are the row's last by `both-even` and `both-odd` of Axis: the sum before
+-- the last is that of cell cw - 2, and the one after it is the last itself, since min (i + 1) (cw - 1) is cw - 1 there.
 use mathlib.Core.Path.{refl}
 use Prim.Native.Nat.{_+_, _-_, _*_}
 use native.Mathlib.Omega.{arith}

@@ -1,3 +1,5 @@
+-- A loop that writes a run (`Run` of laws), a value a turn: `downRow` unfolds to the quotient that `one_axis` promises.
+-- Cell x of w lies within both rows by `cells-to`.
 use mathlib.Core.Path.{sym}
 use Prim.Native.Nat.{_-_, _≤_}
 use native.Mathlib.Omega.{arith}

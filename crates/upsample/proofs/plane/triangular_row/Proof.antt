@@ -1,3 +1,5 @@
+-- By cases of the ratios, which `handed` takes from the accepted tests: each case's row (`across-is`, `down-is`, `both-is` of Ratios) is the
+-- definition's sample there. What is left is that near and far rows lie within the plane, for which cell row y / 2 must be one of ch.
 use mathlib.Core.Path.{_∙_}
 use Prim.Native.Nat.{_*_, _/_, _<_}
 use native.Mathlib.Omega.{arith}

@@ -1,3 +1,5 @@
+-- The answer is the first of `layoutTests`: on the way to each `return` every test before it was asked and failed, which is what the
+-- three lemmas carry on. Then `first` computes by these equations; no step is hard, but each return needs all tests before it.
 use mathlib.Core.Path.{_≡_, refl, sym, _∙_}
 use mathlib.Core.Bool.{false}
 use borrow.Author.Needs.{needs}

@@ -1,3 +1,5 @@
+-- The block is filled from the front, a float a turn (`front-more`), each the float that `centred_256ths` promises.
+-- `Centred` asks besides that the rounded number is at most 65,536, which `round-within` has of every rounding.
 use Prim.Native.Nat.{_+_, _-_, _≤_}
 use native.Mathlib.Omega.{arith}
 use borrow.Author.Needs.{needs}
@@ -7,8 +9,8 @@ use Rattle.laws.specs.Floats.{f32, _⊖_, _⊗_}
 use Rattle.fround.proofs.Laws.{round-within}
 use Rattle.fround.specs.Rounding.{roundClamped}
 use Rattle.image.specs.Scratch.{cellAt}
-use Rattle.colour_rows.proofs.samples.chroma16.Statement.{statement}
-use Rattle.colour_rows.proofs.samples.chroma16.Tie as tie
+use Rattle.colour_rows.proofs.samples.chroma_block.Statement.{statement}
+use Rattle.colour_rows.proofs.samples.chroma_block.Tie as tie
 
 abbrev Inv-loop : tie.InvT-loop
 Inv-loop s src x v₀ k₀ v k = (k ≤ 16) × Run v₀ v 0 k (λ m. f32 (roundClamped 65536 (cellAt s src (x + m) ⊗ f32 256)) ⊖ f32 32768)
@@ -52,8 +54,8 @@ loop-again c = (omega arith, front-more (c .before .before .before .loop .inv .1
 returns : tie.Need-returns Inv-loop μ-loop
 returns c = λ k h. record { most = round-within _ _; is = front-at (c .before .loop .inv .1) k nan (omega arith) (omega arith) }
 
-pub chroma16-spec : {M : Type 1} → statement M
-chroma16-spec =
+pub chroma-block-spec : {M : Type 1} → statement M
+chroma-block-spec =
     tie.close
     (tie.spec
     Inv-loop

@@ -1,8 +1,10 @@
+-- Nothing wraps in 16 bits, since 3 * 1020 + 1020 + 8 is 4,088: the bounds of the contract give every need by arithmetic.
+-- The second store is within the slice because the first kept its length (`length-set`).
 use native.Mathlib.Omega.{arith}
 use lib.ListN.{length-set}
 use borrow.Author.Needs.{needs}
-use Rattle.upsample.proofs.both.put_bytes.Statement.{statement}
-use Rattle.upsample.proofs.both.put_bytes.Tie as tie
+use Rattle.upsample.proofs.both.put_pair_u16.Statement.{statement}
+use Rattle.upsample.proofs.both.put_pair_u16.Tie as tie
 
 mul-out : tie.Need-mul-out
 mul-out c = search needs
@@ -43,8 +45,8 @@ same-length c = search needs
 returns : tie.Need-returns
 returns c = search needs
 
-pub put-bytes-spec : {M : Type 1} → statement M
-put-bytes-spec =
+pub put-pair-u16-spec : {M : Type 1} → statement M
+put-pair-u16-spec =
     tie.close
     (tie.spec
     mul-out

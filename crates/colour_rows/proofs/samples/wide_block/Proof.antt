@@ -1,11 +1,13 @@
+-- The block is filled from the front, a number a turn (`Filled` of lanes), and each number has what `wide` promises: its value and its bound.
+-- The bound has to go with the value, since the kernel asks for it and an array's type doesn't keep it.
 use mathlib.Core.Path.{_≡_, refl}
 use Prim.Native.Nat.{_-_, _≤_}
 use native.Mathlib.Omega.{arith}
 use lib.ListN.{getD}
 use borrow.Author.Needs.{needs}
 use Rattle.lanes.proofs.Filled.{Filled, filled-none, filled-more}
-use Rattle.colour_rows.proofs.samples.wide16.Statement.{statement}
-use Rattle.colour_rows.proofs.samples.wide16.Tie as tie
+use Rattle.colour_rows.proofs.samples.wide_block.Statement.{statement}
+use Rattle.colour_rows.proofs.samples.wide_block.Tie as tie
 
 abbrev Inv-loop : tie.InvT-loop
 Inv-loop y v₀ k₀ v k = (k ≤ 16) × Filled v k (λ m x. (x ≡ getD y m 0) × (x ≤ 65535))
@@ -43,8 +45,8 @@ loop-again c = (omega arith, filled-more (c .before .before .loop .inv .1) (omeg
 returns : tie.Need-returns Inv-loop μ-loop
 returns c = λ k h. c .before .loop .inv .1 .reads k (omega arith)
 
-pub wide16-spec : {M : Type 1} → statement M
-wide16-spec =
+pub wide-block-spec : {M : Type 1} → statement M
+wide-block-spec =
     tie.close
     (tie.spec
     Inv-loop
