@@ -37,13 +37,14 @@ pub record Replied (handed : ChromaReader) (Given : Reply → Type 0) (r : Chrom
   pub given : Given reply
   pub is : r ≡ replyTo handed reply
 
--- the same, where the state is looked at: 1 for one that stands for none, with nothing changed (`Kept`)
+-- a reply of a call that looks at the state that it was handed: 1 for one that stands for none, with nothing changed (`Kept`), else the Rattle call's
 pub record Checked (handed : ChromaReader) (Kept : Type 0) (Given : Reply → Type 0) (r : ChromaReply) : Type 0 where
   pub strange : strangePhases handed ≡ true → (r ≡ record { refusal = 1; reader = handed }) × Kept
   pub plain : strangePhases handed ≡ false → Replied handed Given r
 
 -- ---- fill
 
+-- a where the bool is true, else b
 abbrev pub pickUpsampling : Bool → ChromaUpsampling → ChromaUpsampling → ChromaUpsampling
 pickUpsampling true a b = a
 pickUpsampling false a b = b

@@ -1,6 +1,7 @@
 // Fill to RGB, for C.
 ghost use mathlib.Core.Path.{_≡_};
 ghost use Rattle.fill.specs.Fill.{FillGiven};
+ghost use Rattle.fill.specs.Tests.{fillCall};
 ghost use Rattle.ffi.specs.Types.{asStrides, asLayout};
 ghost use Rattle.ffi.specs.Calls.{Filled, asUpsampling, asKernel};
 ghost use Rattle.image.specs.Picture.{planesOf};
@@ -12,6 +13,7 @@ use crate::types::to_strides;
 use fill::ChromaUpsampling;
 use kernels::YcbcrKernel;
 
+// The chroma that C's switch stands for: 1 is guided. Another number than 0 and 1 was answered before.
 fn to_upsampling(n: u32) -> ChromaUpsampling
     ensures { λ r. ⌜ r ≡ asUpsampling n ⌝ }
 {
@@ -21,6 +23,7 @@ fn to_upsampling(n: u32) -> ChromaUpsampling
     ChromaUpsampling::Linear
 }
 
+// The kernel that C's switch stands for: 1 is fixed. Another number than 0 and 1 was answered before.
 fn to_kernel(n: u32) -> YcbcrKernel
     ensures { λ r. ⌜ r ≡ asKernel n ⌝ }
 {
@@ -44,7 +47,13 @@ pub extern "C" fn chroma_fill(
     s: &mut [f32],
     out: &mut [u8],
 ) -> u32
-    ensures { λ r. ⌜ Filled upsampling kernel ((now (s .exit) ≡ now (s .entry)) × (now (out .exit) ≡ now (out .entry))) (λ u k a. FillGiven (record { layout = asLayout layout; planes = planesOf (now (y .entry)) (now (cb .entry)) (now (cr .entry)) (asStrides strides); upsampling = u; kernel = k; size = size; scratch = now (s .entry); out = now (out .entry) }) a (now (s .exit)) (now (out .exit))) r ⌝ }
+    ensures { λ r. ⌜ Filled upsampling kernel
+        ((now (s .exit) ≡ now (s .entry)) × (now (out .exit) ≡ now (out .entry)))
+        (λ u k a. FillGiven
+        (fillCall (asLayout layout) (planesOf (now (y .entry)) (now (cb .entry)) (now (cr .entry)) (asStrides strides))
+        u k size (now (s .entry)) (now (out .entry)))
+        a (now (s .exit)) (now (out .exit)))
+        r ⌝ }
 {
     if laws::either(1 < upsampling, 1 < kernel) {
         return 255;

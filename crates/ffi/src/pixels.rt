@@ -5,6 +5,7 @@ ghost use Rattle.ffi.specs.Calls.{chromaPixel};
 use crate::types::ChromaPixel;
 use kernels::Pixel;
 
+// A pixel in C's form: its colour and 0, or the refusal's number and no colour.
 fn from_pixel(p: Pixel) -> ChromaPixel
     ensures { λ r. ⌜ r ≡ chromaPixel p ⌝ }
 {

@@ -9,7 +9,7 @@ use crate::types::ChromaLayout;
 use crate::types::number_of;
 use crate::types::to_layout;
 
-// `linear_plane`.
+// `linear_plane`: one chroma plane by linear interpolation.
 #[no_mangle]
 pub extern "C" fn chroma_linear_plane(
     layout: ChromaLayout,
@@ -18,12 +18,16 @@ pub extern "C" fn chroma_linear_plane(
     s: &mut [f32],
     out: &mut [u16],
 ) -> u32
-    ensures { λ r. ⌜ Answered (λ a. LinearGiven (asLayout layout) (planeOf (now (plane .entry)) stride) (now (s .entry)) (now (out .entry)) a (now (s .exit)) (now (out .exit))) r ⌝ }
+    ensures { λ r. ⌜ Answered
+        (λ a. LinearGiven (asLayout layout) (planeOf (now (plane .entry)) stride)
+        (now (s .entry)) (now (out .entry))
+        a (now (s .exit)) (now (out .exit)))
+        r ⌝ }
 {
     number_of(linear::linear_plane(to_layout(layout), plane, stride, s, out))
 }
 
-// `guided_plane`.
+// `guided_plane`: one chroma plane guided by luma.
 #[no_mangle]
 pub extern "C" fn chroma_guided_plane(
     layout: ChromaLayout,
@@ -34,12 +38,17 @@ pub extern "C" fn chroma_guided_plane(
     s: &mut [f32],
     out: &mut [u16],
 ) -> u32
-    ensures { λ r. ⌜ Answered (λ a. GuidedGiven (asLayout layout) (planeOf (now (y .entry)) «y_stride») (planeOf (now (plane .entry)) stride) (now (s .entry)) (now (out .entry)) a (now (s .exit)) (now (out .exit))) r ⌝ }
+    ensures { λ r. ⌜ Answered
+        (λ a. GuidedGiven (asLayout layout)
+        (planeOf (now (y .entry)) «y_stride») (planeOf (now (plane .entry)) stride)
+        (now (s .entry)) (now (out .entry))
+        a (now (s .exit)) (now (out .exit)))
+        r ⌝ }
 {
     number_of(guided_plane::guided_plane(to_layout(layout), y, y_stride, plane, stride, s, out))
 }
 
-// `triangular_plane`.
+// `triangular_plane`: one chroma plane by the triangular filter on whole numbers.
 #[no_mangle]
 pub extern "C" fn chroma_triangular_plane(
     layout: ChromaLayout,
@@ -47,7 +56,10 @@ pub extern "C" fn chroma_triangular_plane(
     stride: usize,
     out: &mut [u16],
 ) -> u32
-    ensures { λ r. ⌜ Answered (λ a. TriangularGiven (asLayout layout) (planeOf (now (plane .entry)) stride) (now (out .entry)) a (now (out .exit))) r ⌝ }
+    ensures { λ r. ⌜ Answered
+        (λ a. TriangularGiven (asLayout layout) (planeOf (now (plane .entry)) stride)
+        (now (out .entry)) a (now (out .exit)))
+        r ⌝ }
 {
     number_of(upsample::triangular_plane(to_layout(layout), plane, stride, out))
 }

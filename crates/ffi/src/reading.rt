@@ -1,6 +1,6 @@
 // The reader's calls for C: open, seek and row.
 ghost use mathlib.Core.Path.{_≡_};
-ghost use Rattle.guided.specs.Calls.{OpenGiven, SeekGiven, RowGiven};
+ghost use Rattle.guided.specs.Calls.{openCall, seekCall, rowCall, OpenGiven, SeekGiven, RowGiven};
 ghost use Rattle.ffi.specs.Types.{asStrides, asLayout, asReader};
 ghost use Rattle.ffi.specs.Calls.{Replied, Checked};
 ghost use Rattle.image.specs.Picture.{planesOf};
@@ -25,7 +25,11 @@ pub extern "C" fn chroma_open(
     s: &[f32],
     reader: ChromaReader,
 ) -> ChromaReply
-    ensures { λ r. ⌜ Replied reader (OpenGiven (record { layout = asLayout layout; planes = planesOf (now (y .entry)) (now (cb .entry)) (now (cr .entry)) (asStrides strides); scratch = now (s .entry); reader = asReader reader })) r ⌝ }
+    ensures { λ r. ⌜ Replied reader
+        (OpenGiven (openCall (asLayout layout)
+        (planesOf (now (y .entry)) (now (cb .entry)) (now (cr .entry)) (asStrides strides))
+        (now (s .entry)) (asReader reader)))
+        r ⌝ }
 {
     let reply = reader::open(
         to_layout(layout),
@@ -42,7 +46,7 @@ pub extern "C" fn chroma_open(
 // `seek`: the reader at row y.
 #[no_mangle]
 pub extern "C" fn chroma_seek(reader: ChromaReader, y: usize) -> ChromaReply
-    ensures { λ r. ⌜ Checked reader Unit (SeekGiven (record { y = y; reader = asReader reader })) r ⌝ }
+    ensures { λ r. ⌜ Checked reader Unit (SeekGiven (seekCall y (asReader reader))) r ⌝ }
 {
     if strange_phases(reader) {
         return ChromaReply { refusal: 1, reader };
@@ -64,7 +68,15 @@ pub extern "C" fn chroma_row(
     out_cb: &mut [f32],
     out_cr: &mut [f32],
 ) -> ChromaReply
-    ensures { λ r. ⌜ Checked reader ((now (s .exit) ≡ now (s .entry)) × (now («out_cb» .exit) ≡ now («out_cb» .entry)) × (now («out_cr» .exit) ≡ now («out_cr» .entry))) (λ p. RowGiven (record { y = row; planes = planesOf (now (y .entry)) (now (cb .entry)) (now (cr .entry)) (asStrides strides); reader = asReader reader; scratch = now (s .entry); outCb = now («out_cb» .entry); outCr = now («out_cr» .entry) }) p (now (s .exit)) (now («out_cb» .exit)) (now («out_cr» .exit))) r ⌝ }
+    ensures { λ r. ⌜ Checked reader
+        ((now (s .exit) ≡ now (s .entry))
+        × (now («out_cb» .exit) ≡ now («out_cb» .entry))
+        × (now («out_cr» .exit) ≡ now («out_cr» .entry)))
+        (λ p. RowGiven
+        (rowCall row (planesOf (now (y .entry)) (now (cb .entry)) (now (cr .entry)) (asStrides strides)) (asReader reader)
+        (now (s .entry)) (now («out_cb» .entry)) (now («out_cr» .entry)))
+        p (now (s .exit)) (now («out_cb» .exit)) (now («out_cr» .exit)))
+        r ⌝ }
 {
     if strange_phases(reader) {
         return ChromaReply { refusal: 1, reader };

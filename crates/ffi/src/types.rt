@@ -1,4 +1,5 @@
-// What crosses the boundary to C, and its translation: structs with C's layout, whose numbers stand for the Rattle calls' bools and enums.
+// What crosses the boundary to C, and its translation: structs with C's layout, whose numbers stand for the Rattle calls' bools and
+// enums.
 ghost use mathlib.Core.Path.{_≡_};
 ghost use Rattle.ffi.specs.Types.{asStrides, asLayout, asPhase, chromaPhase, asReader, chromaReader, strangePhases, numberOf};
 use guided::Geometry;
@@ -9,7 +10,7 @@ use laws::Answer;
 use laws::either;
 use taps::Phase;
 
-// A picture's numbers.
+// A picture's numbers, as `Layout` has them.
 #[repr(C)]
 pub struct ChromaLayout {
     pub w: usize,
@@ -37,7 +38,7 @@ pub struct ChromaPhase {
     pub f: f32,
 }
 
-// The reader's state.
+// A reader's state, its geometry spread out: C passes it from call to call and needn't look at it.
 #[repr(C)]
 pub struct ChromaReader {
     pub w: usize,
@@ -54,7 +55,7 @@ pub struct ChromaReader {
     pub f_next: usize,
 }
 
-// `refusal` is 0 where the call was accepted, as in the others.
+// What open, seek and row answer: the state afterwards, and 0 as `refusal` where the call was accepted.
 #[repr(C)]
 pub struct ChromaReply {
     pub refusal: u32,
@@ -104,6 +105,7 @@ pub fn to_strides(strides: ChromaStrides) -> Strides
     }
 }
 
+// The phase that C's stands for. Only 1 is left: where a call looks at the state, another number than 0 and 1 was answered before.
 fn to_phase(p: ChromaPhase) -> Phase
     ensures { λ r. ⌜ r ≡ asPhase p ⌝ }
 {
@@ -113,6 +115,7 @@ fn to_phase(p: ChromaPhase) -> Phase
     }
 }
 
+// A phase in C's form.
 fn from_phase(p: Phase) -> ChromaPhase
     ensures { λ r. ⌜ r ≡ chromaPhase p ⌝ }
 {

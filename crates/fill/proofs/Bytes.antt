@@ -1,4 +1,6 @@
 -- Out after a fill, byte by byte: "every R, G, B byte is the kernel's", and the fourth byte of a pixel and all surplus keep what they held.
+-- An induction over the rows: each row is `pixels`, whose channels, fourth bytes and surroundings kernel_blocks' laws say. The hard step is
+-- `channel-is`: a later row begins behind every byte of an earlier one (`row-fits`, twice).
 use mathlib.Core.Path.{_≡_, refl, sym, _∙_}
 use mathlib.Core.Logic.{inl, inr}
 use mathlib.Core.Bool.{true}

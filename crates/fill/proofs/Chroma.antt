@@ -1,4 +1,6 @@
 -- The finished rows of chroma that a step leaves in scratch are the definition's.
+-- Linear chroma is a pair of rows read back from scratch; guided chroma is `rows-finished` of guided_rows. The hard step is `linear-same`: the
+-- picture has 0 where a plane has padding, and the taps never look there.
 use mathlib.Core.Path.{_≡_, refl, sym, ap, _∙_}
 use mathlib.Core.Logic.{inl, inr}
 use mathlib.Core.List.{List, [], _∷_}

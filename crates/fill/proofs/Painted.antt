@@ -1,4 +1,6 @@
 -- The rows of out: where they lie, and that each is the row of the picture's colours.
+-- Products of limited numbers don't wrap, and row y of h ends before the end of out. The hard step is `pixel-is`: scratch's two finished rows
+-- are the picture's chroma by `chroma-is`, and luma inside the picture is the plane's.
 use mathlib.Core.Path.{_≡_, refl, ap, _∙_}
 use mathlib.Core.List.{List}
 use Prim.Native.Nat.{ℕ, _+_, _*_, _≤_, _<_}
@@ -26,7 +28,7 @@ use Rattle.fill.specs.Fill.{fillColour, pixelRows}
 use Rattle.fill.specs.Steps.{fillStep, FillLent}
 use Rattle.fill.proofs.Chroma.{Scratched, chroma-is}
 
--- a row of out is no product that wraps, and fits out
+-- a row of out is no product that wraps, and fits out: it has at most 8,192·4 bytes, and begins at no more than 8,192 times that
 module _ {l : Layout} {ps : Planes} {size space room : ℕ} (c : FillLent l ps size space room) where
   pub row-bytes : l .w * size ≤ 32768
   row-bytes = mul-le-mul (c .lent .sound .w-most) (c .size-most)

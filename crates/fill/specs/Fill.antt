@@ -1,4 +1,4 @@
--- 'fill to RGB (linear or guided)' of document 01: what it gives. Why it turns a call down stands in fill_answer/specs/Tests. Definitions only.
+-- 'fill to RGB (linear or guided)' of document 01: what it gives. Why it turns a call down stands in specs/Tests. Definitions only.
 use mathlib.Core.Path.{_≡_}
 use mathlib.Core.Bool.{cond}
 use mathlib.Core.List.{List, [], _∷_}

@@ -25,6 +25,11 @@ pub record FillCall : Type 0 where
   pub scratch : List Float
   pub out : List ℕ
 
+-- a call written by its arguments, in the order of its record
+abbrev pub fillCall : Layout → Planes → ChromaUpsampling → YcbcrKernel → ℕ → List Float → List ℕ → FillCall
+fillCall layout planes upsampling kernel size scratch out =
+    record { layout = layout; planes = planes; upsampling = upsampling; kernel = kernel; size = size; scratch = scratch; out = out }
+
 abbrev pub isFixed : YcbcrKernel → Bool
 isFixed Exact = false
 isFixed FixedPoint16 = true

@@ -1,7 +1,7 @@
-// The checks of fill, the lowest refusal first.
+// The checks of fill, in the order of their numbers.
 ghost use mathlib.Core.Path.{_≡_};
 ghost use Rattle.laws.specs.Refusals.{first};
-ghost use Rattle.fill.specs.Tests.{isFixed, fillTests};
+ghost use Rattle.fill.specs.Tests.{isFixed, fillCall, fillTests};
 ghost use Rattle.image.specs.Picture.{planesOf};
 use crate::options::ChromaUpsampling;
 use image::Layout;
@@ -9,6 +9,7 @@ use image::Strides;
 use kernels::YcbcrKernel;
 use laws::Answer;
 
+// Whether the kernel is the fixed one, which refusal 4 holds to maxval 255.
 fn is_fixed(kernel: YcbcrKernel) -> bool
     ensures { λ r. ⌜ r ≡ isFixed kernel ⌝ }
 {
@@ -31,7 +32,9 @@ pub fn fill_answer(
     s: &[f32],
     out: &[u8],
 ) -> Answer
-    ensures { λ r. ⌜ r ≡ first (fillTests (record { layout = layout; planes = planesOf (now (y .entry)) (now (cb .entry)) (now (cr .entry)) strides; upsampling = upsampling; kernel = kernel; size = size; scratch = now (s .entry); out = now (out .entry) })) ⌝ }
+    ensures { λ r. ⌜ r ≡ first (fillTests
+        (fillCall layout (planesOf (now (y .entry)) (now (cb .entry)) (now (cr .entry)) strides)
+        upsampling kernel size (now (s .entry)) (now (out .entry)))) ⌝ }
 {
     let early = layout.answer(is_fixed(kernel));
     if laws::refused(early) {

@@ -1,5 +1,6 @@
-// Fill to RGB: a whole picture's colour from its planes, chroma linear or guided by luma. The original's fill_ycbcr_interp on one thread.
+// Fill to RGB: a whole picture's colour from its planes, chroma linear or guided by luma.
 ghost use Rattle.fill.specs.Fill.{FillGiven};
+ghost use Rattle.fill.specs.Tests.{fillCall};
 ghost use Rattle.image.specs.Picture.{planesOf};
 use crate::answer::fill_answer;
 use crate::options::ChromaUpsampling;
@@ -9,8 +10,8 @@ use image::Strides;
 use kernels::YcbcrKernel;
 use laws::Answer;
 
-// The picture's w by h pixels into out, `size` bytes each, red, green and blue first; a fourth byte keeps what it held. Refusals 2, 3, 4, 5, 7, 8, 9 and 10.
-// Scratch afterwards is `fillScratch` of specs/Fill.
+// The picture's w by h pixels into out, `size` bytes each, red, green and blue first; a fourth byte keeps what it held.
+// Refusals 2, 3, 4, 5, 7, 8, 9 and 10. Scratch afterwards is `fillScratch` of specs/Fill.
 pub fn fill(
     layout: Layout,
     y: &[u8],
@@ -23,7 +24,10 @@ pub fn fill(
     s: &mut [f32],
     out: &mut [u8],
 ) -> Answer
-    ensures { λ r. ⌜ FillGiven (record { layout = layout; planes = planesOf (now (y .entry)) (now (cb .entry)) (now (cr .entry)) strides; upsampling = upsampling; kernel = kernel; size = size; scratch = now (s .entry); out = now (out .entry) }) r (now (s .exit)) (now (out .exit)) ⌝ }
+    ensures { λ r. ⌜ FillGiven
+        (fillCall layout (planesOf (now (y .entry)) (now (cb .entry)) (now (cr .entry)) strides)
+        upsampling kernel size (now (s .entry)) (now (out .entry)))
+        r (now (s .exit)) (now (out .exit)) ⌝ }
 {
     let answer = fill_answer(layout, y, cb, cr, strides, upsampling, kernel, size, s, out);
     if laws::refused(answer) {

@@ -17,18 +17,20 @@ use image::Layout;
 use image::Strides;
 use kernels::YcbcrKernel;
 
-// A row of linear chroma into scratch: Cb's at 0, Cr's at w.
+// Makes a row of linear chroma in scratch, Cb's at 0 and Cr's at w, where the guided row has them too.
 fn linear_pair(layout: Layout, cb: &[u8], cr: &[u8], strides: Strides, row: usize, s: &mut [f32])
     requires { ⌜ Ready layout (planeOf (now cb) (strides .cb)) (length (now s)) ⌝ }
     requires { ⌜ Ready layout (planeOf (now cr) (strides .cr)) (length (now s)) ⌝ }
     requires { ⌜ row < layout .h ⌝ }
-    ensures { λ _. ⌜ now (s .exit) ≡ linearRow layout (planeOf (now (cr .entry)) (strides .cr)) (layout .w) row (linearRow layout (planeOf (now (cb .entry)) (strides .cb)) 0 row (now (s .entry))) ⌝ }
+    ensures { λ _. ⌜ now (s .exit) ≡ linearRow
+        layout (planeOf (now (cr .entry)) (strides .cr)) (layout .w) row
+        (linearRow layout (planeOf (now (cb .entry)) (strides .cb)) 0 row (now (s .entry))) ⌝ }
 {
     linear::linear_row(layout, cb, strides.cb, row, s, 0);
     linear::linear_row(layout, cr, strides.cr, row, s, layout.w);
 }
 
-// Row first + n of chroma into scratch, the rows from first on having been made before it.
+// Makes row first + n of chroma in scratch, the rows from first on having been made before it.
 fn chroma_row(
     layout: Layout,
     y: &[u8],
@@ -42,7 +44,9 @@ fn chroma_row(
 )
     requires { ⌜ Lent layout (planesOf (now y) (now cb) (now cr) strides) Components.Both ⌝ }
     requires { ⌜ (first + n < layout .h) × (scratchNeed layout ≤ length (now s)) ⌝ }
-    ensures { λ _. ⌜ now (s .exit) ≡ fillStep upsampling layout (planesOf (now (y .entry)) (now (cb .entry)) (now (cr .entry)) strides) first n (now (s .entry)) ⌝ }
+    ensures { λ _. ⌜ now (s .exit) ≡ fillStep upsampling layout
+        (planesOf (now (y .entry)) (now (cb .entry)) (now (cr .entry)) strides)
+        first n (now (s .entry)) ⌝ }
 {
     match upsampling {
         ChromaUpsampling::Linear => {
@@ -54,7 +58,8 @@ fn chroma_row(
     }
 }
 
-// Row first + n: its chroma, then its colour to its place in out.
+// Makes row first + n: its chroma, then its colour at its place in out. Twelve parameters: the ten that `fill` is handed, since a slice
+// can't be put into a struct with its stride (docs/DECISIONS.md), and which row.
 fn fill_row(
     layout: Layout,
     y: &[u8],
@@ -71,8 +76,13 @@ fn fill_row(
 )
     requires { ⌜ FillLent layout (planesOf (now y) (now cb) (now cr) strides) size (length (now s)) (length (now out)) ⌝ }
     requires { ⌜ first + n < layout .h ⌝ }
-    ensures { λ _. ⌜ now (s .exit) ≡ fillStep upsampling layout (planesOf (now (y .entry)) (now (cb .entry)) (now (cr .entry)) strides) first n (now (s .entry)) ⌝ }
-    ensures { λ _. ⌜ now (out .exit) ≡ colourRow kernel layout (planeOf (now (y .entry)) (strides .y)) (first + n) (fillStep upsampling layout (planesOf (now (y .entry)) (now (cb .entry)) (now (cr .entry)) strides) first n (now (s .entry))) ((first + n) * (layout .w * size)) size (now (out .entry)) ⌝ }
+    ensures { λ _. ⌜ now (s .exit) ≡ fillStep upsampling layout
+        (planesOf (now (y .entry)) (now (cb .entry)) (now (cr .entry)) strides)
+        first n (now (s .entry)) ⌝ }
+    ensures { λ _. ⌜ now (out .exit) ≡ colourRow kernel layout
+        (planeOf (now (y .entry)) (strides .y)) (first + n)
+        (fillStep upsampling layout (planesOf (now (y .entry)) (now (cb .entry)) (now (cr .entry)) strides) first n (now (s .entry)))
+        ((first + n) * (layout .w * size)) size (now (out .entry)) ⌝ }
 {
     let row = first + n;
     let at = row * (layout.w * size);
@@ -80,7 +90,8 @@ fn fill_row(
     colour_rows::colour_row(layout, kernel, size, y, strides.y, row, s, out, at);
 }
 
-// Inner: rows a, .. b - 1 of the picture, whatever scratch holds.
+// Inner: makes rows a, .. b - 1 of the picture, whatever scratch holds. Twelve parameters: the ten that `fill` is handed, since a slice
+// can't be put into a struct with its stride (docs/DECISIONS.md), and from where to where.
 pub fn fill_rows(
     layout: Layout,
     y: &[u8],
@@ -97,8 +108,12 @@ pub fn fill_rows(
 )
     requires { ⌜ FillLent layout (planesOf (now y) (now cb) (now cr) strides) size (length (now s)) (length (now out)) ⌝ }
     requires { ⌜ (a ≤ b) × (b ≤ layout .h) ⌝ }
-    ensures { λ _. ⌜ now (out .exit) ≡ pixelRows (layout .w) size (fillColour upsampling kernel (pictureOf layout (planesOf (now (y .entry)) (now (cb .entry)) (now (cr .entry)) strides))) a (b - a) (now (out .entry)) ⌝ }
-    ensures { λ _. ⌜ now (s .exit) ≡ fillScratch upsampling layout (planesOf (now (y .entry)) (now (cb .entry)) (now (cr .entry)) strides) a (b - a) (now (s .entry)) ⌝ }
+    ensures { λ _. ⌜ now (out .exit) ≡ pixelRows (layout .w) size
+        (fillColour upsampling kernel (pictureOf layout (planesOf (now (y .entry)) (now (cb .entry)) (now (cr .entry)) strides)))
+        a (b - a) (now (out .entry)) ⌝ }
+    ensures { λ _. ⌜ now (s .exit) ≡ fillScratch upsampling layout
+        (planesOf (now (y .entry)) (now (cb .entry)) (now (cr .entry)) strides)
+        a (b - a) (now (s .entry)) ⌝ }
 {
     let rows = b - a;
     let mut n = 0;

@@ -1,4 +1,6 @@
 -- What an accepted open, seek or row was handed.
+-- An accepted call has all its tests failed, and each test that failed is turned into the inequality that it stands for; only the counters of
+-- a state need a case split.
 use mathlib.Core.Path.{_≡_, refl, sym, _∙_}
 use mathlib.Core.Logic.{_⊎_, inl, inr}
 use mathlib.Core.Bool.{Bool, true, false, _&&_, _||_, not}
@@ -16,7 +18,7 @@ use Rattle.image.specs.Picture.{badPlanes}
 use Rattle.image.proofs.Layouts.{neither, sound, sound-answer}
 use Rattle.image.specs.Scratch.{scratchNeed}
 use Rattle.guided.specs.declared.state.Reader.{Reader}
-use Rattle.guided.specs.Calls.{layoutOf, freshH, freshF, doneH, doneF, badPhases, badCounters, badState, OpenCall, SeekCall, RowCall, openTests, seekTests, rowTests}
+use Rattle.guided.specs.Calls.{readerLayout, freshH, freshF, doneH, doneF, badPhases, badCounters, badState, OpenCall, SeekCall, RowCall, openTests, seekTests, rowTests}
 use Rattle.guided.proofs.Window.{Counters}
 
 -- a test that holds is true
@@ -43,18 +45,18 @@ two-equal a b c d e = let p = both (eqb a b) (eqb c d) e in (eqb-true a b (p .0)
 -- ---- a state that passes
 
 -- its four tests, each failed
-pub state-tests : (s : Reader) → badState s ≡ false → (accepted (first (layoutTests false (layoutOf s))) ≡ true) × (badPhases (s .geometry) ≡ false) × (s .place < s .geometry .h) × (badCounters s ≡ false)
+pub state-tests : (s : Reader) → badState s ≡ false → (accepted (first (layoutTests false (readerLayout s))) ≡ true) × (badPhases (s .geometry) ≡ false) × (s .place < s .geometry .h) × (badCounters s ≡ false)
 unfolding badState
 state-tests s e =
-    let a = neither (not (accepted (first (layoutTests false (layoutOf s))))) (badPhases (s .geometry) || (leb (s .geometry .h) (s .place) || badCounters s)) e in
+    let a = neither (not (accepted (first (layoutTests false (readerLayout s))))) (badPhases (s .geometry) || (leb (s .geometry .h) (s .place) || badCounters s)) e in
     let b = neither (badPhases (s .geometry)) (leb (s .geometry .h) (s .place) || badCounters s) (a .1) in
     let c = neither (leb (s .geometry .h) (s .place)) (badCounters s) (b .1) in
     (not-false _ (a .0), b .0, leb-false (s .geometry .h) (s .place) (c .0), c .1)
 
-counters-are : (s : Reader) → badCounters s ≡ false → Counters (layoutOf s) (s .place) (s .«h_next») (s .«f_next»)
+counters-are : (s : Reader) → badCounters s ≡ false → Counters (readerLayout s) (s .place) (s .«h_next») (s .«f_next»)
 unfolding badCounters
 counters-are s e =
-    let l = layoutOf s in
+    let l = readerLayout s in
     let y = s .place in
     elim (either (eqb (s .«h_next») (freshH l y) && eqb (s .«f_next») (freshF l y)) (eqb (s .«h_next») (doneH l y) && eqb (s .«f_next») (doneF l y)) (not-false _ e)) [
       | inl a ↦ inl (two-equal (s .«h_next») (freshH l y) (s .«f_next») (freshF l y) a)
@@ -63,14 +65,14 @@ counters-are s e =
 
 -- a sound layout, a place in the picture, and counters that open, seek or row leaves there
 pub record Fine (s : Reader) : Type 0 where
-  pub sound : Sound (layoutOf s)
-  pub place : s .place < layoutOf s .h
-  pub counters : Counters (layoutOf s) (s .place) (s .«h_next») (s .«f_next»)
+  pub sound : Sound (readerLayout s)
+  pub place : s .place < readerLayout s .h
+  pub counters : Counters (readerLayout s) (s .place) (s .«h_next») (s .«f_next»)
 
 -- what a state is that passes
 pub fine : (s : Reader) → badState s ≡ false → Fine s
-unfolding layoutOf
-fine s e = let t = state-tests s e in record { sound = sound-answer false (layoutOf s) (t .0); place = t .2; counters = counters-are s (t .3) }
+unfolding readerLayout
+fine s e = let t = state-tests s e in record { sound = sound-answer false (readerLayout s) (t .0); place = t .2; counters = counters-are s (t .3) }
 
 -- ---- the calls
 
@@ -97,18 +99,18 @@ seek-handed k f = record { state = f .0; inside = leb-false (k .reader .geometry
 
 pub record RowHanded (r : RowCall) : Type 0 where
   pub state : badState (r .reader) ≡ false
-  pub planes : badPlanes (layoutOf (r .reader)) (r .planes) ≡ false
-  pub room : scratchNeed (layoutOf (r .reader)) ≤ length (r .scratch)
-  pub cb : layoutOf (r .reader) .w ≤ length (r .outCb)
-  pub cr : layoutOf (r .reader) .w ≤ length (r .outCr)
-  pub inside : r .y < layoutOf (r .reader) .h
+  pub planes : badPlanes (readerLayout (r .reader)) (r .planes) ≡ false
+  pub room : scratchNeed (readerLayout (r .reader)) ≤ length (r .scratch)
+  pub cb : readerLayout (r .reader) .w ≤ length (r .outCb)
+  pub cr : readerLayout (r .reader) .w ≤ length (r .outCr)
+  pub inside : r .y < readerLayout (r .reader) .h
   pub onward : r .reader .place ≤ r .y
 
 -- what an accepted row call was handed
 pub row-handed : (r : RowCall) → Failed (rowTests r) → RowHanded r
 unfolding rowTests
 row-handed r f =
-    let l = layoutOf (r .reader) in
+    let l = readerLayout (r .reader) in
     let o = neither (ltb (length (r .outCb)) (l .w)) (ltb (length (r .outCr)) (l .w)) (f .1 .1 .1 .0) in
     record {
       state = f .0;

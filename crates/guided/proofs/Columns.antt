@@ -1,4 +1,6 @@
 -- From the window to the finished rows of one picture row: they are the guided samples, and the window is kept.
+-- Where a put is read back Places says so, and all else is kept. The hard step is `down-part` and `down-slope`: the rows that row y takes from
+-- are among the last three that the window holds, by `Taken`, so that lerping them is lerping the picture's.
 use mathlib.Core.Path.{_≡_, refl, _∙_}
 use mathlib.Core.List.{List, []}
 use Prim.Native.Nat.{ℕ, _+_, _*_, _/_, _%_, _≤_, _<_}
@@ -28,7 +30,7 @@ unfolding readAcross readDown slotAt
 win-kept p ks t h f xs ys k w = record {
   room = rw (k .len) (w .room);
   sums = λ r A B C q m i I. k .slots (r % 3 * 15 + numAcross q) i (slot-number (numAcross q) r (across-small q)) I ∙ w .sums r A B C q m i I;
-  downs = λ r A B C d e i I. k .slots (r % 3 * 15 + numDown d) i (slot-number (numDown d) r (down-small d)) I ∙ w .downs r A B C d e i I;
+  downParts = λ r A B C d e i I. k .slots (r % 3 * 15 + numDown d) i (slot-number (numDown d) r (down-small d)) I ∙ w .downParts r A B C d e i I;
 }
 
 column-small : (k : Chroma) → columnOf k + 1 < 5
@@ -82,13 +84,13 @@ module _ (p : Picture) (y : ℕ) where
     pub down-slope : (xs : List Float) → AtRow xs → (k : Chroma) → Has k ks → (i : ℕ) → i < p .layout .cw → downTo (p .layout) (readDown (p .layout) xs (Slope k)) y i ≡ downTo (p .layout) (slope p k) y i
     down-slope xs w k m i I =
         let t = taken (p .layout) s y Y in
-        down-cong (p .layout) s y Y (readDown (p .layout) xs (Slope k)) (slope p k) i (λ j A B. w .downs j A (omega arith) (omega (arith, t .near)) (Slope k) m i I)
+        down-cong (p .layout) s y Y (readDown (p .layout) xs (Slope k)) (slope p k) i (λ j A B. w .downParts j A (omega arith) (omega (arith, t .near)) (Slope k) m i I)
 
     -- what was made down of the row's own chroma row is held too
     pub own-down : (xs : List Float) → AtRow xs → (d : Down) → Has (componentOf d) ks → (i : ℕ) → i < p .layout .cw → readDown (p .layout) xs d (y / p .layout .rv) i ≡ downVal p d (y / p .layout .rv) i
     own-down xs w d m i I =
         let t = taken (p .layout) s y Y in
-        w .downs (y / p .layout .rv) (t .above) (omega (arith, t .below)) (omega (arith, t .above, t .near)) d m i I
+        w .downParts (y / p .layout .rv) (t .above) (omega (arith, t .below)) (omega (arith, t .above, t .near)) d m i I
 
     -- the detail is held, and component k's finished row
     abbrev pub Detailed : List Float → Type 0

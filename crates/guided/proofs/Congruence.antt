@@ -1,4 +1,6 @@
 -- What the arithmetic of a guided sample looks at, and nothing else.
+-- Each law unfolds one definition and replaces the few values that it looks at. The one thing to know is that these values are there: the
+-- tap's rows by `Taken`, the column's own cell and its neighbours by `own-column`.
 use mathlib.Core.Path.{_≡_, refl}
 use Prim.Native.Nat.{ℕ, _+_, _-_, _/_, _≤_, _<_, min}
 use native.Mathlib.Omega.{arith}

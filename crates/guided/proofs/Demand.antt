@@ -1,4 +1,6 @@
 -- Demand 3, proved; and that a call which meets the premise is not turned away without a reason.
+-- Runs says that a row given is the guided row; Extremes and Locality then say the rest of that row. Acceptance of later calls is their tests,
+-- read off the invariant `Ok`.
 use mathlib.Core.Path.{_≡_, refl, sym, ap, _∙_, subst}
 use mathlib.Core.Bool.{Bool, true, false, cond, _&&_, _||_}
 use mathlib.Core.List.{List, []}
@@ -19,7 +21,7 @@ use Rattle.image.specs.Picture.{chromaPlane, inside, pictureOf, badPlanes}
 use Rattle.image.proofs.Pictures.{sample-small}
 use Rattle.image.specs.Scratch.{scratchNeed}
 use Rattle.guided.specs.Guided.{guidedSample, guidedRow}
-use Rattle.guided.specs.Calls.{layoutOf, OpenCall, SeekCall, RowCall, seekTests, rowTests, Bytes}
+use Rattle.guided.specs.Calls.{readerLayout, OpenCall, SeekCall, RowCall, seekTests, rowTests, Bytes}
 use Rattle.guided.specs.Events.{RowEvent, Event, AllRan, Since, Start, After, pictureBy, Premise, given, Within, AlikeNear, Run, Demand3}
 use Rattle.guided.proofs.Locality.{guided-local}
 use Rattle.guided.proofs.Extremes.{guided-within, within-number}
@@ -89,16 +91,16 @@ module _ (es : List Event) (ran : AllRan es) (premise : Premise Start es) (s : S
 
   -- a seek to any row of the picture is accepted
   pub seek-accepted : (k : SeekCall) → k .reader ≡ s .reader → k .y < s .by .layout .h → first (seekTests k) ≡ Accepted
-  unfolding seekTests layoutOf
-  seek-accepted k e h = failed-accepted (seekTests k) (rw e (ok .state), (lt-leb (k .reader .geometry .h) (k .y) (subst (λ (l : Layout). k .y < l .h) (sym (ap layoutOf e ∙ ok .layout)) h), tt))
+  unfolding seekTests readerLayout
+  seek-accepted k e h = failed-accepted (seekTests k) (rw e (ok .state), (lt-leb (k .reader .geometry .h) (k .y) (subst (λ (l : Layout). k .y < l .h) (sym (ap readerLayout e ∙ ok .layout)) h), tt))
 
   -- a row call from the place to the last row, with room for its planes and outputs, is accepted
   pub row-accepted : (c : RowCall) → c .reader ≡ s .reader → c .scratch ≡ s .scratch → badPlanes (s .by .layout) (c .planes) ≡ false → s .by .layout .w ≤ length (c .outCb) → s .by .layout .w ≤ length (c .outCr)
       → s .reader .place ≤ c .y → c .y < s .by .layout .h → first (rowTests c) ≡ Accepted
   unfolding rowTests
   row-accepted c er es planes cb cr onward below =
-      let l = layoutOf (c .reader) in
-      let lay : s .by .layout ≡ l = sym (ap layoutOf er ∙ ok .layout) in
+      let l = readerLayout (c .reader) in
+      let lay : s .by .layout ≡ l = sym (ap readerLayout er ∙ ok .layout) in
       failed-accepted (rowTests c) (
         rw er (ok .state),
         (

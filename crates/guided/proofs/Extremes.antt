@@ -1,4 +1,6 @@
 -- Every guided sample lies within the extremes of the nine chroma cells round its own, and is no not-a-number.
+-- The last two operations of a value are its limits, so that it lies between them whatever came before (`between`). The hard step is that the
+-- limits are floats: up to 65,535 whole numbers are exact as f32, so that they compare as numbers do (`values-compare`).
 use mathlib.Core.Path.{_≡_, refl, sym, ap, _∙_, subst₂}
 use mathlib.Core.Bool.{Bool, true, false, not, cond, true≢false}
 use Prim.Native.Nat.{ℕ, _+_, _-_, _*_, _/_, _≤_, _<_, min, max}

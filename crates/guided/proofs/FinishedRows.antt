@@ -1,4 +1,6 @@
 -- A picture row of the components ks, from the window on: each finished row is the guided one, and the window stands at that row.
+-- `component-made` carries it: the value looks at few cells (Congruence), and each of these is held or was just put (Columns). The other
+-- component's row is kept since the two lie apart; the components are gone through by induction.
 use mathlib.Core.Path.{_≡_, refl, sym, _∙_, subst}
 use mathlib.Core.Logic.{_⊎_, inl, inr}
 use mathlib.Core.List.{List, [], _∷_}
@@ -14,13 +16,13 @@ use Rattle.image.specs.Picture.{Picture}
 use Rattle.fround.specs.Rounding.{fmin, fmax}
 use Rattle.image.specs.Scratch.{cellAt}
 use Rattle.guided.specs.Guided.{Luma, Cell, acrossVal, extreme, downTo, detailOf, valueOf, slope, guidedSample}
-use Rattle.guided.specs.Scratch.{finishedAt, detailAt, columnAt, columnOf, Down, Least, Greatest, readDown, fsteps, lumaColumn, detailRow, componentColumns, finishedRow, componentsOver, rowSteps}
+use Rattle.guided.specs.Scratch.{finishedAt, detailAt, columnAt, columnOf, Down, Least, Greatest, readDown, catchUp, lumaColumn, detailRow, componentColumns, finishedRow, componentsOver, rowSteps}
 use Rattle.guided.specs.Calls.{topOf, doneH, doneF}
 use Rattle.guided.proofs.Places.{Kept, kept-then, kept-column, kept-front, finished-detail, finished-other, finished-place, detail-place, front-fits}
 use Rattle.guided.proofs.Taken.{own-column}
 use Rattle.guided.proofs.Congruence.{value-cong}
 use Rattle.guided.proofs.Held.{Has}
-use Rattle.guided.proofs.Window.{Win, Counters, length-fsteps, win-row}
+use Rattle.guided.proofs.Window.{Win, Counters, length-catch-up, win-row}
 use Rattle.guided.proofs.Columns.{win-kept, after1, columns-kept, columns-front, read-cells, read-slopes, down-part, down-slope, own-down, AtRow, Done, Stage, staged}
 
 module _ (p : Picture) (y : ℕ) where
@@ -103,12 +105,12 @@ module _ (p : Picture) (y : ℕ) where
 -- they keep scratch's length
 pub length-row : (p : Picture) (ks : List Chroma) (h f n y : ℕ) (xs : List Float) → length (rowSteps p ks h f n y xs) ≡ length xs
 unfolding rowSteps detailRow lumaColumn
-length-row p ks h f n y xs = components-kept p y ks _ .len ∙ length-put _ (detailAt (p .layout)) (p .layout .w) _ ∙ length-put _ (columnAt (p .layout) 0) (p .layout .cw) _ ∙ length-fsteps p ks h f n xs
+length-row p ks h f n y xs = components-kept p y ks _ .len ∙ length-put _ (detailAt (p .layout)) (p .layout .w) _ ∙ length-put _ (columnAt (p .layout) 0) (p .layout .cw) _ ∙ length-catch-up p ks h f n xs
 
 -- the reader stands at row z with the counters h and f and the window that they tell, and goes on to row y
 module _ (p : Picture) (ks : List Chroma) (s : Sound (p .layout)) (z h f : ℕ) (Z : z < p .layout .h) (c : Counters (p .layout) z h f) (y : ℕ) (Y : y < p .layout .h) (H : z ≤ y)
     (xs : List Float) (w : Win p ks (topOf (p .layout) z) h f xs) where
-  stage : Stage p y ks s Y (detailRow p y (lumaColumn p y (fsteps p ks h f (doneF (p .layout) y - f) xs)))
+  stage : Stage p y ks s Y (detailRow p y (lumaColumn p y (catchUp p ks h f (doneF (p .layout) y - f) xs)))
   stage = staged p y ks s Y _ (win-row p ks s z h f Z c y Y H xs w)
 
   -- afterwards the window is that of row y and of the counters that row leaves there

@@ -1,4 +1,7 @@
 -- What scratch holds of a chroma row, and what a row across and a row down make and leave of it, for any list of components.
+-- A put is read back or leaves the other buffers, by Places; so the list of parts is gone through by induction. The hard step is that a buffer
+-- has one use: `partOf` and `resultOf` give back what a number was given to, and `partOf` takes a result's number for luma's, which is
+-- another.
 use mathlib.Core.Path.{_≡_, refl, sym, ap, _∙_, subst}
 use mathlib.Core.Logic.{_≢_, _⊎_, inl, inr}
 use mathlib.Core.List.{List, [], _∷_}
@@ -15,7 +18,7 @@ use Rattle.image.specs.Picture.{Picture}
 use Rattle.fround.specs.Rounding.{fmin, fmax}
 use Rattle.image.specs.Scratch.{scratchNeed, cellAt}
 use Rattle.guided.specs.Guided.{Across, Luma, LumaSum, SquareSum, Cell, CellSum, ProductSum, acrossVal, extreme, slope}
-use Rattle.guided.specs.Scratch.{bufferAt, slotAt, Down, Slope, Least, Greatest, numAcross, numDown, readAcross, readDown, chromaParts, parts, downs, acrossOver}
+use Rattle.guided.specs.Scratch.{bufferAt, slotAt, Down, Slope, Least, Greatest, numAcross, numDown, readAcross, readDown, chromaParts, parts, downParts, acrossOver}
 use Rattle.guided.proofs.Places.{buffer-other, slot-same, slot-other}
 
 -- ---- which components, and which parts
@@ -57,8 +60,8 @@ componentOf (Least k) = k
 componentOf (Greatest k) = k
 
 -- all that is made down for a component of the list is in the list of it
-pub made-down : (ks : List Chroma) (d : Down) → Has (componentOf d) ks → Has d (downs ks)
-unfolding downs
+pub made-down : (ks : List Chroma) (d : Down) → Has (componentOf d) ks → Has d (downParts ks)
+unfolding downParts
 made-down [] d h = absurd h
 made-down (m ∷ ms) (Slope k) (inl e) = inl (ap Slope e)
 made-down (m ∷ ms) (Least k) (inl e) = inr (inl (ap Least e))

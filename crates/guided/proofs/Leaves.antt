@@ -1,4 +1,6 @@
 -- A state passes exactly when some list of accepted calls leaves it.
+-- One way is by cases of the last call. For the other LeftStates names the call, a seek or a row after an open, and what is left is to have
+-- such calls accepted: planes, scratch and outputs of just the length that the tests ask for.
 use mathlib.Core.Path.{_≡_, refl, _∙_}
 use mathlib.Core.Logic.{inl, inr}
 use mathlib.Core.Bool.{true, false}
@@ -18,22 +20,22 @@ use Rattle.image.specs.Samples.{Plane}
 use Rattle.image.specs.Picture.{Planes, shortPlane, badPlanes}
 use Rattle.image.specs.Scratch.{scratchNeed}
 use Rattle.guided.specs.declared.state.Reader.{Reader}
-use Rattle.guided.specs.Calls.{layoutOf, geometryOf, readerAt, opened, sought, rowed, badState, OpenCall, SeekCall, RowCall, openTests, seekTests, rowTests}
+use Rattle.guided.specs.Calls.{readerLayout, geometryOf, readerAt, afterOpen, afterSeek, afterRow, badState, OpenCall, SeekCall, RowCall, openTests, seekTests, rowTests}
 use Rattle.guided.proofs.Acceptance.{state-tests, open-handed, seek-handed, row-handed}
-use Rattle.guided.proofs.LeftStates.{opened-passes, sought-passes, rowed-passes, Typed, left-states}
+use Rattle.guided.proofs.LeftStates.{after-open-passes, after-seek-passes, after-row-passes, Typed, left-states}
 
 -- s is what an accepted open leaves, or an accepted seek or row in a state that was left
 pub data Left : Reader → Type 0 where
-  by-open : {s : Reader} (o : OpenCall) → first (openTests o) ≡ Accepted → s ≡ opened (o .layout) → Left s
-  by-seek : {s : Reader} (k : SeekCall) → Left (k .reader) → first (seekTests k) ≡ Accepted → s ≡ sought (k .reader) (k .y) → Left s
-  by-row : {s : Reader} (c : RowCall) → Left (c .reader) → first (rowTests c) ≡ Accepted → s ≡ rowed (c .reader) (c .y) → Left s
+  by-open : {s : Reader} (o : OpenCall) → first (openTests o) ≡ Accepted → s ≡ afterOpen (o .layout) → Left s
+  by-seek : {s : Reader} (k : SeekCall) → Left (k .reader) → first (seekTests k) ≡ Accepted → s ≡ afterSeek (k .reader) (k .y) → Left s
+  by-row : {s : Reader} (c : RowCall) → Left (c .reader) → first (rowTests c) ≡ Accepted → s ≡ afterRow (c .reader) (c .y) → Left s
 
 -- what is left passes
 pub left-passes : (s : Reader) → Left s → badState s ≡ false
-unfolding layoutOf
-left-passes s (by-open o a e) = rw e (opened-passes (o .layout) (open-handed o (accepted-failed (openTests o) a) .layout))
-left-passes s (by-seek k l a e) = let h = seek-handed k (accepted-failed (seekTests k) a) in rw e (sought-passes (k .reader) (k .y) (h .state) (h .inside))
-left-passes s (by-row c l a e) = let h = row-handed c (accepted-failed (rowTests c) a) in rw e (rowed-passes (c .reader) (c .y) (h .state) (h .inside))
+unfolding readerLayout
+left-passes s (by-open o a e) = rw e (after-open-passes (o .layout) (open-handed o (accepted-failed (openTests o) a) .layout))
+left-passes s (by-seek k l a e) = let h = seek-handed k (accepted-failed (seekTests k) a) in rw e (after-seek-passes (k .reader) (k .y) (h .state) (h .inside))
+left-passes s (by-row c l a e) = let h = row-handed c (accepted-failed (rowTests c) a) in rw e (after-row-passes (c .reader) (c .y) (h .state) (h .inside))
 
 -- ---- what passes is left: planes, scratch and outputs that are long enough for a layout
 
@@ -57,11 +59,11 @@ abbrev openOf : Layout → Reader → OpenCall
 openOf l s = record { layout = l; planes = blanks l; scratch = replicate (scratchNeed l) nan; reader = s }
 
 abbrev rowOf : Layout → ℕ → RowCall
-rowOf l y = record { y = y; planes = blanks l; reader = opened l; scratch = replicate (scratchNeed l) nan; outCb = replicate (l .w) nan; outCr = replicate (l .w) nan }
+rowOf l y = record { y = y; planes = blanks l; reader = afterOpen l; scratch = replicate (scratchNeed l) nan; outCb = replicate (l .w) nan; outCr = replicate (l .w) nan }
 
 module _ (l : Layout) (a : accepted (first (layoutTests false l)) ≡ true) where
-  opened-state : badState (opened l) ≡ false
-  opened-state = opened-passes l (accepted-failed (layoutTests false l) (accepted-is (first (layoutTests false l)) a))
+  after-open-state : badState (afterOpen l) ≡ false
+  after-open-state = after-open-passes l (accepted-failed (layoutTests false l) (accepted-is (first (layoutTests false l)) a))
 
   scratch-long : ltb (length (replicate (scratchNeed l) nan)) (scratchNeed l) ≡ false
   scratch-long = rw length-replicate (le-ltb (scratchNeed l) (scratchNeed l) (le-refl (scratchNeed l)))
@@ -73,25 +75,25 @@ module _ (l : Layout) (a : accepted (first (layoutTests false l)) ≡ true) wher
   unfolding openTests
   open-accepted s = passed-early (layoutTests false l) _ a ∙ failed-accepted _ (blanks-long l, (scratch-long, tt))
 
-  opened-left : (s : Reader) → Left (opened l)
-  opened-left s = by-open (openOf l s) (open-accepted s) refl
+  after-open-left : (s : Reader) → Left (afterOpen l)
+  after-open-left s = by-open (openOf l s) (open-accepted s) refl
 
   module _ (y : ℕ) (Y : y < l .h) where
-    seek-accepted : first (seekTests (record { y = y; reader = opened l })) ≡ Accepted
-    unfolding seekTests opened readerAt geometryOf
-    seek-accepted = failed-accepted (seekTests (record { y = y; reader = opened l })) (opened-state, (lt-leb (l .h) y Y, tt))
+    seek-accepted : first (seekTests (record { y = y; reader = afterOpen l })) ≡ Accepted
+    unfolding seekTests afterOpen readerAt geometryOf
+    seek-accepted = failed-accepted (seekTests (record { y = y; reader = afterOpen l })) (after-open-state, (lt-leb (l .h) y Y, tt))
 
     row-accepted : first (rowTests (rowOf l y)) ≡ Accepted
-    unfolding rowTests opened readerAt geometryOf layoutOf
-    row-accepted = failed-accepted (rowTests (rowOf l y)) (opened-state, (blanks-long l, (scratch-long, (rw out-long refl, (lt-leb (l .h) y Y, (le-ltb y 0 zero-le, tt))))))
+    unfolding rowTests afterOpen readerAt geometryOf readerLayout
+    row-accepted = failed-accepted (rowTests (rowOf l y)) (after-open-state, (blanks-long l, (scratch-long, (rw out-long refl, (lt-leb (l .h) y Y, (le-ltb y 0 zero-le, tt))))))
 
 -- what passes is left
 pub passes-left : (s : Reader) → Typed s → badState s ≡ false → Left s
-unfolding layoutOf
+unfolding readerLayout
 passes-left s t e =
-    let l = layoutOf s in
+    let l = readerLayout s in
     let p = state-tests s e in
     elim (left-states s t e) [
-      | inl q ↦ by-seek (record { y = s .place; reader = opened l }) (opened-left l (p .0) s) (seek-accepted l (p .0) (s .place) (p .2)) q
-      | inr q ↦ by-row (rowOf l (s .place)) (opened-left l (p .0) s) (row-accepted l (p .0) (s .place) (p .2)) q
+      | inl q ↦ by-seek (record { y = s .place; reader = afterOpen l }) (after-open-left l (p .0) s) (seek-accepted l (p .0) (s .place) (p .2)) q
+      | inr q ↦ by-row (rowOf l (s .place)) (after-open-left l (p .0) s) (row-accepted l (p .0) (s .place) (p .2)) q
     ]

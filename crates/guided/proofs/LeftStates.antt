@@ -1,4 +1,7 @@
 -- Refusal 1 is given exactly for states that open, seek and row never leave: what they leave passes, and what passes is what they leave.
+-- One way is computation: the tests of what a call leaves. The other is `geometry-is`: phases that pass bit for bit are open's own, since two
+-- f32 that pass for the same are the same (`same-float`), and four entries make the array. The counters then leave two cases, seek's and
+-- row's.
 use mathlib.Core.Path.{_≡_, refl, sym, ap}
 use mathlib.Core.Logic.{_⊎_, inl, inr}
 use mathlib.Core.Bool.{Bool, true, false, _&&_, _||_, not, cond, Bool·beq}
@@ -23,7 +26,7 @@ use Rattle.taps.specs.Taps.{fractionOf, phaseOf, pickPhase}
 use Rattle.guided.specs.declared.geometry.Geometry.{Geometry}
 use Rattle.guided.specs.declared.state.Reader.{Reader}
 use Rattle.taps.specs.Taps.{phaseAt, phasesOf}
-use Rattle.guided.specs.Calls.{geometryOf, layoutOf, freshH, freshF, doneH, doneF, readerAt, opened, sought, rowed, samePhase, phaseIn, badPhases, badCounters, badState}
+use Rattle.guided.specs.Calls.{geometryOf, readerLayout, freshH, freshF, doneH, doneF, readerAt, afterOpen, afterSeek, afterRow, samePhase, phaseIn, badPhases, badCounters, badState}
 use Rattle.guided.proofs.Acceptance.{state-tests, fine, both}
 
 -- ---- what open, seek and row leave passes
@@ -55,26 +58,26 @@ unfolding badPhases geometryOf phasesOf
 phases-pass l = rw (same-self (phaseAt (l .rh) 0), same-self (phaseAt (l .rh) 1), same-self (phaseAt (l .rh) 2), same-self (phaseAt (l .rh) 3)) refl
 
 -- what open leaves, what seek leaves and what row leaves
-pub opened-passes : (l : Layout) → Failed (layoutTests false l) → badState (opened l) ≡ false
-unfolding badState badCounters opened readerAt layoutOf geometryOf
-opened-passes l f =
-    passes (accepted (first (layoutTests false l))) (badPhases (geometryOf l)) (leb (l .h) 0) (badCounters (opened l))
+pub after-open-passes : (l : Layout) → Failed (layoutTests false l) → badState (afterOpen l) ≡ false
+unfolding badState badCounters afterOpen readerAt readerLayout geometryOf
+after-open-passes l f =
+    passes (accepted (first (layoutTests false l))) (badPhases (geometryOf l)) (leb (l .h) 0) (badCounters (afterOpen l))
     (ap accepted (failed-accepted (layoutTests false l) f)) (phases-pass l) (lt-leb (l .h) 0 (sound false l f .h-some)) (first-pair (freshH l 0) (freshF l 0) _)
 
 module _ (s : Reader) (y : ℕ) (e : badState s ≡ false) (Y : y < s .geometry .h) where
-  pub sought-passes : badState (sought s y) ≡ false
-  unfolding badState badCounters sought readerAt layoutOf
-  sought-passes =
+  pub after-seek-passes : badState (afterSeek s y) ≡ false
+  unfolding badState badCounters afterSeek readerAt readerLayout
+  after-seek-passes =
       let t = state-tests s e in
-      passes (accepted (first (layoutTests false (layoutOf s)))) (badPhases (s .geometry)) (leb (s .geometry .h) y) (badCounters (sought s y))
-      (t .0) (t .1) (lt-leb (s .geometry .h) y Y) (first-pair (freshH (layoutOf s) y) (freshF (layoutOf s) y) _)
+      passes (accepted (first (layoutTests false (readerLayout s)))) (badPhases (s .geometry)) (leb (s .geometry .h) y) (badCounters (afterSeek s y))
+      (t .0) (t .1) (lt-leb (s .geometry .h) y Y) (first-pair (freshH (readerLayout s) y) (freshF (readerLayout s) y) _)
 
-  pub rowed-passes : badState (rowed s y) ≡ false
-  unfolding badState badCounters rowed readerAt layoutOf
-  rowed-passes =
+  pub after-row-passes : badState (afterRow s y) ≡ false
+  unfolding badState badCounters afterRow readerAt readerLayout
+  after-row-passes =
       let t = state-tests s e in
-      passes (accepted (first (layoutTests false (layoutOf s)))) (badPhases (s .geometry)) (leb (s .geometry .h) y) (badCounters (rowed s y))
-      (t .0) (t .1) (lt-leb (s .geometry .h) y Y) (second-pair (doneH (layoutOf s) y) (doneF (layoutOf s) y) (eqb (doneH (layoutOf s) y) (freshH (layoutOf s) y) && eqb (doneF (layoutOf s) y) (freshF (layoutOf s) y)))
+      passes (accepted (first (layoutTests false (readerLayout s)))) (badPhases (s .geometry)) (leb (s .geometry .h) y) (badCounters (afterRow s y))
+      (t .0) (t .1) (lt-leb (s .geometry .h) y Y) (second-pair (doneH (readerLayout s) y) (doneF (readerLayout s) y) (eqb (doneH (readerLayout s) y) (freshH (readerLayout s) y) && eqb (doneF (readerLayout s) y) (freshF (readerLayout s) y)))
 
 -- ---- what passes is what they leave
 
@@ -143,16 +146,16 @@ four-is (a ∷ b ∷ c ∷ x ∷ []) d f n e = rw (e 0 (omega arith), e 1 (omega
 four-is (a ∷ b ∷ c ∷ x ∷ y ∷ ps) d f n e = absurd (omega arith)
 
 -- the geometry of a state that passes is the one that open makes of its numbers
-pub geometry-is : (s : Reader) → Typed s → badState s ≡ false → s .geometry ≡ geometryOf (layoutOf s)
-unfolding geometryOf layoutOf phasesOf
+pub geometry-is : (s : Reader) → Typed s → badState s ≡ false → s .geometry ≡ geometryOf (readerLayout s)
+unfolding geometryOf readerLayout phasesOf
 geometry-is s t e =
     let g = s .geometry in
     let q : g .phases ≡ phasesOf (g .rh) = four-is (g .phases) _ (phaseAt (g .rh)) (t .four) (phases-are g (state-tests s e .1) (t .floats)) in
     λ i. record { w = g .w; h = g .h; rh = g .rh; rv = g .rv; cw = g .cw; ch = g .ch; phases = q i }
 
 -- a state that passes is the one that seek, or row, leaves at its place in a reader fresh from open
-pub left-states : (s : Reader) → Typed s → badState s ≡ false → (s ≡ sought (opened (layoutOf s)) (s .place)) ⊎ (s ≡ rowed (opened (layoutOf s)) (s .place))
-unfolding sought rowed opened readerAt layoutOf geometryOf
+pub left-states : (s : Reader) → Typed s → badState s ≡ false → (s ≡ afterSeek (afterOpen (readerLayout s)) (s .place)) ⊎ (s ≡ afterRow (afterOpen (readerLayout s)) (s .place))
+unfolding afterSeek afterRow afterOpen readerAt readerLayout geometryOf
 left-states s t e =
     let g = geometry-is s t e in
     elim (fine s e .counters) [

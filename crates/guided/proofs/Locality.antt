@@ -1,4 +1,6 @@
 -- A guided sample turns on nothing more than two cells from its own.
+-- A slope looks one cell round its own cell and the lerps look one cell round that, so two cells in all. Each step is a law of Congruence; how
+-- far the cells are is arithmetic over `Taken`.
 use mathlib.Core.Path.{_≡_, refl, sym, ap, ap₂, _∙_}
 use Prim.Native.Nat.{ℕ, zero, suc, _+_, _-_, _*_, _/_, _<_, min}
 use native.Mathlib.Nat.{mul-add-div-right, div-eq-of-lt, add-zero}

@@ -1,4 +1,6 @@
 -- Where things lie in scratch: the finished rows, the detail and 50 row buffers, one behind another and apart, all within what a call is lent.
+-- Everything is arithmetic over multiples of the pitch. The hard step is `pitch-room`: rows of 256 cells and more are padded by 48, and 50
+-- such rows still fit into 64·cw.
 use mathlib.Core.Path.{_≡_, refl, _∙_}
 use mathlib.Core.Logic.{_≢_, _⊎_, inl, inr}
 use mathlib.Core.Bool.{Bool, true, false, cond}

@@ -1,4 +1,7 @@
 -- Over a list of events that meets the premise: the state and scratch that accepted calls leave stand for a window of the current picture, and a row given is its guided row.
+-- An induction over the list with the invariant `Ok`: open begins it, seek keeps it with nothing held, and a row call keeps it by
+-- FinishedRows. The hard step is to put the current picture in the place of the planes and the state that a row call was handed, which the
+-- premise allows.
 use mathlib.Core.Path.{_≡_, refl, sym, ap, _∙_, subst}
 use mathlib.Core.Logic.{inl, inr}
 use mathlib.Core.Bool.{Bool, true, false, cond}
@@ -21,13 +24,13 @@ use Rattle.image.specs.Scratch.{cellAt}
 use Rattle.guided.specs.declared.state.Reader.{Reader}
 use Rattle.guided.specs.Guided.{guidedSample, guidedRow}
 use Rattle.guided.specs.Scratch.{finishedAt, rowSteps}
-use Rattle.guided.specs.Calls.{layoutOf, geometryOf, topOf, freshH, freshF, doneH, doneF, readerAt, opened, sought, rowed, badState, OpenCall, SeekCall, RowCall, openTests, seekTests, rowTests, rowScratch, rowOut, Bytes}
+use Rattle.guided.specs.Calls.{readerLayout, geometryOf, topOf, freshH, freshF, doneH, doneF, readerAt, afterOpen, afterSeek, afterRow, badState, OpenCall, SeekCall, RowCall, openTests, seekTests, rowTests, rowScratch, rowOut, Bytes}
 use Rattle.guided.specs.Events.{RowEvent, Event, Opened, Sought, Rowed, Ran, AllRan, done, Since, Course, Start, After, pictureBy, moved, next, Shows, Handed, Premise, Gives, here, later, outOf, given}
 use Rattle.guided.proofs.Held.{Has}
 use Rattle.guided.proofs.Window.{Win, Counters, win-fresh}
 use Rattle.guided.proofs.FinishedRows.{row-window, row-finished}
 use Rattle.guided.proofs.Acceptance.{all-failed, fine, OpenHanded, open-handed, SeekHanded, seek-handed, RowHanded, row-handed}
-use Rattle.guided.proofs.LeftStates.{opened-passes, sought-passes, rowed-passes}
+use Rattle.guided.proofs.LeftStates.{after-open-passes, after-seek-passes, after-row-passes}
 
 -- planes that hold a picture's samples make that picture
 pub shows-is : (o : OpenCall) (ps : Planes) → Shows (pictureBy o) ps → pictureOf (o .layout) ps ≡ pictureBy o
@@ -58,7 +61,7 @@ window o s xs = Win (pictureBy o) (Cb ∷ Cr ∷ []) (topOf (o .layout) (s .plac
 -- a state that passes, of the current picture's layout, and the window that its counters tell
 pub record Ok (s : Since) : Type 0 where
   pub state : badState (s .reader) ≡ false
-  pub layout : layoutOf (s .reader) ≡ s .by .layout
+  pub layout : readerLayout (s .reader) ≡ s .by .layout
   pub planes : badPlanes (s .by .layout) (s .by .planes) ≡ false
   pub bytes : Bytes (s .by)
   pub win : window (s .by) (s .reader) (s .scratch)
@@ -79,8 +82,8 @@ sound-by s ok = subst Sound (ok .layout) (fine (s .reader) (ok .state) .sound)
 -- ---- an accepted row call that gets what the accepted calls left
 
 module _ (s : Since) (ok : Ok s) (c : RowCall) (hd : RowHanded c) (v : Shows (pictureBy (s .by)) (c .planes)) (er : c .reader ≡ s .reader) (es : c .scratch ≡ s .scratch) where
-  lay : layoutOf (c .reader) ≡ s .by .layout
-  lay = ap layoutOf er ∙ ok .layout
+  lay : readerLayout (c .reader) ≡ s .by .layout
+  lay = ap readerLayout er ∙ ok .layout
 
   within : c .y < s .by .layout .h
   within = subst (λ (l : Layout). c .y < l .h) lay (hd .inside)
@@ -111,10 +114,10 @@ module _ (s : Since) (ok : Ok s) (c : RowCall) (hd : RowHanded c) (v : Shows (pi
   finished k = row-finished (pictureBy (s .by)) (Cb ∷ Cr ∷ []) (sound-by s ok) (s .reader .place) (s .reader .«h_next») (s .reader .«f_next») place counters (c .y) within onward (s .scratch) (ok .win) k (has k)
 
   -- leaves the window at its row
-  row-ok : Ok (record { by = s .by; reader = rowed (c .reader) (c .y); scratch = rowScratch c })
-  unfolding rowed readerAt layoutOf
+  row-ok : Ok (record { by = s .by; reader = afterRow (c .reader) (c .y); scratch = rowScratch c })
+  unfolding afterRow readerAt readerLayout
   row-ok = record {
-    state = rowed-passes (c .reader) (c .y) (hd .state) (hd .inside);
+    state = after-row-passes (c .reader) (c .y) (hd .state) (hd .inside);
     layout = lay;
     planes = ok .planes;
     bytes = ok .bytes;
@@ -124,11 +127,11 @@ module _ (s : Since) (ok : Ok s) (c : RowCall) (hd : RowHanded c) (v : Shows (pi
   }
 
   out-is : (k : Chroma) (out : List Float) → rowOut c k out ≡ put out 0 (s .by .layout .w) (cellAt stepped (finishedAt (s .by .layout) k))
-  unfolding rowOut layoutOf
-  out-is k out = ap (λ (xs : List Float). put out 0 (c .reader .geometry .w) (cellAt xs (finishedAt (layoutOf (c .reader)) k))) scratch-is ∙ ap (λ (l : Layout). put out 0 (l .w) (cellAt stepped (finishedAt l k))) lay
+  unfolding rowOut readerLayout
+  out-is k out = ap (λ (xs : List Float). put out 0 (c .reader .geometry .w) (cellAt xs (finishedAt (readerLayout (c .reader)) k))) scratch-is ∙ ap (λ (l : Layout). put out 0 (l .w) (cellAt stepped (finishedAt l k))) lay
 
   -- and gives the guided row
-  row-given : (k : Chroma) (out : List Float) → layoutOf (c .reader) .w ≤ length out → take (s .by .layout .w) (rowOut c k out) ≡ guidedRow (pictureBy (s .by)) k (c .y)
+  row-given : (k : Chroma) (out : List Float) → readerLayout (c .reader) .w ≤ length out → take (s .by .layout .w) (rowOut c k out) ≡ guidedRow (pictureBy (s .by)) k (c .y)
   unfolding guidedRow pictureOf
   row-given k out h =
       let w = s .by .layout .w in
@@ -141,25 +144,25 @@ pick : {A : Type 0} (b : Bool) (x y : A) → T b → cond b x y ≡ x
 pick true x y t = refl
 pick false x y t = absurd t
 
-open-ok : (o : OpenCall) (b : Bytes o) → OpenHanded o → Ok (record { by = o; reader = opened (o .layout); scratch = o .scratch })
-unfolding opened readerAt layoutOf geometryOf pictureOf
+open-ok : (o : OpenCall) (b : Bytes o) → OpenHanded o → Ok (record { by = o; reader = afterOpen (o .layout); scratch = o .scratch })
+unfolding afterOpen readerAt readerLayout geometryOf pictureOf
 open-ok o b h = record {
-  state = opened-passes (o .layout) (h .layout);
+  state = after-open-passes (o .layout) (h .layout);
   layout = refl;
   planes = h .planes;
   bytes = b;
   win = win-fresh (pictureBy o) (Cb ∷ Cr ∷ []) (topOf (o .layout) 0) (o .scratch) (h .room);
 }
 
-seek-ok : (s : Since) → Ok s → (k : SeekCall) → SeekHanded k → k .reader ≡ s .reader → Ok (record { by = s .by; reader = sought (k .reader) (k .y); scratch = s .scratch })
-unfolding sought readerAt layoutOf
+seek-ok : (s : Since) → Ok s → (k : SeekCall) → SeekHanded k → k .reader ≡ s .reader → Ok (record { by = s .by; reader = afterSeek (k .reader) (k .y); scratch = s .scratch })
+unfolding afterSeek readerAt readerLayout
 seek-ok s ok k h e = record {
-  state = sought-passes (k .reader) (k .y) (h .state) (h .inside);
-  layout = ap layoutOf e ∙ ok .layout;
+  state = after-seek-passes (k .reader) (k .y) (h .state) (h .inside);
+  layout = ap readerLayout e ∙ ok .layout;
   planes = ok .planes;
   bytes = ok .bytes;
   win =
-      subst (λ (l : Layout). Win (pictureBy (s .by)) (Cb ∷ Cr ∷ []) (topOf (s .by .layout) (k .y)) (freshH l (k .y)) (freshF l (k .y)) (s .scratch)) (sym (ap layoutOf e ∙ ok .layout))
+      subst (λ (l : Layout). Win (pictureBy (s .by)) (Cb ∷ Cr ∷ []) (topOf (s .by .layout) (k .y)) (freshH l (k .y)) (freshF l (k .y)) (s .scratch)) (sym (ap readerLayout e ∙ ok .layout))
       (win-fresh (pictureBy (s .by)) (Cb ∷ Cr ∷ []) (topOf (s .by .layout) (k .y)) (s .scratch) (ok .win .room));
 }
 
@@ -167,17 +170,17 @@ seek-ok s ok k h e = record {
 moved-ok : (t : Course) (e : Event) → Ran e → T (done e) → Good t → Handed t e → Good (moved t e)
 unfolding Ran done moved Handed
 moved-ok t (Opened o r) h a g d =
-    subst (λ (z : Reader). Ok (record { by = o; reader = z; scratch = o .scratch })) (sym (h .leaves ∙ pick (accepted (r .answer)) (opened (o .layout)) (o .reader) a))
+    subst (λ (z : Reader). Ok (record { by = o; reader = z; scratch = o .scratch })) (sym (h .leaves ∙ pick (accepted (r .answer)) (afterOpen (o .layout)) (o .reader) a))
     (open-ok o (h .bytes) (open-handed o (all-failed (openTests o) (r .answer) (h .answers) a)))
 moved-ok Start (Sought k r) h a g d = tt
 moved-ok Start (Rowed e) h a g d = tt
 moved-ok (After s) (Sought k r) h a g d =
-    subst (λ (z : Reader). Ok (record { by = s .by; reader = z; scratch = s .scratch })) (sym (h .leaves ∙ pick (accepted (r .answer)) (sought (k .reader) (k .y)) (k .reader) a))
+    subst (λ (z : Reader). Ok (record { by = s .by; reader = z; scratch = s .scratch })) (sym (h .leaves ∙ pick (accepted (r .answer)) (afterSeek (k .reader) (k .y)) (k .reader) a))
     (seek-ok s g k (seek-handed k (all-failed (seekTests k) (r .answer) (h .answers) a)) d)
 moved-ok (After s) (Rowed e) h a g d =
     let c = e .call in
     let r = e .reply in
-    let er : r .reader ≡ rowed (c .reader) (c .y) = h .leaves ∙ pick (accepted (r .answer)) (rowed (c .reader) (c .y)) (c .reader) a in
+    let er : r .reader ≡ afterRow (c .reader) (c .y) = h .leaves ∙ pick (accepted (r .answer)) (afterRow (c .reader) (c .y)) (c .reader) a in
     let es : e .scratch ≡ rowScratch c = h .scratches ∙ pick (accepted (r .answer)) (rowScratch c) (c .scratch) a in
     rw (er, es) (row-ok s g c (row-handed c (all-failed (rowTests c) (r .answer) (h .answers) a)) (d .0) (d .1) (d .2))
 
@@ -204,7 +207,7 @@ abbrev lent : RowCall → Chroma → List Float
 lent c Cb = c .outCb
 lent c Cr = c .outCr
 
-lent-room : (c : RowCall) → RowHanded c → (k : Chroma) → layoutOf (c .reader) .w ≤ length (lent c k)
+lent-room : (c : RowCall) → RowHanded c → (k : Chroma) → readerLayout (c .reader) .w ≤ length (lent c k)
 lent-room c h Cb = h .cb
 lent-room c h Cr = h .cr
 

@@ -1,4 +1,6 @@
 -- What a chroma row across and a chroma row down leave: their own row is held, other rows stay held.
+-- Slots of other rows are apart, and so are the parts and the results of one row (`apart`), so that a put touches one buffer only. The hard
+-- step is `down-is`: the slope that is put is the picture's, since the three rows of sums that it looks at are held.
 use mathlib.Core.Path.{_≡_, refl, sym, _∙_, subst}
 use mathlib.Core.Logic.{_≢_, inl, inr}
 use mathlib.Core.List.{List, [], _∷_}
@@ -13,7 +15,7 @@ use Rattle.image.specs.declared.chroma.Chroma.{Chroma}
 use Rattle.image.specs.Picture.{Picture}
 use Rattle.image.specs.Scratch.{scratchNeed, cellAt}
 use Rattle.guided.specs.Guided.{Across, LumaSum, SquareSum, CellSum, ProductSum, acrossVal, slope}
-use Rattle.guided.specs.Scratch.{bufferAt, slotAt, Down, Slope, Least, Greatest, numAcross, numDown, readAcross, readDown, parts, downs, downOf, downOver, horizontal, finish}
+use Rattle.guided.specs.Scratch.{bufferAt, slotAt, Down, Slope, Least, Greatest, numAcross, numDown, readAcross, readDown, parts, downParts, downOf, downOver, horizontal, finish}
 use Rattle.guided.proofs.Places.{buffer-other, slot-same, slot-other}
 use Rattle.guided.proofs.Congruence.{Beside, slope-cong}
 use Rattle.guided.proofs.Held.{Has, Makes, made, componentOf, made-down, downVal, HoldsPart, HoldsDown, across-small, down-small, same-down, part-no-down, length-across, across-other, part-made}
@@ -108,28 +110,28 @@ module _ (p : Picture) where
     horizontal-keeps j xs r d h q m i I = across-other p j (parts ks) xs (r % 3 * 15 + numAcross q) i I (λ n e. d (omega (arith, across-small q, across-small n))) ∙ h q m i I
 
     -- and every result
-    pub horizontal-downs : (j : ℕ) (xs : List Float) (r : ℕ) → HeldDown xs r → HeldDown (horizontal p ks j xs) r
+    pub horizontal-down-parts : (j : ℕ) (xs : List Float) (r : ℕ) → HeldDown xs r → HeldDown (horizontal p ks j xs) r
     unfolding horizontal readDown slotAt
-    horizontal-downs j xs r h d m i I = across-other p j (parts ks) xs (r % 3 * 15 + numDown d) i I (λ n e. apart n d j r (sym e)) ∙ h d m i I
+    horizontal-down-parts j xs r h d m i I = across-other p j (parts ks) xs (r % 3 * 15 + numDown d) i I (λ n e. apart n d j r (sym e)) ∙ h d m i I
 
     -- ---- a row down
 
     -- it keeps the length
     pub length-finish : (j : ℕ) (xs : List Float) → length (finish p ks j xs) ≡ length xs
     unfolding finish
-    length-finish j xs = length-down j (downs ks) xs
+    length-finish j xs = length-down j (downParts ks) xs
 
     -- its own results are held afterwards, if the rows round it were
     pub finish-makes : (j : ℕ) (xs : List Float) → scratchNeed (p .layout) ≤ length xs → j < p .layout .ch → ((r : ℕ) → Beside (p .layout .ch) j r → HeldAcross xs r) → HeldDown (finish p ks j xs) j
     unfolding finish
-    finish-makes j xs L J e d h = down-made j J (downs ks) xs d L h (made-down ks d h) e
+    finish-makes j xs L J e d h = down-made j J (downParts ks) xs d L h (made-down ks d h) e
 
     -- results in other slots stay held
     pub finish-keeps : (j : ℕ) (xs : List Float) (r : ℕ) → r % 3 ≢ j % 3 → HeldDown xs r → HeldDown (finish p ks j xs) r
     unfolding finish readDown slotAt
-    finish-keeps j xs r a h d m i I = down-other j (downs ks) xs (r % 3 * 15 + numDown d) i I (λ n e. a (omega (arith, down-small d, down-small n))) ∙ h d m i I
+    finish-keeps j xs r a h d m i I = down-other j (downParts ks) xs (r % 3 * 15 + numDown d) i I (λ n e. a (omega (arith, down-small d, down-small n))) ∙ h d m i I
 
     -- and every row across
     pub finish-across : (j : ℕ) (xs : List Float) (r : ℕ) → HeldAcross xs r → HeldAcross (finish p ks j xs) r
     unfolding finish readAcross slotAt
-    finish-across j xs r h q m i I = down-other j (downs ks) xs (r % 3 * 15 + numAcross q) i I (λ d. apart q d r j) ∙ h q m i I
+    finish-across j xs r h q m i I = down-other j (downParts ks) xs (r % 3 * 15 + numAcross q) i I (λ d. apart q d r j) ∙ h q m i I

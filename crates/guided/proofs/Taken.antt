@@ -1,4 +1,6 @@
 -- The chroma rows that a picture row takes from: beside its own cell, inside the plane, and no row's before an earlier row's.
+-- All of it follows from where taps' spots lie: round the own cell, beside each other, inside, and in the order of the rows (spot-around,
+-- -beside, -inside, -ordered).
 use mathlib.Core.Path.{_≡_, refl, subst}
 use Prim.Native.Nat.{ℕ, _+_, _/_, _≤_, _<_}
 use native.Mathlib.Nat.{div-one, mul-le-mul-right}

@@ -1,4 +1,7 @@
 -- The window of three chroma rows: which rows are held, from which counters on, and that the steps down to a picture row keep it so.
+-- Rows go to slot r mod 3, so that a row put can overwrite only the row three before it, which `Win` no longer asks for. The hard step is
+-- `win-down`: before a row is finished the counter across stands two past it or at the end of the plane, so that the rows above, of and below
+-- it are held.
 use mathlib.Core.Path.{_≡_, refl, _∙_}
 use mathlib.Core.Logic.{_⊎_, inl, inr}
 use mathlib.Core.List.{List}
@@ -12,10 +15,10 @@ use Rattle.image.specs.Tests.{Sound}
 use Rattle.image.specs.declared.chroma.Chroma.{Chroma}
 use Rattle.image.specs.Picture.{Picture}
 use Rattle.image.specs.Scratch.{scratchNeed}
-use Rattle.guided.specs.Scratch.{horizontal, finish, hsteps, hAt, fsteps}
+use Rattle.guided.specs.Scratch.{horizontal, finish, acrossRows, hAt, catchUp}
 use Rattle.guided.specs.Calls.{topOf, lastOf, freshH, freshF, doneH, doneF}
 use Rattle.guided.proofs.Taken.{taken, top-later, last-later}
-use Rattle.guided.proofs.Steps.{HeldAcross, HeldDown, length-horizontal, horizontal-makes, horizontal-keeps, horizontal-downs, length-finish, finish-makes, finish-keeps, finish-across}
+use Rattle.guided.proofs.Steps.{HeldAcross, HeldDown, length-horizontal, horizontal-makes, horizontal-keeps, horizontal-down-parts, length-finish, finish-makes, finish-keeps, finish-across}
 
 module _ (p : Picture) where
   -- `h_next` is never more than one past `f_next`, nor past the plane
@@ -35,15 +38,15 @@ module _ (p : Picture) (ks : List Chroma) where
   pub record Win (t h f : ℕ) (xs : List Float) : Type 0 where
     pub room : scratchNeed (p .layout) ≤ length xs
     pub sums : (r : ℕ) → t ≤ r + 1 → r < h → h ≤ r + 3 → HeldAcross p ks xs r
-    pub downs : (r : ℕ) → t ≤ r → r < f → f ≤ r + 3 → HeldDown p ks xs r
+    pub downParts : (r : ℕ) → t ≤ r → r < f → f ≤ r + 3 → HeldDown p ks xs r
 
   -- after open or seek nothing is held, and nothing need be
   pub win-fresh : (t : ℕ) (xs : List Float) → scratchNeed (p .layout) ≤ length xs → Win t (t - 1) t xs
-  win-fresh t xs L = record { room = L; sums = λ r A B C. absurd (omega arith); downs = λ r A B C. absurd (omega arith) }
+  win-fresh t xs L = record { room = L; sums = λ r A B C. absurd (omega arith); downParts = λ r A B C. absurd (omega arith) }
 
   -- a later row asks for less
   win-later : (t u h f : ℕ) (xs : List Float) → t ≤ u → Win t h f xs → Win u h f xs
-  win-later t u h f xs l w = record { room = w .room; sums = λ r A B C. w .sums r (omega arith) B C; downs = λ r A B C. w .downs r (omega arith) B C }
+  win-later t u h f xs l w = record { room = w .room; sums = λ r A B C. w .sums r (omega arith) B C; downParts = λ r A B C. w .downParts r (omega arith) B C }
 
   -- ---- rows across
 
@@ -54,13 +57,13 @@ module _ (p : Picture) (ks : List Chroma) where
       | inl e ↦ rw e (horizontal-makes p ks h xs (w .room))
       | inr l ↦ horizontal-keeps p ks h xs r (omega arith) (w .sums r A l (omega arith))
     ];
-    downs = λ r A B C. horizontal-downs p ks h xs r (w .downs r A B C);
+    downParts = λ r A B C. horizontal-down-parts p ks h xs r (w .downParts r A B C);
   }
 
-  win-across : (t h f n : ℕ) (xs : List Float) → Win t h f xs → Win t (h + n) f (hsteps p ks h n xs)
-  unfolding hsteps
+  win-across : (t h f n : ℕ) (xs : List Float) → Win t h f xs → Win t (h + n) f (acrossRows p ks h n xs)
+  unfolding acrossRows
   win-across t h f zero xs w = rw add-zero w
-  win-across t h f (suc n) xs w = rw add-suc (across-one t (h + n) f (hsteps p ks h n xs) (win-across t h f n xs w))
+  win-across t h f (suc n) xs w = rw add-suc (across-one t (h + n) f (acrossRows p ks h n xs) (win-across t h f n xs w))
 
   -- ---- rows down
 
@@ -68,14 +71,14 @@ module _ (p : Picture) (ks : List Chroma) where
   down-one t h f xs T F e w = record {
     room = rw length-finish (w .room);
     sums = λ r A B C. finish-across p ks f xs r (w .sums r A B C);
-    downs = λ r A B C. elim (eq-or-lt-of-le (le-of-suc-le-suc B)) [
+    downParts = λ r A B C. elim (eq-or-lt-of-le (le-of-suc-le-suc B)) [
       | inl d ↦ rw d (finish-makes p ks f xs (w .room) F (λ g b. w .sums g (omega arith) (omega arith) (omega arith)))
-      | inr l ↦ finish-keeps p ks f xs r (omega arith) (w .downs r A l (omega arith))
+      | inr l ↦ finish-keeps p ks f xs r (omega arith) (w .downParts r A l (omega arith))
     ];
   }
 
-  win-down : (t h f n : ℕ) (xs : List Float) → t ≤ f → h ≤ f + 1 → h ≤ p .layout .ch → f + n ≤ p .layout .ch → Win t h f xs → Win t (hAt p h f n) (f + n) (fsteps p ks h f n xs)
-  unfolding hAt fsteps
+  win-down : (t h f n : ℕ) (xs : List Float) → t ≤ f → h ≤ f + 1 → h ≤ p .layout .ch → f + n ≤ p .layout .ch → Win t h f xs → Win t (hAt p h f n) (f + n) (catchUp p ks h f n xs)
+  unfolding hAt catchUp
   win-down t h f zero xs T A B C w = rw add-zero w
   win-down t h f (suc n) xs T A B C w =
       let b = hAt-most p h f n A B in
@@ -84,19 +87,19 @@ module _ (p : Picture) (ks : List Chroma) where
       let e : k + (m - k) ≡ max k m = omega arith in
       let g : k + (m - k) ≡ m = omega arith in
       rw (add-suc f n, ← e)
-      (down-one t (k + (m - k)) (f + n) (hsteps p ks k (m - k) (fsteps p ks h f n xs)) (omega arith) (omega arith) g
-      (win-across t k (f + n) (m - k) (fsteps p ks h f n xs) (win-down t h f n xs T A B (omega arith) w)))
+      (down-one t (k + (m - k)) (f + n) (acrossRows p ks k (m - k) (catchUp p ks h f n xs)) (omega arith) (omega arith) g
+      (win-across t k (f + n) (m - k) (catchUp p ks h f n xs) (win-down t h f n xs T A B (omega arith) w)))
 
   -- rows across, and rows down, keep the length
-  pub length-hsteps : (j n : ℕ) (xs : List Float) → length (hsteps p ks j n xs) ≡ length xs
-  unfolding hsteps
-  length-hsteps j zero xs = refl
-  length-hsteps j (suc n) xs = length-horizontal p ks (j + n) (hsteps p ks j n xs) ∙ length-hsteps j n xs
+  pub length-across-rows : (j n : ℕ) (xs : List Float) → length (acrossRows p ks j n xs) ≡ length xs
+  unfolding acrossRows
+  length-across-rows j zero xs = refl
+  length-across-rows j (suc n) xs = length-horizontal p ks (j + n) (acrossRows p ks j n xs) ∙ length-across-rows j n xs
 
-  pub length-fsteps : (h f n : ℕ) (xs : List Float) → length (fsteps p ks h f n xs) ≡ length xs
-  unfolding fsteps
-  length-fsteps h f zero xs = refl
-  length-fsteps h f (suc n) xs = length-finish p ks (f + n) _ ∙ length-hsteps (hAt p h f n) _ _ ∙ length-fsteps h f n xs
+  pub length-catch-up : (h f n : ℕ) (xs : List Float) → length (catchUp p ks h f n xs) ≡ length xs
+  unfolding catchUp
+  length-catch-up h f zero xs = refl
+  length-catch-up h f (suc n) xs = length-finish p ks (f + n) _ ∙ length-across-rows (hAt p h f n) _ _ ∙ length-catch-up h f n xs
 
 -- ---- the counters
 
@@ -150,9 +153,9 @@ hAt-done p s z h f Z c y Y H =
 
 -- the window at row y with the counters that row leaves there
 pub win-row : (p : Picture) (ks : List Chroma) → Sound (p .layout) → (z h f : ℕ) → z < p .layout .h → Counters (p .layout) z h f → (y : ℕ) → y < p .layout .h → z ≤ y → (xs : List Float) → Win p ks (topOf (p .layout) z) h f xs
-    → Win p ks (topOf (p .layout) y) (doneH (p .layout) y) (doneF (p .layout) y) (fsteps p ks h f (doneF (p .layout) y - f) xs)
+    → Win p ks (topOf (p .layout) y) (doneH (p .layout) y) (doneF (p .layout) y) (catchUp p ks h f (doneF (p .layout) y - f) xs)
 win-row p ks s z h f Z c y Y H xs w =
     let l = p .layout in
     let k = advance l s z h f Z c y Y H in
-    win-later p ks (topOf l z) (topOf l y) (doneH l y) (doneF l y) (fsteps p ks h f (doneF l y - f) xs) (k .onward)
+    win-later p ks (topOf l z) (topOf l y) (doneH l y) (doneF l y) (catchUp p ks h f (doneF l y - f) xs) (k .onward)
     (rw (hAt-done p s z h f Z c y Y H, k .meets) at (win-down p ks (topOf l z) h f (doneF l y - f) xs (k .low) (k .lag) (k .cap) (omega (arith, k .meets, k .ends)) w))

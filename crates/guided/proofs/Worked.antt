@@ -1,4 +1,6 @@
 -- A list that meets the premise, with refused calls among accepted ones and a second picture over the first one's scratch.
+-- Each answer is computed from its tests; what a call leaves passes by LeftStates. The one long computation is `computed`, a whole guided row
+-- of a picture of one pixel.
 use mathlib.Core.Path.{_≡_, refl, _∙_}
 use mathlib.Core.Bool.{Bool, true, false, cond, _&&_}
 use mathlib.Core.List.{List, [], _∷_}
@@ -21,27 +23,27 @@ use Rattle.taps.specs.Taps.{spotAt, spotOf, tapOf, phaseOf}
 use Rattle.image.specs.Scratch.{scratchNeed}
 use Rattle.guided.specs.declared.state.Reader.{Reader}
 use Rattle.guided.specs.Guided.{sumTo, three, lumaOf, extremeOf, cellLuma, cellOf, acrossVal, extreme, epsilon, mean, slopeOf, downTo, acrossTo, detailOf, valueOf, slope, guidedSample, guidedRow}
-use Rattle.guided.specs.Calls.{geometryOf, layoutOf, readerAt, opened, sought, rowed, badState, OpenCall, SeekCall, RowCall, openTests, seekTests, rowTests, rowScratch, rowOut, Bytes}
+use Rattle.guided.specs.Calls.{geometryOf, readerLayout, readerAt, afterOpen, afterSeek, afterRow, badState, OpenCall, SeekCall, RowCall, openTests, seekTests, rowTests, rowScratch, rowOut, Bytes}
 use Rattle.guided.specs.Events.{RowEvent, Event, Opened, Sought, Rowed, Ran, AllRan, done, Start, pictureBy, moved, next, Handed, Premise, Gives, here, later, given}
 use Rattle.guided.proofs.FinishedRows.{length-row}
-use Rattle.guided.proofs.LeftStates.{opened-passes, sought-passes, rowed-passes}
+use Rattle.guided.proofs.LeftStates.{after-open-passes, after-seek-passes, after-row-passes}
 use Rattle.guided.proofs.Runs.{shows-own}
 use Rattle.guided.proofs.Demand.{demand-3}
 
 -- ---- what the code gives, by its contracts
 
 abbrev openEvent : OpenCall → Event
-openEvent o = Opened o (record { answer = first (openTests o); reader = cond (accepted (first (openTests o))) (opened (o .layout)) (o .reader) })
+openEvent o = Opened o (record { answer = first (openTests o); reader = cond (accepted (first (openTests o))) (afterOpen (o .layout)) (o .reader) })
 
 abbrev seekEvent : SeekCall → Event
-seekEvent k = Sought k (record { answer = first (seekTests k); reader = cond (accepted (first (seekTests k))) (sought (k .reader) (k .y)) (k .reader) })
+seekEvent k = Sought k (record { answer = first (seekTests k); reader = cond (accepted (first (seekTests k))) (afterSeek (k .reader) (k .y)) (k .reader) })
 
 abbrev rowEvent : RowCall → RowEvent
 rowEvent c =
     let t = accepted (first (rowTests c)) in
     record {
       call = c;
-      reply = record { answer = first (rowTests c); reader = cond t (rowed (c .reader) (c .y)) (c .reader) };
+      reply = record { answer = first (rowTests c); reader = cond t (afterRow (c .reader) (c .y)) (c .reader) };
       scratch = cond t (rowScratch c) (c .scratch);
       outCb = cond t (rowOut c Cb (c .outCb)) (c .outCb);
       outCr = cond t (rowOut c Cr (c .outCr)) (c .outCr);
@@ -78,19 +80,19 @@ abbrev badRow : RowCall
 badRow = record { y = 0; planes = planesB; reader = junk; scratch = []; outCb = []; outCr = [] }
 
 abbrev row0 : RowCall
-row0 = record { y = 0; planes = planesA; reader = opened layoutA; scratch = replicate 80 nan; outCb = nan ∷ nan ∷ nan ∷ []; outCr = nan ∷ nan ∷ [] }
+row0 = record { y = 0; planes = planesA; reader = afterOpen layoutA; scratch = replicate 80 nan; outCb = nan ∷ nan ∷ nan ∷ []; outCr = nan ∷ nan ∷ [] }
 
 abbrev seek1 : SeekCall
-seek1 = record { y = 1; reader = rowed (opened layoutA) 0 }
+seek1 = record { y = 1; reader = afterRow (afterOpen layoutA) 0 }
 
 abbrev row1 : RowCall
-row1 = record { y = 1; planes = planesA; reader = sought (rowed (opened layoutA) 0) 1; scratch = rowScratch row0; outCb = nan ∷ nan ∷ []; outCr = nan ∷ nan ∷ [] }
+row1 = record { y = 1; planes = planesA; reader = afterSeek (afterRow (afterOpen layoutA) 0) 1; scratch = rowScratch row0; outCb = nan ∷ nan ∷ []; outCr = nan ∷ nan ∷ [] }
 
 abbrev openB : OpenCall
-openB = record { layout = layoutB; planes = planesB; scratch = rowScratch row1; reader = rowed (sought (rowed (opened layoutA) 0) 1) 1 }
+openB = record { layout = layoutB; planes = planesB; scratch = rowScratch row1; reader = afterRow (afterSeek (afterRow (afterOpen layoutA) 0) 1) 1 }
 
 abbrev row2 : RowCall
-row2 = record { y = 0; planes = planesB; reader = opened layoutB; scratch = rowScratch row1; outCb = nan ∷ []; outCr = nan ∷ [] }
+row2 = record { y = 0; planes = planesB; reader = afterOpen layoutB; scratch = rowScratch row1; outCb = nan ∷ []; outCr = nan ∷ [] }
 
 abbrev events : List Event
 events = openEvent openA ∷ Rowed (rowEvent badRow) ∷ openEvent badOpen ∷ Rowed (rowEvent row0) ∷ seekEvent seek1 ∷ Rowed (rowEvent row1) ∷ openEvent openB ∷ Rowed (rowEvent row2) ∷ []
@@ -110,7 +112,7 @@ unfolding openTests first layoutTests badSize
 badOpen-answer = refl
 
 badRow-answer : first (rowTests badRow) ≡ Refused 1
-unfolding rowTests first badState layoutOf layoutTests badSize badRatio badSamples
+unfolding rowTests first badState readerLayout layoutTests badSize badRatio badSamples
 badRow-answer = refl
 
 layoutA-sound : Failed (layoutTests false layoutA)
@@ -121,16 +123,16 @@ layoutB-sound : Failed (layoutTests false layoutB)
 unfolding layoutTests badSize badRatio badSamples divCeil badChroma
 layoutB-sound = (refl, (refl, (refl, (refl, tt))))
 
-state0 : badState (opened layoutA) ≡ false
-state0 = opened-passes layoutA layoutA-sound
+state0 : badState (afterOpen layoutA) ≡ false
+state0 = after-open-passes layoutA layoutA-sound
 
-state1 : badState (rowed (opened layoutA) 0) ≡ false
-unfolding opened readerAt geometryOf
-state1 = rowed-passes (opened layoutA) 0 state0 (lit< tt)
+state1 : badState (afterRow (afterOpen layoutA) 0) ≡ false
+unfolding afterOpen readerAt geometryOf
+state1 = after-row-passes (afterOpen layoutA) 0 state0 (lit< tt)
 
-state2 : badState (sought (rowed (opened layoutA) 0) 1) ≡ false
-unfolding opened rowed readerAt geometryOf
-state2 = sought-passes (rowed (opened layoutA) 0) 1 state1 (lit< tt)
+state2 : badState (afterSeek (afterRow (afterOpen layoutA) 0) 1) ≡ false
+unfolding afterOpen afterRow readerAt geometryOf
+state2 = after-seek-passes (afterRow (afterOpen layoutA) 0) 1 state1 (lit< tt)
 
 scratch0 : length (rowScratch row0) ≡ 80
 scratch0 = length-scratch row0
@@ -139,15 +141,15 @@ scratch1 : length (rowScratch row1) ≡ 80
 scratch1 = length-scratch row1 ∙ scratch0
 
 row0-answer : first (rowTests row0) ≡ Accepted
-unfolding rowTests opened readerAt geometryOf layoutOf badPlane shortPlane badPlanes scratchNeed
+unfolding rowTests afterOpen readerAt geometryOf readerLayout badPlane shortPlane badPlanes scratchNeed
 row0-answer = failed-accepted (rowTests row0) (state0, (refl, (refl, (refl, (refl, (refl, tt))))))
 
 seek1-answer : first (seekTests seek1) ≡ Accepted
-unfolding seekTests opened rowed readerAt geometryOf
+unfolding seekTests afterOpen afterRow readerAt geometryOf
 seek1-answer = failed-accepted (seekTests seek1) (state1, (refl, tt))
 
 row1-answer : first (rowTests row1) ≡ Accepted
-unfolding rowTests opened rowed sought readerAt geometryOf layoutOf badPlane shortPlane badPlanes scratchNeed
+unfolding rowTests afterOpen afterRow afterSeek readerAt geometryOf readerLayout badPlane shortPlane badPlanes scratchNeed
 row1-answer = failed-accepted (rowTests row1) (state2, (refl, (rw scratch0 refl, (refl, (refl, (refl, tt))))))
 
 openB-answer : first (openTests openB) ≡ Accepted
@@ -155,8 +157,8 @@ unfolding openTests layoutTests badSize badRatio badSamples divCeil badChroma ba
 openB-answer = failed-accepted (openTests openB) (refl, (refl, (refl, (refl, (refl, (rw scratch1 refl, tt))))))
 
 row2-answer : first (rowTests row2) ≡ Accepted
-unfolding rowTests opened readerAt geometryOf layoutOf badPlane shortPlane badPlanes scratchNeed
-row2-answer = failed-accepted (rowTests row2) (opened-passes layoutB layoutB-sound, (refl, (rw scratch1 refl, (refl, (refl, (refl, tt))))))
+unfolding rowTests afterOpen readerAt geometryOf readerLayout badPlane shortPlane badPlanes scratchNeed
+row2-answer = failed-accepted (rowTests row2) (after-open-passes layoutB layoutB-sound, (refl, (rw scratch1 refl, (refl, (refl, (refl, tt))))))
 
 -- ---- the list meets the premise
 

@@ -27,12 +27,13 @@ use Rattle.guided.specs.Scratch.{rowSteps, finishedAt}
 
 -- ---- states
 
--- a layout as geometry, and back
+-- the geometry that open keeps of a layout
 unfoldable pub geometryOf : Layout → Geometry
 geometryOf l = record { w = l .w; h = l .h; rh = l .rh; rv = l .rv; cw = l .cw; ch = l .ch; phases = phasesOf (l .rh) }
 
-unfoldable pub layoutOf : Reader → Layout
-layoutOf s = record { w = s .geometry .w; h = s .geometry .h; rh = s .geometry .rh; rv = s .geometry .rv; cw = s .geometry .cw; ch = s .geometry .ch; «sample_bytes» = s .«sample_bytes»; maxval = s .maxval }
+-- the layout that a reader's picture was opened with
+unfoldable pub readerLayout : Reader → Layout
+readerLayout s = record { w = s .geometry .w; h = s .geometry .h; rh = s .geometry .rh; rv = s .geometry .rv; cw = s .geometry .cw; ch = s .geometry .ch; «sample_bytes» = s .«sample_bytes»; maxval = s .maxval }
 
 -- the first and the last chroma row that picture row y takes from
 unfoldable pub topOf : Layout → ℕ → ℕ
@@ -58,15 +59,15 @@ doneF l y = lastOf l y + 1
 unfoldable pub readerAt : Geometry → Layout → ℕ → ℕ → ℕ → Reader
 readerAt g l y h f = record { geometry = g; «sample_bytes» = l .«sample_bytes»; maxval = l .maxval; place = y; «h_next» = h; «f_next» = f }
 
--- what open leaves, and seek, and row: "After open or seek the place is that row, after a row call it is the row given."
-unfoldable pub opened : Layout → Reader
-opened l = readerAt (geometryOf l) l 0 (freshH l 0) (freshF l 0)
+-- the state that an accepted open, seek or row leaves: "After open or seek the place is that row, after a row call it is the row given."
+unfoldable pub afterOpen : Layout → Reader
+afterOpen l = readerAt (geometryOf l) l 0 (freshH l 0) (freshF l 0)
 
-unfoldable pub sought : Reader → ℕ → Reader
-sought s y = readerAt (s .geometry) (layoutOf s) y (freshH (layoutOf s) y) (freshF (layoutOf s) y)
+unfoldable pub afterSeek : Reader → ℕ → Reader
+afterSeek s y = readerAt (s .geometry) (readerLayout s) y (freshH (readerLayout s) y) (freshF (readerLayout s) y)
 
-unfoldable pub rowed : Reader → ℕ → Reader
-rowed s y = readerAt (s .geometry) (layoutOf s) y (doneH (layoutOf s) y) (doneF (layoutOf s) y)
+unfoldable pub afterRow : Reader → ℕ → Reader
+afterRow s y = readerAt (s .geometry) (readerLayout s) y (doneH (readerLayout s) y) (doneF (readerLayout s) y)
 
 -- ---- refusals
 
@@ -85,14 +86,14 @@ badPhases g =
 -- "its counters (`h_next`, `f_next`) neither those that open or seek leaves at its place nor those that row leaves there"
 unfoldable pub badCounters : Reader → Bool
 badCounters s =
-    let l = layoutOf s in
+    let l = readerLayout s in
     let y = s .place in
     not ((eqb (s .«h_next») (freshH l y) && eqb (s .«f_next») (freshF l y)) || (eqb (s .«h_next») (doneH l y) && eqb (s .«f_next») (doneF l y)))
 
 -- 1: "a state that open, seek or row never leaves: geometry (its phase fractions with it), sample bytes, maxval or place that none of them leaves, or its counters"
 unfoldable pub badState : Reader → Bool
 badState s =
-    not (accepted (first (layoutTests false (layoutOf s)))) || (badPhases (s .geometry) || (leb (s .geometry .h) (s .place) || badCounters s))
+    not (accepted (first (layoutTests false (readerLayout s)))) || (badPhases (s .geometry) || (leb (s .geometry .h) (s .place) || badCounters s))
 
 -- ---- the calls
 
@@ -114,6 +115,16 @@ pub record RowCall : Type 0 where
   pub outCb : List Float
   pub outCr : List Float
 
+-- a call written by its arguments, in the order of its record
+abbrev pub openCall : Layout → Planes → List Float → Reader → OpenCall
+openCall layout planes scratch reader = record { layout = layout; planes = planes; scratch = scratch; reader = reader }
+
+abbrev pub seekCall : ℕ → Reader → SeekCall
+seekCall y reader = record { y = y; reader = reader }
+
+abbrev pub rowCall : ℕ → Planes → Reader → List Float → List Float → List Float → RowCall
+rowCall y planes reader scratch outCb outCr = record { y = y; planes = planes; reader = reader; scratch = scratch; outCb = outCb; outCr = outCr }
+
 unfoldable pub openTests : OpenCall → List Test
 openTests o = layoutTests false (o .layout) ++ ((badPlanes (o .layout) (o .planes), 7) ∷ (ltb (length (o .scratch)) (scratchNeed (o .layout)), 9) ∷ [])
 
@@ -122,7 +133,7 @@ seekTests k = (badState (k .reader), 1) ∷ (leb (k .reader .geometry .h) (k .y)
 
 unfoldable pub rowTests : RowCall → List Test
 rowTests r =
-    let l = layoutOf (r .reader) in
+    let l = readerLayout (r .reader) in
     (badState (r .reader), 1) ∷ (badPlanes l (r .planes), 7) ∷ (ltb (length (r .scratch)) (scratchNeed l), 9)
     ∷ (ltb (length (r .outCb)) (l .w) || ltb (length (r .outCr)) (l .w), 10) ∷ (leb (l .h) (r .y), 11) ∷ (ltb (r .y) (r .reader .place), 12) ∷ []
 
@@ -130,12 +141,12 @@ rowTests r =
 unfoldable pub rowScratch : RowCall → List Float
 rowScratch r =
     let s = r .reader in
-    let l = layoutOf s in
+    let l = readerLayout s in
     rowSteps (pictureOf l (r .planes)) (Cb ∷ Cr ∷ []) (s .«h_next») (s .«f_next») (doneF l (r .y) - s .«f_next») (r .y) (r .scratch)
 
--- and an output: its first w values are the finished row
+-- an output of an accepted row call: its first w values are the component's finished row, the rest is as it was
 unfoldable pub rowOut : RowCall → Chroma → List Float → List Float
-rowOut r k out = put out 0 (r .reader .geometry .w) (cellAt (rowScratch r) (finishedAt (layoutOf (r .reader)) k))
+rowOut r k out = put out 0 (r .reader .geometry .w) (cellAt (rowScratch r) (finishedAt (readerLayout (r .reader)) k))
 
 -- ---- what the contracts promise: `ensures` of open, seek and row is one of these records, and nothing else
 
@@ -145,16 +156,16 @@ Bytes o = (k : Chroma) (i : ℕ) → getD (chromaPlane (o .planes) k .bytes) i 0
 
 pub record OpenGiven (o : OpenCall) (r : Reply) : Type 0 where
   pub answers : r .answer ≡ first (openTests o)
-  pub leaves : r .reader ≡ cond (accepted (r .answer)) (opened (o .layout)) (o .reader)
+  pub leaves : r .reader ≡ cond (accepted (r .answer)) (afterOpen (o .layout)) (o .reader)
   pub bytes : Bytes o
 
 pub record SeekGiven (k : SeekCall) (r : Reply) : Type 0 where
   pub answers : r .answer ≡ first (seekTests k)
-  pub leaves : r .reader ≡ cond (accepted (r .answer)) (sought (k .reader) (k .y)) (k .reader)
+  pub leaves : r .reader ≡ cond (accepted (r .answer)) (afterSeek (k .reader) (k .y)) (k .reader)
 
 pub record RowGiven (k : RowCall) (r : Reply) (scratch outCb outCr : List Float) : Type 0 where
   pub answers : r .answer ≡ first (rowTests k)
-  pub leaves : r .reader ≡ cond (accepted (r .answer)) (rowed (k .reader) (k .y)) (k .reader)
+  pub leaves : r .reader ≡ cond (accepted (r .answer)) (afterRow (k .reader) (k .y)) (k .reader)
   pub scratches : scratch ≡ cond (accepted (r .answer)) (rowScratch k) (k .scratch)
   pub cbs : outCb ≡ cond (accepted (r .answer)) (rowOut k Cb (k .outCb)) (k .outCb)
   pub crs : outCr ≡ cond (accepted (r .answer)) (rowOut k Cr (k .outCr)) (k .outCr)

@@ -83,10 +83,10 @@ chromaParts (k ∷ ks) = Cell k ∷ CellSum k ∷ ProductSum k ∷ chromaParts k
 unfoldable pub parts : List Chroma → List Across
 parts ks = Luma ∷ LumaSum ∷ SquareSum ∷ chromaParts ks
 
--- and down for the components
-unfoldable pub downs : List Chroma → List Down
-downs [] = []
-downs (k ∷ ks) = Slope k ∷ Least k ∷ Greatest k ∷ downs ks
+-- what is made down for the components ks, in this order
+unfoldable pub downParts : List Chroma → List Down
+downParts [] = []
+downParts (k ∷ ks) = Slope k ∷ Least k ∷ Greatest k ∷ downParts ks
 
 module _ (p : Picture) where
   -- chroma row j across, each buffer in turn
@@ -94,7 +94,7 @@ module _ (p : Picture) where
   acrossOver j [] xs = xs
   acrossOver j (q ∷ qs) xs = acrossOver j qs (put xs (slotAt (p .layout) (numAcross q) j) (p .layout .cw) (acrossVal p q j))
 
-  -- one of those of chroma row j: the slopes from the sums that scratch holds, the extremes from the picture
+  -- one of what is made down of chroma row j: the slopes from the sums that scratch holds, the extremes from the picture
   unfoldable pub downOf : List Float → Down → ℕ → ℕ → Float
   downOf xs (Slope k) j = slopeOf (p .layout) (readAcross (p .layout) xs) k j
   downOf xs (Least k) j = extreme p fmin k j
@@ -106,26 +106,27 @@ module _ (p : Picture) where
   downOver j (d ∷ ds) xs = downOver j ds (put xs (slotAt (p .layout) (numDown d) j) (p .layout .cw) (downOf xs d j))
 
   module _ (ks : List Chroma) where
+    -- a chroma row across for luma and the components, and one finished: down for the components
     unfoldable pub horizontal : ℕ → List Float → List Float
     horizontal j xs = acrossOver j (parts ks) xs
 
     unfoldable pub finish : ℕ → List Float → List Float
-    finish j xs = downOver j (downs ks) xs
+    finish j xs = downOver j (downParts ks) xs
 
-    -- n rows across, from row j on
-    unfoldable pub hsteps : ℕ → ℕ → List Float → List Float
-    hsteps j zero xs = xs
-    hsteps j (suc n) xs = horizontal (j + n) (hsteps j n xs)
+    -- n chroma rows across, from row j on: what `across_rows` leaves
+    unfoldable pub acrossRows : ℕ → ℕ → List Float → List Float
+    acrossRows j zero xs = xs
+    acrossRows j (suc n) xs = horizontal (j + n) (acrossRows j n xs)
 
   -- `h_next` after n rows were finished, from the counters h and f on
   unfoldable pub hAt : ℕ → ℕ → ℕ → ℕ
   hAt h f zero = h
   hAt h f (suc n) = max (hAt h f n) (min (f + n + 2) (p .layout .ch))
 
-  -- scratch after them: before each row is finished, the rows round it are summed across
-  unfoldable pub fsteps : List Chroma → ℕ → ℕ → ℕ → List Float → List Float
-  fsteps ks h f zero xs = xs
-  fsteps ks h f (suc n) xs = finish ks (f + n) (hsteps ks (hAt h f n) (min (f + n + 2) (p .layout .ch) - hAt h f n) (fsteps ks h f n xs))
+  -- scratch after n chroma rows were finished, from the counters h and f on: before each one, the rows round it are summed across. What `catch_up` leaves
+  unfoldable pub catchUp : List Chroma → ℕ → ℕ → ℕ → List Float → List Float
+  catchUp ks h f zero xs = xs
+  catchUp ks h f (suc n) xs = finish ks (f + n) (acrossRows ks (hAt h f n) (min (f + n + 2) (p .layout .ch) - hAt h f n) (catchUp ks h f n xs))
 
   -- picture row y, from the window: luma's cells lerped down, then the detail
   unfoldable pub lumaColumn : ℕ → List Float → List Float
@@ -141,7 +142,7 @@ module _ (p : Picture) where
       let s0 = put xs (columnAt l (columnOf k + 0)) (l .cw) (downTo l (readAcross l xs (Cell k)) y) in
       put s0 (columnAt l (columnOf k + 1)) (l .cw) (downTo l (readDown l s0 (Slope k)) y)
 
-  -- and the finished row from them, the extremes round its own chroma row, and the detail
+  -- a component's finished row from its two rows of cells, the extremes round its own chroma row, and the detail
   unfoldable pub finishedRow : Chroma → ℕ → List Float → List Float
   finishedRow k y xs =
       let l = p .layout in
@@ -155,4 +156,4 @@ module _ (p : Picture) where
 
   -- scratch after row y of the components ks, from the counters h and f on, n rows being finished on the way
   unfoldable pub rowSteps : List Chroma → ℕ → ℕ → ℕ → ℕ → List Float → List Float
-  rowSteps ks h f n y xs = componentsOver y ks (detailRow y (lumaColumn y (fsteps ks h f n xs)))
+  rowSteps ks h f n y xs = componentsOver y ks (detailRow y (lumaColumn y (catchUp ks h f n xs)))

@@ -1,7 +1,8 @@
-// The geometry of a guided reconstruction.
+// What the guided reconstruction keeps of a layout, and the constant of its slopes.
 use taps::Phase;
 
-// Sizes, ratios, chroma size, and the phase of each pixel of a cell; the phases past the ratio are not left, 0.
+// A picture's size, ratios and chroma size, and the phase of each pixel of a cell. Phases past the ratio are not left and have
+// fraction 0, so that a state has one form and can be compared bit for bit.
 pub struct Geometry {
     pub w: usize,
     pub h: usize,
@@ -13,6 +14,6 @@ pub struct Geometry {
 }
 
 impl Geometry {
-    // What keeps flat regions from turning luma noise into chroma, in 8-bit units squared.
+    // Added to luma's variance, in 8-bit units squared, so that flat regions don't turn luma noise into chroma.
     pub const EPSILON: f32 = 16.0;
 }

@@ -1,4 +1,4 @@
-// The reader's state.
+// The state that open, seek and row hand from call to call.
 use crate::geometry::Geometry;
 use laws::Answer;
 

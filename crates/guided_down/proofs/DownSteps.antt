@@ -15,7 +15,7 @@ use Rattle.image.specs.Picture.{Planes, chromaPlane, inside, pictureOf}
 use Rattle.image.proofs.Pictures.{inside-is}
 use Rattle.fround.specs.Rounding.{fmin, fmax}
 use Rattle.guided.specs.Guided.{extremeOf, extreme}
-use Rattle.guided.specs.Scratch.{slotAt, firstOf, Slope, Least, Greatest, numDown, downs, downOf, downOver, finish}
+use Rattle.guided.specs.Scratch.{slotAt, firstOf, Slope, Least, Greatest, numDown, downParts, downOf, downOver, finish}
 use Rattle.guided_across.proofs.Threes.{three-same}
 use Rattle.guided_down.specs.Extremes.{extremeRow}
 use Rattle.guided_down.specs.Slopes.{slopeRow}
@@ -48,9 +48,9 @@ module _ (l : Layout) (ps : Planes) where
       ∙ put-same ys greatest (l .cw) _ _ (λ i g. extreme-inside l fmax c j i h g)
 
   pub finish-cb : (j : ℕ) (s t : List Float) → j < l .ch → t ≡ downRow l (ps .cb) Cb j s → t ≡ finish (pictureOf l ps) (Cb ∷ []) j s
-  unfolding finish downs downOver
+  unfolding finish downParts downOver
   finish-cb j s t h e = e ∙ down-is Cb j s h
 
   pub finish-both : (j : ℕ) (s t u : List Float) → j < l .ch → t ≡ downRow l (ps .cb) Cb j s → u ≡ downRow l (ps .cr) Cr j t → u ≡ finish (pictureOf l ps) (Cb ∷ Cr ∷ []) j s
-  unfolding finish downs downOver
+  unfolding finish downParts downOver
   finish-both j s t u h e f = f ∙ down-is Cr j t h ∙ ap (downOver (pictureOf l ps) j (Slope Cr ∷ Least Cr ∷ Greatest Cr ∷ [])) (e ∙ down-is Cb j s h)

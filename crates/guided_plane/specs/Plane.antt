@@ -19,9 +19,12 @@ use Rattle.image.specs.Scratch.{scratchNeed}
 use Rattle.guided.specs.Guided.{guidedSample}
 use Rattle.guided_rows.specs.CatchingUp.{guidedRows}
 
--- the planes of a picture with luma y and the one chroma plane c: c stands for both components, and only Cb is asked for
+-- the planes, and the picture, with luma y and the one chroma plane c: c stands for both components, and only Cb is asked for
 abbrev pub planesWith : Plane → Plane → Planes
 planesWith y c = record { y = y; cb = c; cr = c }
+
+abbrev pub pictureWith : Layout → Plane → Plane → Picture
+pictureWith l y c = pictureOf l (planesWith y c)
 
 -- 7: luma or the chroma plane is too short
 unfoldable pub shortPair : Layout → Plane → Plane → Bool
@@ -38,5 +41,5 @@ guidedPlane p out = rows out (p .layout .w) (p .layout .h) (λ y x. roundClamped
 -- what `guided_plane` promises: of its answer, and of scratch and output after it; scratch, which the papers leave free, holds what the rows leave
 pub record GuidedGiven (l : Layout) (y c : Plane) (scratch : List Float) (out : List ℕ) (answer : Answer) (scratch' : List Float) (out' : List ℕ) : Type 0 where
   pub answers : answer ≡ first (guidedTests l y c (length scratch) (length out))
-  pub gives : out' ≡ cond (accepted answer) (guidedPlane (pictureOf l (planesWith y c)) out) out
-  pub scratches : scratch' ≡ cond (accepted answer) (guidedRows (pictureOf l (planesWith y c)) (Cb ∷ []) 0 (l .h) scratch) scratch
+  pub gives : out' ≡ cond (accepted answer) (guidedPlane (pictureWith l y c) out) out
+  pub scratches : scratch' ≡ cond (accepted answer) (guidedRows (pictureWith l y c) (Cb ∷ []) 0 (l .h) scratch) scratch

@@ -7,12 +7,11 @@ ghost use lib.ListN.{length};
 ghost use Rattle.laws.specs.Refusals.{first};
 ghost use Rattle.image.specs.Tests.{Sound};
 ghost use Rattle.image.specs.declared.chroma.Chroma.the-variants.{Cb};
-ghost use Rattle.image.specs.Picture.{pictureOf};
 ghost use Rattle.image.specs.Scratch.{scratchNeed};
 ghost use Rattle.linear.specs.Stores.{storeRun};
 ghost use Rattle.guided_window.specs.Lent.{Lent};
 ghost use Rattle.guided_rows.specs.CatchingUp.{guidedStep, guidedRows};
-ghost use Rattle.guided_plane.specs.Plane.{planesWith, shortPair, guidedTests, guidedPlane, GuidedGiven};
+ghost use Rattle.guided_plane.specs.Plane.{planesWith, pictureWith, shortPair, guidedTests, guidedPlane, GuidedGiven};
 ghost use Rattle.image.specs.Samples.{planeOf};
 use guided_rows::guided_step;
 use image::Components;
@@ -20,7 +19,7 @@ use image::Layout;
 use image::Strides;
 use laws::Answer;
 
-// Refusal 7's test for luma and one chroma plane.
+// Refusal 7's test for luma and the one chroma plane: whether either is too short.
 fn bad_pair(layout: Layout, y: &[u8], y_stride: usize, c: &[u8], c_stride: usize) -> bool
     ensures { λ r. ⌜ r ≡ shortPair layout (planeOf (now (y .entry)) «y_stride») (planeOf (now (c .entry)) «c_stride») ⌝ }
 {
@@ -40,7 +39,8 @@ fn plane_answer(
     space: usize,
     room: usize,
 ) -> Answer
-    ensures { λ r. ⌜ r ≡ first (guidedTests layout (planeOf (now (y .entry)) «y_stride») (planeOf (now (c .entry)) «c_stride») space room) ⌝ }
+    ensures { λ r. ⌜ r ≡ first (guidedTests layout
+        (planeOf (now (y .entry)) «y_stride») (planeOf (now (c .entry)) «c_stride») space room) ⌝ }
 {
     let early = layout.answer(false);
     if laws::refused(early) {
@@ -58,7 +58,8 @@ fn plane_answer(
     Answer::Accepted
 }
 
-// One row: its steps over scratch, then rounded into out.
+// Makes one row: its steps over scratch, then the finished row rounded into out. The chroma plane is lent as both components, and only
+// Cb is asked for.
 fn plane_row(
     layout: Layout,
     y: &[u8],
@@ -71,8 +72,12 @@ fn plane_row(
 )
     requires { ⌜ Lent layout (planesWith (planeOf (now y) «y_stride») (planeOf (now c) «c_stride»)) Components.CbAlone ⌝ }
     requires { ⌜ (row < layout .h) × (scratchNeed layout ≤ length (now s)) × (layout .w * layout .h ≤ length (now out)) ⌝ }
-    ensures { λ _. ⌜ now (s .exit) ≡ guidedStep (pictureOf layout (planesWith (planeOf (now (y .entry)) «y_stride») (planeOf (now (c .entry)) «c_stride»))) (Cb ∷ []) 0 row (now (s .entry)) ⌝ }
-    ensures { λ _. ⌜ now (out .exit) ≡ storeRun (guidedStep (pictureOf layout (planesWith (planeOf (now (y .entry)) «y_stride») (planeOf (now (c .entry)) «c_stride»))) (Cb ∷ []) 0 row (now (s .entry))) 0 (layout .w) (layout .maxval) (row * layout .w) (now (out .entry)) ⌝ }
+    ensures { λ _. ⌜ now (s .exit) ≡ guidedStep
+        (pictureWith layout (planeOf (now (y .entry)) «y_stride») (planeOf (now (c .entry)) «c_stride»))
+        (Cb ∷ []) 0 row (now (s .entry)) ⌝ }
+    ensures { λ _. ⌜ now (out .exit) ≡ storeRun
+        (guidedStep (pictureWith layout (planeOf (now (y .entry)) «y_stride») (planeOf (now (c .entry)) «c_stride»)) (Cb ∷ []) 0 row (now (s .entry)))
+        0 (layout .w) (layout .maxval) (row * layout .w) (now (out .entry)) ⌝ }
 {
     let strides = Strides {
         y: y_stride,
@@ -83,7 +88,7 @@ fn plane_row(
     linear::store_row(s, 0, layout.w, layout.maxval, out, row * layout.w);
 }
 
-// Every row of the plane in turn.
+// Makes every row of the plane in turn.
 fn plane_rows(
     layout: Layout,
     y: &[u8],
@@ -95,8 +100,12 @@ fn plane_rows(
 )
     requires { ⌜ Lent layout (planesWith (planeOf (now y) «y_stride») (planeOf (now c) «c_stride»)) Components.CbAlone ⌝ }
     requires { ⌜ (scratchNeed layout ≤ length (now s)) × (layout .w * layout .h ≤ length (now out)) ⌝ }
-    ensures { λ _. ⌜ now (out .exit) ≡ guidedPlane (pictureOf layout (planesWith (planeOf (now (y .entry)) «y_stride») (planeOf (now (c .entry)) «c_stride»))) (now (out .entry)) ⌝ }
-    ensures { λ _. ⌜ now (s .exit) ≡ guidedRows (pictureOf layout (planesWith (planeOf (now (y .entry)) «y_stride») (planeOf (now (c .entry)) «c_stride»))) (Cb ∷ []) 0 (layout .h) (now (s .entry)) ⌝ }
+    ensures { λ _. ⌜ now (out .exit) ≡ guidedPlane
+        (pictureWith layout (planeOf (now (y .entry)) «y_stride») (planeOf (now (c .entry)) «c_stride»))
+        (now (out .entry)) ⌝ }
+    ensures { λ _. ⌜ now (s .exit) ≡ guidedRows
+        (pictureWith layout (planeOf (now (y .entry)) «y_stride») (planeOf (now (c .entry)) «c_stride»))
+        (Cb ∷ []) 0 (layout .h) (now (s .entry)) ⌝ }
 {
     let h = layout.h;
     let mut row = 0;
@@ -106,8 +115,8 @@ fn plane_rows(
     }
 }
 
-// One whole chroma plane, guided by luma: w by h values, rounded and limited to 0..=maxval, into out. Refusals 2, 3, 4, 5, 7, 9 and 10.
-// Scratch afterwards is `guidedRows` of specs/Plane.
+// One whole chroma plane, guided by luma: w by h values, rounded and limited to 0..=maxval, into out. Refusals 2, 3, 4, 5, 7, 9
+// and 10. Scratch afterwards is `guidedRows` of guided_rows' specs/CatchingUp.
 pub fn guided_plane(
     layout: Layout,
     y: &[u8],
@@ -117,7 +126,10 @@ pub fn guided_plane(
     s: &mut [f32],
     out: &mut [u16],
 ) -> Answer
-    ensures { λ r. ⌜ GuidedGiven layout (planeOf (now (y .entry)) «y_stride») (planeOf (now (c .entry)) «c_stride») (now (s .entry)) (now (out .entry)) r (now (s .exit)) (now (out .exit)) ⌝ }
+    ensures { λ r. ⌜ GuidedGiven layout
+        (planeOf (now (y .entry)) «y_stride») (planeOf (now (c .entry)) «c_stride»)
+        (now (s .entry)) (now (out .entry))
+        r (now (s .exit)) (now (out .exit)) ⌝ }
 {
     let answer = plane_answer(layout, y, y_stride, c, c_stride, s.len(), out.len());
     if laws::refused(answer) {

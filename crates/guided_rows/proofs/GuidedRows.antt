@@ -1,4 +1,6 @@
 -- The rows a, a + 1, .. of a picture over scratch: each finds the window that the row before left, and its finished rows are the guided ones.
+-- An induction over the rows: the first starts from an empty window, each later one from the window that `row-window` of guided's FinishedRows
+-- says was left. The counters are those of a reader, fresh at the first row and done after it, so that nothing is said anew here.
 use mathlib.Core.Path.{_≡_, refl, ap, _∙_}
 use mathlib.Core.Logic.{inl, inr}
 use mathlib.Core.List.{List}

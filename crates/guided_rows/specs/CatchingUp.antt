@@ -8,12 +8,12 @@ use Rattle.image.specs.Picture.{Picture}
 use Rattle.guided.specs.Scratch.{rowSteps}
 use Rattle.guided.specs.Calls.{freshH, freshF, doneH, doneF}
 
--- the next chroma row to sum across, before row a + n: that of a reader sought to a, then the one that the row before leaves
+-- the next chroma row to sum across, before row a + n: the one that seek leaves at a, then the one that the row before leaves
 unfoldable pub beforeH : Layout → ℕ → ℕ → ℕ
 beforeH l a zero = freshH l a
 beforeH l a (suc n) = doneH l (a + n)
 
--- the next chroma row to finish, likewise
+-- the next chroma row to finish, before row a + n: the one that seek leaves at a, then the one that the row before leaves
 unfoldable pub beforeF : Layout → ℕ → ℕ → ℕ
 beforeF l a zero = freshF l a
 beforeF l a (suc n) = doneF l (a + n)

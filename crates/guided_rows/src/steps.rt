@@ -6,7 +6,7 @@ ghost use Rattle.image.specs.Tests.{Sound};
 ghost use Rattle.image.specs.Picture.{pictureOf, planesOf};
 ghost use Rattle.image.specs.Scratch.{scratchNeed};
 ghost use Rattle.guided.specs.Calls.{doneF};
-ghost use Rattle.guided.specs.Scratch.{hsteps, fsteps, rowSteps};
+ghost use Rattle.guided.specs.Scratch.{acrossRows, catchUp, rowSteps};
 ghost use Rattle.guided_window.specs.Lent.{Lent, componentsOf};
 ghost use Rattle.guided_rows.specs.CatchingUp.{beforeH, beforeF, guidedStep};
 use guided_down::finish;
@@ -16,7 +16,7 @@ use image::Layout;
 use image::Strides;
 use reader_state::Counters;
 
-// The chroma rows from, .. to - 1 across.
+// Sums the chroma rows from, .. to - 1 across into the window.
 fn across_rows(
     layout: Layout,
     y: &[u8],
@@ -30,7 +30,9 @@ fn across_rows(
 )
     requires { ⌜ Lent layout (planesOf (now y) (now cb) (now cr) strides) components ⌝ }
     requires { ⌜ (to ≤ layout .ch) × (scratchNeed layout ≤ length (now s)) ⌝ }
-    ensures { λ _. ⌜ now (s .exit) ≡ hsteps (pictureOf layout (planesOf (now (y .entry)) (now (cb .entry)) (now (cr .entry)) strides)) (componentsOf components) from (to - from) (now (s .entry)) ⌝ }
+    ensures { λ _. ⌜ now (s .exit) ≡ acrossRows
+        (pictureOf layout (planesOf (now (y .entry)) (now (cb .entry)) (now (cr .entry)) strides))
+        (componentsOf components) from (to - from) (now (s .entry)) ⌝ }
 {
     let mut j = from;
     while j < to {
@@ -45,7 +47,8 @@ fn greatest(a: usize, b: usize) -> usize
     if a < b { b } else { a }
 }
 
-// Inner: the chroma rows f, .. to - 1 finished, h being the next to sum across: before each one, the rows round it.
+// Inner: finishes the chroma rows f, .. to - 1, h being the next row to sum across. Before a row is finished the rows round it are
+// summed, since its slopes look at all three.
 pub fn catch_up(
     layout: Layout,
     y: &[u8],
@@ -60,7 +63,9 @@ pub fn catch_up(
 )
     requires { ⌜ Lent layout (planesOf (now y) (now cb) (now cr) strides) components ⌝ }
     requires { ⌜ (to ≤ layout .ch) × (scratchNeed layout ≤ length (now s)) ⌝ }
-    ensures { λ _. ⌜ now (s .exit) ≡ fsteps (pictureOf layout (planesOf (now (y .entry)) (now (cb .entry)) (now (cr .entry)) strides)) (componentsOf components) h f (to - f) (now (s .entry)) ⌝ }
+    ensures { λ _. ⌜ now (s .exit) ≡ catchUp
+        (pictureOf layout (planesOf (now (y .entry)) (now (cb .entry)) (now (cr .entry)) strides))
+        (componentsOf components) h f (to - f) (now (s .entry)) ⌝ }
 {
     let ch = layout.ch;
     let mut h_next = h;
@@ -74,7 +79,7 @@ pub fn catch_up(
     }
 }
 
-// Inner: all the steps of a picture row over scratch, h and f being the next chroma rows to sum across and to finish. The components are Cb alone, or both.
+// Inner: all the steps of a picture row over scratch, h and f being the next chroma rows to sum across and to finish.
 pub fn row_steps(
     layout: Layout,
     y: &[u8],
@@ -89,14 +94,17 @@ pub fn row_steps(
 )
     requires { ⌜ Lent layout (planesOf (now y) (now cb) (now cr) strides) components ⌝ }
     requires { ⌜ (row < layout .h) × (scratchNeed layout ≤ length (now s)) ⌝ }
-    ensures { λ _. ⌜ now (s .exit) ≡ rowSteps (pictureOf layout (planesOf (now (y .entry)) (now (cb .entry)) (now (cr .entry)) strides)) (componentsOf components) h f (doneF layout row - f) row (now (s .entry)) ⌝ }
+    ensures { λ _. ⌜ now (s .exit) ≡ rowSteps
+        (pictureOf layout (planesOf (now (y .entry)) (now (cb .entry)) (now (cr .entry)) strides))
+        (componentsOf components) h f (doneF layout row - f) row (now (s .entry)) ⌝ }
 {
     let done = reader_state::done_counters(layout, row);
     catch_up(layout, y, cb, cr, strides, components, h, f, done.f_next, s);
     guided_row(layout, y, strides.y, components, row, s);
 }
 
-// The counters before row first + n of a run of rows that begins at first: those of a reader sought there, then those that the row before leaves.
+// The counters before row first + n of a run of rows that begins at first: those that seek leaves at first, then those that the row
+// before leaves.
 fn counters_before(layout: Layout, first: usize, n: usize) -> Counters
     requires { ⌜ Sound layout ⌝ }
     requires { ⌜ first + n < layout .h ⌝ }
@@ -108,7 +116,8 @@ fn counters_before(layout: Layout, first: usize, n: usize) -> Counters
     reader_state::done_counters(layout, first + (n - 1))
 }
 
-// Inner: row first + n of a run of rows that begins at first, over the scratch that the rows before it left. The components are Cb alone, or both.
+// Inner: row first + n of a run of rows that begins at first, over the scratch that the rows before it left. A whole plane and a
+// fill read their rows so: they keep no reader, since the counters follow from the row number.
 pub fn guided_step(
     layout: Layout,
     y: &[u8],
@@ -122,7 +131,9 @@ pub fn guided_step(
 )
     requires { ⌜ Lent layout (planesOf (now y) (now cb) (now cr) strides) components ⌝ }
     requires { ⌜ (first + n < layout .h) × (scratchNeed layout ≤ length (now s)) ⌝ }
-    ensures { λ _. ⌜ now (s .exit) ≡ guidedStep (pictureOf layout (planesOf (now (y .entry)) (now (cb .entry)) (now (cr .entry)) strides)) (componentsOf components) first n (now (s .entry)) ⌝ }
+    ensures { λ _. ⌜ now (s .exit) ≡ guidedStep
+        (pictureOf layout (planesOf (now (y .entry)) (now (cb .entry)) (now (cr .entry)) strides))
+        (componentsOf components) first n (now (s .entry)) ⌝ }
 {
     let k = counters_before(layout, first, n);
     row_steps(

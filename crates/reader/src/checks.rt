@@ -3,7 +3,7 @@ ghost use mathlib.Core.Path.{_≡_};
 ghost use Prim.Native.Nat.{_<_};
 ghost use Rattle.laws.specs.Refusals.{first};
 ghost use Rattle.image.specs.Tests.{Sound};
-ghost use Rattle.guided.specs.Calls.{layoutOf, rowed, rowTests};
+ghost use Rattle.guided.specs.Calls.{readerLayout, afterRow, rowCall, rowTests};
 ghost use Rattle.image.specs.Picture.{planesOf};
 use guided::Reader;
 use image::Strides;
@@ -21,12 +21,14 @@ pub fn row_answer(
     out_cb: &[f32],
     out_cr: &[f32],
 ) -> Answer
-    ensures { λ r. ⌜ r ≡ first (rowTests (record { y = row; planes = planesOf (now (y .entry)) (now (cb .entry)) (now (cr .entry)) strides; reader = reader; scratch = now (s .entry); outCb = now («out_cb» .entry); outCr = now («out_cr» .entry) })) ⌝ }
+    ensures { λ r. ⌜ r ≡ first (rowTests
+        (rowCall row (planesOf (now (y .entry)) (now (cb .entry)) (now (cr .entry)) strides) reader
+        (now (s .entry)) (now («out_cb» .entry)) (now («out_cr» .entry)))) ⌝ }
 {
     if reader_state::bad_state(reader) {
         return Answer::Refused(1);
     }
-    let layout = reader_state::layout_of(reader);
+    let layout = reader_state::reader_layout(reader);
     if image::bad_planes(layout, y, cb, cr, strides) {
         return Answer::Refused(7);
     }
@@ -45,13 +47,13 @@ pub fn row_answer(
     Answer::Accepted
 }
 
-// Inner: the state that row leaves.
-pub fn rowed_state(reader: Reader, y: usize) -> Reader
-    requires { ⌜ Sound (layoutOf reader) ⌝ }
+// Inner: the state that an accepted row call leaves at row y.
+pub fn after_row(reader: Reader, y: usize) -> Reader
+    requires { ⌜ Sound (readerLayout reader) ⌝ }
     requires { ⌜ y < reader .geometry .h ⌝ }
-    ensures { λ r. ⌜ r ≡ rowed reader y ⌝ }
+    ensures { λ r. ⌜ r ≡ afterRow reader y ⌝ }
 {
-    let c = reader_state::done_counters(reader_state::layout_of(reader), y);
+    let c = reader_state::done_counters(reader_state::reader_layout(reader), y);
     let geometry = reader.geometry;
     Reader {
         geometry,

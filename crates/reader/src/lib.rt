@@ -1,4 +1,5 @@
-// reader.
+// The reader of guided rows, the original's `GuidedRows` as three public calls over lent planes and scratch: `open` a picture, `seek` a row,
+// give a `row`. What they promise is OpenGiven, SeekGiven and RowGiven of guided's specs/Calls; the steps over scratch are guided_rows'.
 mod checks;
 mod copies;
 mod opening;

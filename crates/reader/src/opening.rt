@@ -1,7 +1,7 @@
 // Open: the checks of a picture and its planes, and the state at row 0.
 ghost use mathlib.Core.Path.{_≡_};
 ghost use Rattle.image.specs.Tests.{Sound};
-ghost use Rattle.guided.specs.Calls.{opened, OpenGiven};
+ghost use Rattle.guided.specs.Calls.{afterOpen, openCall, OpenGiven};
 ghost use Rattle.image.specs.Picture.{planesOf};
 use guided::Reader;
 use guided::Reply;
@@ -9,10 +9,10 @@ use image::Layout;
 use image::Strides;
 use laws::Answer;
 
-// The state that open leaves.
-fn opened_reader(layout: Layout) -> Reader
+// The state that an accepted open leaves, at row 0.
+fn after_open(layout: Layout) -> Reader
     requires { ⌜ Sound layout ⌝ }
-    ensures { λ r. ⌜ r ≡ opened layout ⌝ }
+    ensures { λ r. ⌜ r ≡ afterOpen layout ⌝ }
 {
     let c = reader_state::fresh_counters(layout, 0);
     let geometry = reader_state::geometry_of(layout);
@@ -37,7 +37,9 @@ pub fn open(
     s: &[f32],
     reader: Reader,
 ) -> Reply
-    ensures { λ r. ⌜ OpenGiven (record { layout = layout; planes = planesOf (now (y .entry)) (now (cb .entry)) (now (cr .entry)) strides; scratch = now (s .entry); reader = reader }) r ⌝ }
+    ensures { λ r. ⌜ OpenGiven
+        (openCall layout (planesOf (now (y .entry)) (now (cb .entry)) (now (cr .entry)) strides) (now (s .entry)) reader)
+        r ⌝ }
 {
     let answer = layout.answer(false);
     if laws::refused(answer) {
@@ -57,6 +59,6 @@ pub fn open(
     }
     Reply {
         answer: Answer::Accepted,
-        reader: opened_reader(layout),
+        reader: after_open(layout),
     }
 }

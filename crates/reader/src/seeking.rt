@@ -2,18 +2,18 @@
 ghost use mathlib.Core.Path.{_≡_};
 ghost use Prim.Native.Nat.{_<_};
 ghost use Rattle.image.specs.Tests.{Sound};
-ghost use Rattle.guided.specs.Calls.{layoutOf, sought, SeekGiven};
+ghost use Rattle.guided.specs.Calls.{readerLayout, afterSeek, seekCall, SeekGiven};
 use guided::Reader;
 use guided::Reply;
 use laws::Answer;
 
-// The state that seek leaves.
-fn sought_state(reader: Reader, y: usize) -> Reader
-    requires { ⌜ Sound (layoutOf reader) ⌝ }
+// The state that an accepted seek leaves at row y.
+fn after_seek(reader: Reader, y: usize) -> Reader
+    requires { ⌜ Sound (readerLayout reader) ⌝ }
     requires { ⌜ y < reader .geometry .h ⌝ }
-    ensures { λ r. ⌜ r ≡ sought reader y ⌝ }
+    ensures { λ r. ⌜ r ≡ afterSeek reader y ⌝ }
 {
-    let c = reader_state::fresh_counters(reader_state::layout_of(reader), y);
+    let c = reader_state::fresh_counters(reader_state::reader_layout(reader), y);
     let geometry = reader.geometry;
     Reader {
         geometry,
@@ -27,7 +27,7 @@ fn sought_state(reader: Reader, y: usize) -> Reader
 
 // Moves a reader to any row, back as well. Refusals 1 and 11.
 pub fn seek(reader: Reader, y: usize) -> Reply
-    ensures { λ r. ⌜ SeekGiven (record { y = y; reader = reader }) r ⌝ }
+    ensures { λ r. ⌜ SeekGiven (seekCall y reader) r ⌝ }
 {
     if reader_state::bad_state(reader) {
         return Reply {
@@ -44,6 +44,6 @@ pub fn seek(reader: Reader, y: usize) -> Reply
     }
     Reply {
         answer: Answer::Accepted,
-        reader: sought_state(reader, y),
+        reader: after_seek(reader, y),
     }
 }

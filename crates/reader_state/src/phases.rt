@@ -7,7 +7,7 @@ use guided::Geometry;
 use image::Layout;
 use taps::Phase;
 
-// Inner: the geometry of a layout.
+// Inner: the geometry that open keeps of a layout, its phases among it.
 pub fn geometry_of(layout: Layout) -> Geometry
     requires { ⌜ layout .rh ≤ 4 ⌝ }
     ensures { λ g. ⌜ g ≡ geometryOf layout ⌝ }

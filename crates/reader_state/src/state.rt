@@ -4,14 +4,14 @@ ghost use mathlib.Core.Bool.{_&&_};
 ghost use Prim.Native.Nat.{_≤_, _<_};
 ghost use lib.Dec.{eqb};
 ghost use Rattle.image.specs.Tests.{Sound};
-ghost use Rattle.guided.specs.Calls.{layoutOf, topOf, lastOf, freshH, freshF, doneH, doneF, badCounters, badState};
+ghost use Rattle.guided.specs.Calls.{readerLayout, topOf, lastOf, freshH, freshF, doneH, doneF, badCounters, badState};
 use crate::phases::bad_phases;
 use guided::Reader;
 use image::Layout;
 
-// Inner: the layout that a state has.
-pub fn layout_of(reader: Reader) -> Layout
-    ensures { λ l. ⌜ l ≡ layoutOf reader ⌝ }
+// Inner: the layout that a reader's picture was opened with, put together from its state.
+pub fn reader_layout(reader: Reader) -> Layout
+    ensures { λ l. ⌜ l ≡ readerLayout reader ⌝ }
 {
     let g = reader.geometry;
     Layout {
@@ -26,7 +26,7 @@ pub fn layout_of(reader: Reader) -> Layout
     }
 }
 
-// Inner: the first chroma row that row y takes from.
+// Inner: the first chroma row that picture row y takes from.
 pub fn top_of(layout: Layout, y: usize) -> usize
     requires { ⌜ Sound layout ⌝ }
     requires { ⌜ y < layout .h ⌝ }
@@ -36,7 +36,7 @@ pub fn top_of(layout: Layout, y: usize) -> usize
     t.i0
 }
 
-// Inner: the last chroma row that row y takes from or is clamped by.
+// Inner: the last chroma row that picture row y takes from or is clamped by.
 pub fn last_of(layout: Layout, y: usize) -> usize
     requires { ⌜ Sound layout ⌝ }
     requires { ⌜ y < layout .h ⌝ }
@@ -47,7 +47,7 @@ pub fn last_of(layout: Layout, y: usize) -> usize
     if t.i1 < own { own } else { t.i1 }
 }
 
-// The two counters.
+// A reader's two counters: the next chroma row to sum across, and the next to finish.
 pub struct Counters {
     pub h_next: usize,
     pub f_next: usize,
@@ -85,6 +85,7 @@ pub fn done_counters(layout: Layout, y: usize) -> Counters
     }
 }
 
+// Whether a reader's counters are these two.
 fn counters_are(reader: Reader, c: Counters) -> bool
     ensures { λ r. ⌜ r ≡ (eqb (reader .«h_next») (c .«h_next») && eqb (reader .«f_next») (c .«f_next»)) ⌝ }
 {
@@ -93,11 +94,11 @@ fn counters_are(reader: Reader, c: Counters) -> bool
 
 // Whether the counters are neither open's or seek's nor row's at the state's place.
 fn bad_counters(reader: Reader) -> bool
-    requires { ⌜ Sound (layoutOf reader) ⌝ }
+    requires { ⌜ Sound (readerLayout reader) ⌝ }
     requires { ⌜ reader .place < reader .geometry .h ⌝ }
     ensures { λ r. ⌜ r ≡ badCounters reader ⌝ }
 {
-    let layout = layout_of(reader);
+    let layout = reader_layout(reader);
     let fresh = fresh_counters(layout, reader.place);
     let done = done_counters(layout, reader.place);
     !laws::either(counters_are(reader, fresh), counters_are(reader, done))
@@ -107,7 +108,7 @@ fn bad_counters(reader: Reader) -> bool
 pub fn bad_state(reader: Reader) -> bool
     ensures { λ r. ⌜ r ≡ badState reader ⌝ }
 {
-    if laws::refused(layout_of(reader).answer(false)) {
+    if laws::refused(reader_layout(reader).answer(false)) {
         return true;
     }
     let g = reader.geometry;

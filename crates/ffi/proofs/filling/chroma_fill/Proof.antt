@@ -1,3 +1,5 @@
+-- Two cases by `noSuchWay`: a switch that stands for none is answered with nothing changed; else the promise is that of `fill`, once each
+-- translated argument is replaced by what C's stands for.
 use mathlib.Core.Bool.{true≢false}
 use mathlib.Core.Path.{refl, sym, _∙_}
 use borrow.Author.Needs.{needs}

@@ -1,3 +1,5 @@
+-- Each return is the first of `fillTests` that applies: the layout's by `refused-early`, a later one by `passed-early` (`later`) and the tests
+-- that failed before it. The one hard step is `bytes-most`: w·h·size doesn't wrap, since sides and size are limited by then.
 use mathlib.Core.Path.{_≡_, refl, sym, ap, _∙_}
 use mathlib.Core.Bool.{Bool, true, false}
 use Prim.Native.Nat.{_*_, _≤_}
@@ -15,7 +17,7 @@ use Rattle.image.specs.Tests.{layoutTests, Sound}
 use Rattle.image.specs.Picture.{badPlanes, planesOf}
 use Rattle.image.proofs.Layouts.{sound-answer, area}
 use Rattle.image.specs.Scratch.{scratchNeed}
-use Rattle.fill.specs.Tests.{FillCall, isFixed, fillTests}
+use Rattle.fill.specs.Tests.{FillCall, fillCall, isFixed, fillTests}
 use Rattle.fill.proofs.Later.{sized, laterTests}
 use Rattle.fill.proofs.answer.fill_answer.Statement.{statement}
 use Rattle.fill.proofs.answer.fill_answer.Tie as tie
@@ -24,15 +26,7 @@ use Rattle.fill.proofs.answer.fill_answer.Tie as tie
 abbrev call : (c : tie.After-answer) → FillCall
 call c =
     let a = c .before .before .before .before .before .before .before .args in
-    record {
-      layout = a .layout;
-      planes = planesOf (a .y .now) (a .cb .now) (a .cr .now) (a .strides);
-      upsampling = a .upsampling;
-      kernel = a .kernel;
-      size = a .size;
-      scratch = a .s .now;
-      out = a .out .now;
-    }
+    fillCall (a .layout) (planesOf (a .y .now) (a .cb .now) (a .cr .now) (a .strides)) (a .upsampling) (a .kernel) (a .size) (a .s .now) (a .out .now)
 
 -- what the layout is answered
 answered : (c : tie.After-answer) → c .answer .result ≡ first (layoutTests (isFixed (call c .kernel)) (call c .layout))
@@ -65,7 +59,7 @@ call4 c = call2 (c .before .before .before .before)
 scratch-passed : (c : tie.Else4) → ltb (length (call4 c .scratch)) (scratchNeed (call4 c .layout)) ≡ false
 scratch-passed c = le-ltb (length (call4 c .scratch)) (scratchNeed (call4 c .layout)) (rw (sym (c .before .scratch-need .ensures)) (c .if4 .left))
 
--- the number of bytes is no product that wraps
+-- the number of bytes is no product that wraps: 8,192² pixels of at most 4 bytes
 bytes-most : (c : tie.Else4) → (let k = call4 c in (k .layout .w * k .layout .h ≤ 67108864) × (k .layout .w * k .layout .h * k .size ≤ 268435456))
 bytes-most c =
     let h = c .before .before in

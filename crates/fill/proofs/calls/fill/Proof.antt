@@ -1,3 +1,5 @@
+-- A refused call changes nothing. An accepted one passed all its tests, so that `ready` gives what `fill_rows` requires, and its contract for
+-- the rows 0, .. h - 1 is the promise.
 use mathlib.Core.Path.{_≡_, refl, sym, ap, _∙_}
 use Prim.Native.Nat.{ℕ, _-_}
 use native.Mathlib.Omega.{arith}
@@ -7,7 +9,7 @@ use Rattle.laws.specs.declared.answers.Answer.the-variants.{Accepted}
 use Rattle.laws.specs.Refusals.{accepted}
 use Rattle.laws.proofs.Refusals.{accepted-is}
 use Rattle.image.specs.Picture.{pictureOf, planesOf}
-use Rattle.fill.specs.Tests.{FillCall}
+use Rattle.fill.specs.Tests.{FillCall, fillCall}
 use Rattle.fill.specs.Fill.{fillColour, pixelRows, fillScratch}
 use Rattle.fill.proofs.Acceptance.{ready}
 use Rattle.fill.proofs.calls.fill.Statement.{statement}
@@ -17,15 +19,7 @@ use Rattle.fill.proofs.calls.fill.Tie as tie
 abbrev call : (c : tie.Start) → FillCall
 call c =
     let a = c .args in
-    record {
-      layout = a .layout;
-      planes = planesOf (a .y .now) (a .cb .now) (a .cr .now) (a .strides);
-      upsampling = a .upsampling;
-      kernel = a .kernel;
-      size = a .size;
-      scratch = a .s .now;
-      out = a .out .now;
-    }
+    fillCall (a .layout) (planesOf (a .y .now) (a .cb .now) (a .cr .now) (a .strides)) (a .upsampling) (a .kernel) (a .size) (a .s .now) (a .out .now)
 
 passed : (c : tie.Else1) → c .before .before .fill-answer .result ≡ Accepted
 passed c = accepted-is (c .before .before .fill-answer .result) (not-false (accepted (c .before .before .fill-answer .result)) (sym (c .before .refused .ensures) ∙ c .if1 .left))

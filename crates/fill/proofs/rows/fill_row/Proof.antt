@@ -1,3 +1,5 @@
+-- The contract is the two calls' contracts, one after the other. The hard steps are the products: a row's bytes and its beginning are within
+-- bounds by the limits of a layout (`row-bytes`, `row-begins`), and the row fits out (`row-room`).
 use mathlib.Core.Path.{ap, _∙_}
 use mathlib.Core.List.{List}
 use Prim.Native.Nat.{_+_, _*_}

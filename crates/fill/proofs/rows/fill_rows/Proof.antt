@@ -1,3 +1,5 @@
+-- The loop's invariant is that out is `pixelRows` so far (`Painted`) and scratch is `fillScratch` so far (`Scratched`). `loop-again` carries a
+-- turn: by `row-is` the colour row that was made from scratch is the picture's.
 use mathlib.Core.Path.{_∙_}
 use Prim.Native.Nat.{_+_, _-_, _*_, _≤_}
 use native.Mathlib.Omega.{arith}

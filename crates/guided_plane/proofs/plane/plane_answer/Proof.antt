@@ -1,3 +1,5 @@
+-- Each return is the first test that applies: the layout's by `refused-early`, a later one by `passed-early` and the tests that failed before
+-- it. The one hard step is `mul-if4`: the layout's sides are limited by then, so that w·h doesn't wrap.
 use mathlib.Core.Path.{_≡_, refl, sym, ap, _∙_}
 use Prim.Native.Nat.{_*_}
 use mathlib.Core.Bool.{true, false}

@@ -1,3 +1,5 @@
+-- The contract is the two calls' contracts, one after the other. The hard step is room: row·w + w lies within w·h (`row-fits`), which is what
+-- out holds, and the finished row lies at the front of scratch (`front-fits`).
 use mathlib.Core.Path.{ap, _∙_}
 use mathlib.Core.List.{List, [], _∷_}
 use Prim.Native.Nat.{_+_, _*_, _≤_}

@@ -1,3 +1,5 @@
+-- The loop's invariant is that out has the guided samples in its first rows (`Rows`) and scratch is that after these rows (`Advanced`). `loop-
+-- again` carries a turn: by `stored-is` the row that was stored from scratch is the row of the definition.
 use mathlib.Core.Path.{_∙_}
 use mathlib.Core.List.{[], _∷_}
 use Prim.Native.Nat.{_-_, _*_, _≤_}

@@ -9,7 +9,7 @@ use Rattle.guided_rows.specs.CatchingUp.{beforeH, beforeF}
 use Rattle.guided_rows.proofs.steps.counters_before.Statement.{statement}
 use Rattle.guided_rows.proofs.steps.counters_before.Tie as tie
 
--- those of a reader sought to row a
+-- those that seek leaves at row a
 first-row : (l : Layout) (a n : ℕ) (k : Counters) → n ≡ 0 → (k .«h_next» ≡ freshH l a) × (k .«f_next» ≡ freshF l a) → (k .«h_next» ≡ beforeH l a n) × (k .«f_next» ≡ beforeF l a n)
 unfolding beforeH beforeF
 first-row l a zero k e h = h

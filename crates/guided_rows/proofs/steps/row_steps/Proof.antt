@@ -1,10 +1,10 @@
 use Rattle.guided.specs.Calls.{doneF}
 use Rattle.image.specs.Picture.{Planes, pictureOf, planesOf}
 use Rattle.guided_window.specs.Lent.{componentsOf}
-use Rattle.guided.specs.Scratch.{fsteps, rowSteps}
+use Rattle.guided.specs.Scratch.{catchUp, rowSteps}
 use Rattle.guided_pixels.specs.Row.{windowRow}
 use Rattle.guided.proofs.Taken.{taken}
-use Rattle.guided.proofs.Window.{length-fsteps}
+use Rattle.guided.proofs.Window.{length-catch-up}
 use mathlib.Core.Path.{ap, _∙_}
 use Prim.Native.Nat.{ℕ, _-_, _≤_}
 use native.Mathlib.Omega.{arith}
@@ -33,7 +33,7 @@ guided-row-requires c κs =
     let d = c .before .before .before .before .before in
     let e = c .before .before .before .catch-up .ensures in
     let o = start d .pre .0 in
-    (record { sound = o .sound; plane = o .luma }, start d .pre .1 .0, rw (ap length e ∙ length-fsteps _ _ _ _ _ _) (start d .pre .1 .1))
+    (record { sound = o .sound; plane = o .luma }, start d .pre .1 .0, rw (ap length e ∙ length-catch-up _ _ _ _ _ _) (start d .pre .1 .1))
 
 same-length : tie.Need-same-length
 same-length c = search needs
@@ -47,7 +47,7 @@ returns c =
     let p = pictureOf (a .layout) ps in
     let ks = componentsOf (a .components) in
     c .before .before .guided-row .ensures (ps .cb) (ps .cr)
-    ∙ ap (windowRow p ks (a .row)) (c .before .before .before .before .before .before .catch-up .ensures ∙ ap (λ (n : ℕ). fsteps p ks (a .h) (a .f) (n - a .f) (a .s .now)) (d .done-counters .ensures .1))
+    ∙ ap (windowRow p ks (a .row)) (c .before .before .before .before .before .before .catch-up .ensures ∙ ap (λ (n : ℕ). catchUp p ks (a .h) (a .f) (n - a .f) (a .s .now)) (d .done-counters .ensures .1))
 
 pub row-steps-spec : {M : Type 1} → statement M
 row-steps-spec =

@@ -1,3 +1,6 @@
+-- Each return is the first of `rowTests` that applies, computed from the tests that failed before it (`state-passed`, `planes-passed`, ..).
+-- The layout comes from the state, so that each of these is carried over by the contract of `reader_layout`; a state that passes makes it
+-- sound (`fine`).
 use mathlib.Core.Path.{_≡_, refl, sym, _∙_}
 use mathlib.Core.Bool.{false, _||_}
 use lib.Dec.{leb, ltb}
@@ -7,7 +10,7 @@ use borrow.Author.Needs.{needs}
 use Rattle.laws.specs.Refusals.{first}
 use Rattle.image.specs.Picture.{badPlanes, planesOf}
 use Rattle.image.specs.Scratch.{scratchNeed}
-use Rattle.guided.specs.Calls.{RowCall, layoutOf, badState, rowTests}
+use Rattle.guided.specs.Calls.{RowCall, rowCall, readerLayout, badState, rowTests}
 use Rattle.guided.proofs.Acceptance.{fine}
 use Rattle.reader.proofs.checks.row_answer.Statement.{statement}
 use Rattle.reader.proofs.checks.row_answer.Tie as tie
@@ -16,14 +19,7 @@ use Rattle.reader.proofs.checks.row_answer.Tie as tie
 abbrev call : (c : tie.After-bad-state) → RowCall
 call c =
     let a = c .before .before .before .before .before .before .before .args in
-    record {
-      y = a .row;
-      planes = planesOf (a .y .now) (a .cb .now) (a .cr .now) (a .strides);
-      reader = a .reader;
-      scratch = a .s .now;
-      outCb = a .out-cb .now;
-      outCr = a .out-cr .now;
-    }
+    rowCall (a .row) (planesOf (a .y .now) (a .cb .now) (a .cr .now) (a .strides)) (a .reader) (a .s .now) (a .out-cb .now) (a .out-cr .now)
 
 -- the tests that failed so far, one by one
 state-passed : (c : tie.Else1) → badState (call (c .before) .reader) ≡ false
@@ -32,28 +28,28 @@ state-passed c = sym (c .before .bad-state .ensures) ∙ c .if1 .left
 abbrev call2 : (c : tie.After-bad-planes) → RowCall
 call2 c = call (c .before .before .before)
 
-planes-are : (c : tie.After-bad-planes) → c .bad-planes .result ≡ badPlanes (layoutOf (call2 c .reader)) (call2 c .planes)
-planes-are c = rw (sym (c .before .layout-of .ensures)) (c .bad-planes .ensures)
+planes-are : (c : tie.After-bad-planes) → c .bad-planes .result ≡ badPlanes (readerLayout (call2 c .reader)) (call2 c .planes)
+planes-are c = rw (sym (c .before .reader-layout .ensures)) (c .bad-planes .ensures)
 
-planes-passed : (c : tie.Else2) → badPlanes (layoutOf (call2 (c .before) .reader)) (call2 (c .before) .planes) ≡ false
+planes-passed : (c : tie.Else2) → badPlanes (readerLayout (call2 (c .before) .reader)) (call2 (c .before) .planes) ≡ false
 planes-passed c = sym (planes-are (c .before)) ∙ c .if2 .left
 
 abbrev call3 : (c : tie.After-scratch-need) → RowCall
 call3 c = call2 (c .before .before)
 
-need-is : (c : tie.After-scratch-need) → c .scratch-need .result ≡ scratchNeed (layoutOf (call3 c .reader))
-need-is c = rw (sym (c .before .before .before .layout-of .ensures)) (c .scratch-need .ensures)
+need-is : (c : tie.After-scratch-need) → c .scratch-need .result ≡ scratchNeed (readerLayout (call3 c .reader))
+need-is c = rw (sym (c .before .before .before .reader-layout .ensures)) (c .scratch-need .ensures)
 
-scratch-passed : (c : tie.Else3) → ltb (length (call3 (c .before) .scratch)) (scratchNeed (layoutOf (call3 (c .before) .reader))) ≡ false
-scratch-passed c = le-ltb (length (call3 (c .before) .scratch)) (scratchNeed (layoutOf (call3 (c .before) .reader))) (rw (sym (need-is (c .before))) (c .if3 .left))
+scratch-passed : (c : tie.Else3) → ltb (length (call3 (c .before) .scratch)) (scratchNeed (readerLayout (call3 (c .before) .reader))) ≡ false
+scratch-passed c = le-ltb (length (call3 (c .before) .scratch)) (scratchNeed (readerLayout (call3 (c .before) .reader))) (rw (sym (need-is (c .before))) (c .if3 .left))
 
 abbrev call4 : (c : tie.After-either) → RowCall
 call4 c = call3 (c .before .before .before .before)
 
-outputs-are : (c : tie.After-either) → (let k = call4 c in c .either .result ≡ (ltb (length (k .outCb)) (layoutOf (k .reader) .w) || ltb (length (k .outCr)) (layoutOf (k .reader) .w)))
-outputs-are c = rw (sym (c .before .before .before .before .before .before .before .layout-of .ensures)) (c .either .ensures)
+outputs-are : (c : tie.After-either) → (let k = call4 c in c .either .result ≡ (ltb (length (k .outCb)) (readerLayout (k .reader) .w) || ltb (length (k .outCr)) (readerLayout (k .reader) .w)))
+outputs-are c = rw (sym (c .before .before .before .before .before .before .before .reader-layout .ensures)) (c .either .ensures)
 
-outputs-passed : (c : tie.Else4) → (let k = call4 (c .before) in (ltb (length (k .outCb)) (layoutOf (k .reader) .w) || ltb (length (k .outCr)) (layoutOf (k .reader) .w)) ≡ false)
+outputs-passed : (c : tie.Else4) → (let k = call4 (c .before) in (ltb (length (k .outCb)) (readerLayout (k .reader) .w) || ltb (length (k .outCr)) (readerLayout (k .reader) .w)) ≡ false)
 outputs-passed c = sym (outputs-are (c .before)) ∙ c .if4 .left
 
 bad-state-requires : tie.Need-bad-state-requires
@@ -63,8 +59,8 @@ returns : tie.Need-returns
 unfolding first rowTests
 returns c = rw (sym (c .before .bad-state .ensures) ∙ c .if1 .taken) refl
 
-layout-of-requires : tie.Need-layout-of-requires
-layout-of-requires c κs = search needs
+reader-layout-requires : tie.Need-reader-layout-requires
+reader-layout-requires c κs = search needs
 
 bad-planes-requires : tie.Need-bad-planes-requires
 bad-planes-requires c κs = search needs
@@ -74,14 +70,14 @@ unfolding first rowTests
 returns-2 c = rw (state-passed (c .before .before .before), sym (planes-are (c .before)) ∙ c .if2 .taken) refl
 
 scratch-need-requires : tie.Need-scratch-need-requires
-scratch-need-requires c κs = let e = c .before .before .before in rw (c .before .before .layout-of .ensures) (fine (call (e .before) .reader) (state-passed e) .sound)
+scratch-need-requires c κs = let e = c .before .before .before in rw (c .before .before .reader-layout .ensures) (fine (call (e .before) .reader) (state-passed e) .sound)
 
 returns-3 : tie.Need-returns-3
 unfolding first rowTests
 returns-3 c =
     let p = c .before .before in
     let k = call3 (c .before) in
-    rw (state-passed (p .before .before .before), planes-passed p, lt-ltb (length (k .scratch)) (scratchNeed (layoutOf (k .reader))) (rw (sym (need-is (c .before))) (c .if3 .taken))) refl
+    rw (state-passed (p .before .before .before), planes-passed p, lt-ltb (length (k .scratch)) (scratchNeed (readerLayout (k .reader))) (rw (sym (need-is (c .before))) (c .if3 .taken))) refl
 
 either-requires : tie.Need-either-requires
 either-requires c κs = search needs
@@ -93,12 +89,12 @@ returns-4 c =
     let p = s .before .before in
     rw (state-passed (p .before .before .before), planes-passed p, scratch-passed s, sym (outputs-are (c .before)) ∙ c .if4 .taken) refl
 
-height-is : (c : tie.Else4) → c .before .before .before .before .before .before .before .before .layout-of .result .h ≡ call4 (c .before) .reader .geometry .h
-unfolding layoutOf
-height-is c = rw (c .before .before .before .before .before .before .before .before .layout-of .ensures) refl
+height-is : (c : tie.Else4) → c .before .before .before .before .before .before .before .before .reader-layout .result .h ≡ call4 (c .before) .reader .geometry .h
+unfolding readerLayout
+height-is c = rw (c .before .before .before .before .before .before .before .before .reader-layout .ensures) refl
 
 returns-5 : tie.Need-returns-5
-unfolding first rowTests layoutOf
+unfolding first rowTests readerLayout
 returns-5 c =
     let o = c .before .before in
     let s = o .before .before .before .before in
@@ -110,7 +106,7 @@ row-passed : (c : tie.Else5) → (let k = call4 (c .before .before .before) in l
 row-passed c = let k = call4 (c .before .before .before) in lt-leb (k .reader .geometry .h) (k .y) (rw (sym (height-is (c .before .before))) (c .if5 .left))
 
 returns-6 : tie.Need-returns-6
-unfolding first rowTests layoutOf
+unfolding first rowTests readerLayout
 returns-6 c =
     let r = c .before .before in
     let o = r .before .before in
@@ -120,7 +116,7 @@ returns-6 c =
     rw (state-passed (p .before .before .before), planes-passed p, scratch-passed s, outputs-passed o, row-passed r, lt-ltb (k .y) (k .reader .place) (c .if6 .taken)) refl
 
 returns-7 : tie.Need-returns-7
-unfolding first rowTests layoutOf
+unfolding first rowTests readerLayout
 returns-7 c =
     let r = c .before .before in
     let o = r .before .before in
@@ -135,7 +131,7 @@ row-answer-spec =
     (tie.spec
     bad-state-requires
     returns
-    layout-of-requires
+    reader-layout-requires
     bad-planes-requires
     returns-2
     scratch-need-requires

@@ -1,3 +1,5 @@
+-- The loop's invariant is `Run` of laws: the first i values are copied and all else is as it was. `run-more` carries a turn, and every bound
+-- is arithmetic over the two lengths.
 use Rattle.image.specs.Scratch.{cellAt}
 use mathlib.Core.Path.{refl}
 use Prim.Native.Nat.{_-_, _≤_}

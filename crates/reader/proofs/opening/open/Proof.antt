@@ -1,3 +1,5 @@
+-- Each return is the first of `openTests` that applies: the layout's by `refused-early`, a later one by `passed-early` (`later`). The bytes of
+-- the planes are facts of the slices' type, which the contract passes on for demand 3.
 use mathlib.Core.Path.{_≡_, refl, sym, ap, _∙_}
 use mathlib.Core.Bool.{true, false}
 use mathlib.Core.List.{List, [], _∷_}
@@ -13,7 +15,7 @@ use Rattle.image.specs.declared.chroma.Chroma.the-variants.{Cb, Cr}
 use Rattle.image.specs.Picture.{badPlanes, planesOf}
 use Rattle.image.proofs.Layouts.{sound-answer}
 use Rattle.image.specs.Scratch.{scratchNeed}
-use Rattle.guided.specs.Calls.{OpenCall, openTests, Bytes}
+use Rattle.guided.specs.Calls.{OpenCall, openCall, openTests, Bytes}
 use Rattle.reader.proofs.opening.open.Statement.{statement}
 use Rattle.reader.proofs.opening.open.Tie as tie
 
@@ -21,12 +23,7 @@ use Rattle.reader.proofs.opening.open.Tie as tie
 abbrev call : (c : tie.Start) → OpenCall
 call c =
     let a = c .args in
-    record {
-      layout = a .layout;
-      planes = planesOf (a .y .now) (a .cb .now) (a .cr .now) (a .strides);
-      scratch = a .s .now;
-      reader = a .reader;
-    }
+    openCall (a .layout) (planesOf (a .y .now) (a .cb .now) (a .cr .now) (a .strides)) (a .s .now) (a .reader)
 
 -- where the layout is answered for
 abbrev start : (c : tie.After-answer) → tie.Start
@@ -99,8 +96,8 @@ returns-3 c =
       bytes = bytes (e .before .before);
     }
 
-opened-reader-requires : tie.Need-opened-reader-requires
-opened-reader-requires c κs = sound (c .before .before .before .before)
+after-open-requires : tie.Need-after-open-requires
+after-open-requires c κs = sound (c .before .before .before .before)
 
 returns-4 : tie.Need-returns-4
 unfolding first
@@ -109,7 +106,7 @@ returns-4 c =
     let o = call (start (e .before .before)) in
     record {
       answers = later e _ (rw (planes-passed (c .before .before .before), le-ltb (length (o .scratch)) (scratchNeed (o .layout)) (rw (sym (c .before .before .scratch-need .ensures)) (c .before .if3 .left))) refl);
-      leaves = c .opened-reader .ensures;
+      leaves = c .after-open .ensures;
       bytes = bytes (e .before .before);
     }
 
@@ -124,5 +121,5 @@ open-spec =
     returns-2
     scratch-need-requires
     returns-3
-    opened-reader-requires
+    after-open-requires
     returns-4)

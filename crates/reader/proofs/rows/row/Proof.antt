@@ -1,3 +1,6 @@
+-- A refused call returns what it was handed. An accepted one had all its tests failed, so that `row-handed` gives all that the steps require;
+-- the contract is then that of `row_steps` and of the two copies. The hard step is `made-room`: scratch after the steps is as long as before
+-- and has both finished rows.
 use Rattle.image.specs.declared.chroma.Components.the-variants.{Both}
 use mathlib.Core.Path.{_≡_, refl, sym, ap, _∙_}
 use mathlib.Core.Bool.{true}
@@ -12,7 +15,7 @@ use Rattle.image.specs.declared.layout.Layout.{Layout}
 use Rattle.image.specs.Picture.{badPlanes, planesOf}
 use Rattle.image.proofs.Layouts.{neither}
 use Rattle.guided.specs.Scratch.{finishedAt}
-use Rattle.guided.specs.Calls.{RowCall, layoutOf, rowTests, rowScratch, rowOut}
+use Rattle.guided.specs.Calls.{RowCall, rowCall, readerLayout, rowTests, rowScratch, rowOut}
 use Rattle.guided.proofs.Places.{front-fits}
 use Rattle.guided.proofs.FinishedRows.{length-row}
 use Rattle.guided.proofs.Acceptance.{fine, RowHanded, row-handed}
@@ -24,14 +27,7 @@ use Rattle.reader.proofs.rows.row.Tie as tie
 abbrev call : (c : tie.After-row-answer) → RowCall
 call c =
     let a = c .before .before .before .before .before .before .before .before .before .before .args in
-    record {
-      y = a .row;
-      planes = planesOf (a .y .now) (a .cb .now) (a .cr .now) (a .strides);
-      reader = a .reader;
-      scratch = a .s .now;
-      outCb = a .out-cb .now;
-      outCr = a .out-cr .now;
-    }
+    rowCall (a .row) (planesOf (a .y .now) (a .cb .now) (a .cr .now) (a .strides)) (a .reader) (a .s .now) (a .out-cb .now) (a .out-cr .now)
 
 -- an accepted call, and what it was handed
 passed : (c : tie.Else1) → accepted (c .before .before .row-answer .result) ≡ true
@@ -42,7 +38,7 @@ handed c =
     let k = call (c .before .before) in
     row-handed k (accepted-failed (rowTests k) (sym (c .before .before .row-answer .ensures) ∙ accepted-is _ (passed c)))
 
-lent : (c : tie.Else1) → (let k = call (c .before .before) in Lent (layoutOf (k .reader)) (k .planes) Both)
+lent : (c : tie.Else1) → (let k = call (c .before .before) in Lent (readerLayout (k .reader)) (k .planes) Both)
 unfolding badPlanes
 lent c =
     let h = handed c in
@@ -56,14 +52,14 @@ calm c = c .before .before .before
 
 made : (c : tie.After-row-steps) → c .row-steps .last .1 .1 .1 .1 .1 .1 .1 .1 .1 .0 ≡ rowScratch (call (calm c .before .before))
 unfolding rowScratch
-made c = rw (sym (c .before .before .layout-of .ensures)) (c .row-steps .ensures)
+made c = rw (sym (c .before .before .reader-layout .ensures)) (c .row-steps .ensures)
 
-made-room : (c : tie.After-row-steps) → 3 * layoutOf (call (calm c .before .before) .reader) .w ≤ length (c .row-steps .last .1 .1 .1 .1 .1 .1 .1 .1 .1 .0)
+made-room : (c : tie.After-row-steps) → 3 * readerLayout (call (calm c .before .before) .reader) .w ≤ length (c .row-steps .last .1 .1 .1 .1 .1 .1 .1 .1 .1 .0)
 unfolding rowScratch
 made-room c =
     let k = call (calm c .before .before) in
     let h = handed (calm c) in
-    let f = front-fits (layoutOf (k .reader)) in
+    let f = front-fits (readerLayout (k .reader)) in
     let e = ap length (made c) ∙ length-row _ _ _ _ _ _ _ in
     omega (arith, h .room)
 
@@ -87,25 +83,25 @@ returns c =
     let f = not-true (accepted (c .before .before .row-answer .result)) (sym (c .before .refused .ensures) ∙ c .if1 .taken) in
     record { answers = c .before .before .row-answer .ensures; leaves = rw f refl; scratches = rw f refl; cbs = rw f refl; crs = rw f refl }
 
-layout-of-requires : tie.Need-layout-of-requires
-layout-of-requires c κs = search needs
+reader-layout-requires : tie.Need-reader-layout-requires
+reader-layout-requires c κs = search needs
 
 row-steps-requires : tie.Need-row-steps-requires
 row-steps-requires c κs =
     let h = handed (c .before .before) in
-    rw (c .before .layout-of .ensures) (lent (c .before .before), (h .inside, h .room))
+    rw (c .before .reader-layout .ensures) (lent (c .before .before), (h .inside, h .room))
 
 copy-rows-requires : tie.Need-copy-rows-requires
 copy-rows-requires c κs =
     let r = c .before .before .before .before .before in
     let h = handed (calm r) in
-    let e = ap (λ (l : Layout). l .w) (r .before .before .layout-of .ensures) in
+    let e = ap (λ (l : Layout). l .w) (r .before .before .reader-layout .ensures) in
     let m = made-room r in
     (omega arith, omega arith, omega arith)
 
-rowed-state-requires : tie.Need-rowed-state-requires
-unfolding layoutOf
-rowed-state-requires c κs =
+after-row-requires : tie.Need-after-row-requires
+unfolding readerLayout
+after-row-requires c κs =
     let h = handed (calm (c .before .before .before .before .before .before .before .before .before .before)) in
     (fine _ (h .state) .sound, h .inside)
 
@@ -119,15 +115,15 @@ same-length-6 : tie.Need-same-length-6
 same-length-6 c = search needs
 
 returns-2 : tie.Need-returns-2
-unfolding rowOut finishedAt layoutOf
+unfolding rowOut finishedAt readerLayout
 returns-2 c =
     let d = c .before .before .before .before .before in
     let r = d .before .before .before .before .before .before in
-    let e = ap (λ (l : Layout). l .w) (r .before .before .layout-of .ensures) in
+    let e = ap (λ (l : Layout). l .w) (r .before .before .reader-layout .ensures) in
     let a = passed (calm r) in
     record {
       answers = calm r .before .before .row-answer .ensures;
-      leaves = rw a (c .rowed-state .ensures);
+      leaves = rw a (c .after-row .ensures);
       scratches = rw a (made r);
       cbs = rw a (d .copy-rows .ensures .0 ∙ rw (e, made r) refl);
       crs = rw a (d .copy-rows .ensures .1 ∙ rw (e, made r) refl);
@@ -143,10 +139,10 @@ row-spec =
     same-length-2
     same-length-3
     returns
-    layout-of-requires
+    reader-layout-requires
     row-steps-requires
     copy-rows-requires
-    rowed-state-requires
+    after-row-requires
     same-length-4
     same-length-5
     same-length-6

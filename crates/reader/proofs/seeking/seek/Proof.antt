@@ -27,15 +27,15 @@ returns-2 c =
     let a = c .before .before .before .before .before .args in
     record { answers = sym (passed-over (badState (a .reader)) 1 _ (passed (c .before .before .before)) ∙ refused-here (leb (a .reader .geometry .h) (a .y)) 11 _ (le-leb (a .reader .geometry .h) (a .y) (c .if2 .taken))); leaves = refl }
 
-sought-state-requires : tie.Need-sought-state-requires
-sought-state-requires c κs = (fine (c .before .before .before .before .before .args .reader) (passed (c .before .before .before)) .sound, omega arith)
+after-seek-requires : tie.Need-after-seek-requires
+after-seek-requires c κs = (fine (c .before .before .before .before .before .args .reader) (passed (c .before .before .before)) .sound, omega arith)
 
 returns-3 : tie.Need-returns-3
 unfolding seekTests first
 returns-3 c =
     let a = c .before .before .before .before .before .before .args in
-    record { answers = rw (passed (c .before .before .before .before), lt-leb (a .reader .geometry .h) (a .y) (c .before .if2 .left)) refl; leaves = c .sought-state .ensures }
+    record { answers = rw (passed (c .before .before .before .before), lt-leb (a .reader .geometry .h) (a .y) (c .before .if2 .left)) refl; leaves = c .after-seek .ensures }
 
 pub seek-spec : {M : Type 1} → statement M
 seek-spec =
-    tie.close (tie.spec bad-state-requires returns returns-2 sought-state-requires returns-3)
+    tie.close (tie.spec bad-state-requires returns returns-2 after-seek-requires returns-3)
