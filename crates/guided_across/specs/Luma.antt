@@ -12,7 +12,7 @@ use Rattle.image.specs.Picture.{shortPlane}
 use Rattle.guided.specs.Guided.{sumTo, lumaOf}
 
 -- what is known of a layout and its luma plane
-pub record Cells (l : Layout) (p : Plane) : Type 0 where
+pub record LumaPixels (l : Layout) (p : Plane) : Type 0 where
   pub sound : Sound l
   pub plane : shortPlane l (l .w) (l .h) p ≡ false
 

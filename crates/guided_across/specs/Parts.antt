@@ -10,10 +10,10 @@ use Rattle.image.specs.declared.chroma.Chroma.{Chroma}
 use Rattle.image.specs.Scratch.{scratchNeed, cellAt}
 use Rattle.guided.specs.Guided.{three, lumaOf}
 use Rattle.guided.specs.Scratch.{slotAt, firstOf}
-use Rattle.guided_across.specs.declared.across.Slots.{Slots}
+use Rattle.guided_across.specs.declared.across.CellBuffers.{CellBuffers}
 
--- what `slots_at` promises: the buffers n, n + 1 and n + 2 of chroma row j, apart and within scratch
-pub record SlotsGiven (l : Layout) (n j : ℕ) (t : Slots) : Type 0 where
+-- what `cell_buffers_at` promises: the buffers n, n + 1 and n + 2 of chroma row j, apart and within scratch
+pub record CellBuffersGiven (l : Layout) (n j : ℕ) (t : CellBuffers) : Type 0 where
   pub at : t .at ≡ slotAt l n j
   pub sums : t .sums ≡ slotAt l (n + 1) j
   pub products : t .products ≡ slotAt l (n + 2) j

@@ -10,7 +10,7 @@ use Rattle.image.specs.Scratch.{cellAt}
 use Rattle.guided.specs.Scratch.{detailAt}
 use Rattle.fround.specs.Rounding.{fmax, fmin}
 use borrow.Author.Needs.{needs}
-use Rattle.guided_pixels.proofs.Cells.{value-pixel}
+use Rattle.guided_pixels.proofs.CellValues.{value-pixel}
 use Rattle.guided_pixels.specs.Values.{valueAt, valueRun}
 use Rattle.guided_pixels.proofs.values.value_cell.Tie as tie
 

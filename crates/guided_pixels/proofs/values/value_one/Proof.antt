@@ -6,7 +6,7 @@ use Rattle.guided_pixels.proofs.values.value_one.Statement.{statement}
 use lib.Ieee.{Float}
 use Rattle.image.specs.Scratch.{cellAt}
 use Rattle.guided.specs.Scratch.{detailAt}
-use Rattle.guided_pixels.proofs.Cells.{value-one}
+use Rattle.guided_pixels.proofs.CellValues.{value-one}
 use Rattle.guided_pixels.specs.Values.{valueAt}
 use Rattle.guided_pixels.proofs.values.value_one.Tie as tie
 
