@@ -1,4 +1,5 @@
 -- The luma of cells: which pixels a cell has, and that none outside the picture is looked at.
+-- `cell-is` and `luma-inside` follow the definition; the work is in `byte-cell`, where pairs of bytes at ratio 2 are the samples that `lumaOf` sums, place by place.
 use mathlib.Core.Path.{_≡_, refl, sym, ap, _∙_}
 use mathlib.Core.List.{List}
 use Prim.Native.Nat.{ℕ, _+_, _-_, _*_, _/_, _≤_, _<_, min}

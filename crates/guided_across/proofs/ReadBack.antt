@@ -1,4 +1,5 @@
 -- Rows that scratch holds are read back as they were put, so that the code's steps are the definition's.
+-- `Row` is what scratch holds at a place, and `row-kept` carries it over stores behind it. The hard step is `chroma-across`: products read luma's row, put before.
 use mathlib.Core.Path.{_≡_, refl, sym, ap, _∙_}
 use mathlib.Core.Bool.{true, false}
 use mathlib.Core.List.{List, []}

@@ -1,4 +1,5 @@
 -- A component's values: only its rows of cells and the detail are looked at.
+-- `value-same` carries it: these rows lie behind the finished rows (`inputs-inside`), so that a value is the same while finished rows are written.
 use mathlib.Core.Path.{_≡_, refl, sym, ap, _∙_}
 use mathlib.Core.List.{List}
 use Prim.Native.Nat.{ℕ, _+_, _*_, _/_, _≤_, _<_}

@@ -10,7 +10,7 @@ use Rattle.guided.specs.Scratch.{numAcross, Slope, numDown, columnOf, lumaColum
 use Rattle.guided_pixels.specs.Columns.{downColumn}
 use Rattle.guided_pixels.specs.Values.{valueRow}
 
--- a component's samples and slopes, lerped down for row y
+-- a component's samples and slopes, lerped down for row y into its two rows of cells
 unfoldable pub downColumns : Layout → Chroma → ℕ → List Float → List Float
 downColumns l k y s = downColumn l (numDown (Slope k)) (columnOf k + 1) y (downColumn l (numAcross (Cell k)) (columnOf k + 0) y s)
 

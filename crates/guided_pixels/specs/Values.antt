@@ -20,7 +20,7 @@ pub record CellsInside (at low n len : ℕ) : Type 0 where
   pub behind : low ≤ at
   pub fits : at + n ≤ len
 
--- each of the four rows does so
+-- the four rows that values are made of lie behind the first `low` values and within `len`
 pub record InputsInside (t : ValueInputs) (low n len : ℕ) : Type 0 where
   pub cells : CellsInside (t .cells) low n len
   pub slopes : CellsInside (t .slopes) low n len
@@ -31,13 +31,14 @@ pub record InputsInside (t : ValueInputs) (low n len : ℕ) : Type 0 where
 unfoldable pub valueAt : Layout → List Float → ValueInputs → ℕ → Float
 valueAt l s t x = valueOf l (cellAt s (t .cells)) (cellAt s (t .slopes)) (cellAt s (t .least)) (cellAt s (t .greatest)) (cellAt s (detailAt l) x) x
 
--- its values in the two pixels of cell i + 1 at ratio 2
+-- a component's values in the two pixels of cell i + 1 at ratio 2
 unfoldable pub valuePair : Layout → List Float → ValueInputs → ℕ → Pair
 valuePair l s t i = record { left = valueAt l s t (2 + 2 * i); right = valueAt l s t (2 + (2 * i + 1)) }
 
--- those of columns from, .. from + n - 1, put at dst + from, and of all columns, put where the finished row lies
+-- a component's values in columns from, .. from + n - 1, put at dst + from
 unfoldable pub valueRun : Layout → ValueInputs → ℕ → ℕ → ℕ → List Float → List Float
 valueRun l t dst from n s = put s (dst + from) n (λ i. valueAt l s t (from + i))
 
+-- a component's values in all columns, put where its finished row lies
 unfoldable pub valueRow : Layout → Chroma → ℕ → List Float → List Float
 valueRow l k j s = put s (finishedAt l k) (l .w) (valueAt l s (inputsOf l k j))

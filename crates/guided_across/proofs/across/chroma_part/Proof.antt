@@ -1,3 +1,5 @@
+-- Three rows are written one after another, each as its callee promises; `chroma-steps` takes the three to `chromaPart`.
+-- It wants luma's cells to lie before the component's buffers, since the products read them after two rows were stored: `behind`, by the order of the buffers.
 use Rattle.guided_across.proofs.ReadBack.{chroma-steps}
 use Rattle.guided.proofs.Places.{first-few, slot-order}
 use Rattle.guided_across.specs.Sums.{cellsAt, productsAt, threeRow}

@@ -1,3 +1,5 @@
+-- The law `value-one` says that at ratio 1 the value by cells x and x + 1 with fraction 0 is the definition's; that 0.0 is its fraction is by the bits.
+-- The rest is that the seven reads lie inside s: two cells, two slopes, the detail and the two limits.
 use lib.Ieee.{ofBits, ofInt}
 use mathlib.Core.Path.{_∙_}
 use Prim.Native.Nat.{ℕ}
