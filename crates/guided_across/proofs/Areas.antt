@@ -1,4 +1,5 @@
 -- The luma of cells: which pixels a cell has, and that none outside the picture is looked at.
+-- `cell-is` and `luma-inside` follow the definition; the work is in `byte-cell`, where pairs of bytes at ratio 2 are the samples that `lumaOf` sums, place by place.
 use mathlib.Core.Path.{_≡_, refl, sym, ap, _∙_}
 use mathlib.Core.List.{List}
 use Prim.Native.Nat.{ℕ, _+_, _-_, _*_, _/_, _≤_, _<_, min}
@@ -14,7 +15,7 @@ use Rattle.image.specs.Picture.{inside}
 use Rattle.image.proofs.Planes.{short-holds, sample-inside}
 use Rattle.image.proofs.Pictures.{inside-is}
 use Rattle.guided.specs.Guided.{sumTo, lumaOf}
-use Rattle.guided_across.specs.Luma.{Cells, rowSum, cellSum, lumaRun, lumaRow}
+use Rattle.guided_across.specs.Luma.{LumaPixels, rowSum, cellSum, lumaRun, lumaRow}
 use Rattle.guided_across.specs.ByteCells.{cellMean, cellRun}
 use Rattle.guided_across.proofs.SumsTo.{sum-same}
 use Rattle.laws.proofs.Counts.{plus-none, none-plus, part-rest}
@@ -22,7 +23,7 @@ use Rattle.laws.proofs.Counts.{plus-none, none-plus, part-rest}
 -- ---- the pixels of a cell
 
 -- a sample inside the picture lies inside the plane
-pub within-plane : (l : Layout) (p : Plane) → Cells l p → (x y : ℕ) → x < l .w → y < l .h → place (l .«sample_bytes») (p .stride) y x + l .«sample_bytes» ≤ length (p .bytes)
+pub within-plane : (l : Layout) (p : Plane) → LumaPixels l p → (x y : ℕ) → x < l .w → y < l .h → place (l .«sample_bytes») (p .stride) y x + l .«sample_bytes» ≤ length (p .bytes)
 within-plane l p o x y h k = sample-inside (short-holds l (l .w) (l .h) p (o .plane)) x y h k
 
 -- a cell's luma from its sum and the number of its pixels

@@ -1,4 +1,5 @@
 -- Rows that scratch holds are read back as they were put, so that the code's steps are the definition's.
+-- `Row` is what scratch holds at a place, and `row-kept` carries it over stores behind it. The hard step is `chroma-across`: products read luma's row, put before.
 use mathlib.Core.Path.{_≡_, refl, sym, ap, _∙_}
 use mathlib.Core.Bool.{true, false}
 use mathlib.Core.List.{List, []}
@@ -21,8 +22,8 @@ use Rattle.guided.specs.Guided.{three, lumaOf, cellLuma, cellOf, acrossVal}
 use Rattle.guided.specs.Scratch.{slotAt, firstOf, chromaParts, parts, acrossOver, horizontal}
 use Rattle.guided_across.specs.Sums.{loadRun, cellsAt, productsAt, threeRow}
 use Rattle.guided_across.specs.Luma.{lumaRow}
-use Rattle.guided_across.specs.declared.across.Slots.{Slots}
-use Rattle.guided_across.specs.Parts.{SlotsGiven, statRows, lumaPart, chromaPart}
+use Rattle.guided_across.specs.declared.across.CellBuffers.{CellBuffers}
+use Rattle.guided_across.specs.Parts.{CellBuffersGiven, statRows, lumaPart, chromaPart}
 use Rattle.image.specs.declared.chroma.Components.the-variants.{CbAlone, Both}
 use Rattle.guided_window.specs.Lent.{componentsOf}
 use Rattle.guided_across.proofs.Threes.{three-same}
@@ -66,7 +67,7 @@ steps-are s c n sums products f l p y g o =
     ap (threeRow (productsAt y c) n products) (sums-are (row-put s c n f l) sums)
     ∙ products-are o (row-kept (row-put s c n f l) sums n (three _⊕_ n f) p) products
 
-pub luma-steps : (l : Layout) (p : Plane) (j : ℕ) (t : Slots) (s : List Float) → SlotsGiven l 0 j t → scratchNeed l ≤ length s
+pub luma-steps : (l : Layout) (p : Plane) (j : ℕ) (t : CellBuffers) (s : List Float) → CellBuffersGiven l 0 j t → scratchNeed l ≤ length s
     → threeRow (productsAt (t .at) (t .at)) (l .cw) (t .products) (threeRow (cellsAt (t .at)) (l .cw) (t .sums) (lumaRow l p j (t .at) s)) ≡ lumaPart l (sampleAt (l .«sample_bytes») p) j s
 unfolding lumaRow lumaPart statRows
 luma-steps l p j t s o h =
@@ -75,7 +76,7 @@ luma-steps l p j t s o h =
     steps-are s (t .at) (l .cw) (t .sums) (t .products) f fits (o .sums-behind) (t .at) f (row-kept (row-put s (t .at) (l .cw) f fits) (t .sums) (l .cw) (three _⊕_ (l .cw) f) (o .sums-behind))
     ∙ rw (o .at, o .sums, o .products) refl
 
-pub chroma-steps : (l : Layout) (p : Plane) (k : Chroma) (j n y : ℕ) (t : Slots) (s : List Float) → SlotsGiven l n j t → n ≡ firstOf k → y ≡ slotAt l 0 j → y + l .cw ≤ t .at → scratchNeed l ≤ length s
+pub chroma-steps : (l : Layout) (p : Plane) (k : Chroma) (j n y : ℕ) (t : CellBuffers) (s : List Float) → CellBuffersGiven l n j t → n ≡ firstOf k → y ≡ slotAt l 0 j → y + l .cw ≤ t .at → scratchNeed l ≤ length s
     → threeRow (productsAt y (t .at)) (l .cw) (t .products) (threeRow (cellsAt (t .at)) (l .cw) (t .sums) (loadRun (p .bytes) (l .«sample_bytes») (j * p .stride) (l .cw) (t .at) s))
     ≡ chromaPart l (sampleAt (l .«sample_bytes») p) k j s
 unfolding loadRun chromaPart statRows sampleAt

@@ -1,4 +1,5 @@
 -- Sums of three neighbours with edges repeated, whatever is summed: which cells a value has, and a row in parts.
+-- The hard step is that a row is written while it is summed: `Behind` says that what is summed lies before dst, so that stores leave it (`inner-more`, `three-chain`).
 use mathlib.Core.Path.{_≡_, refl, sym, ap, _∙_}
 use mathlib.Core.List.{List}
 use Prim.Native.Nat.{ℕ, _+_, _-_, _≤_, _<_, min}

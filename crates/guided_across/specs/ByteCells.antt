@@ -15,10 +15,10 @@ pairSum plane at i = getD plane (at + 2 * i) 0 + getD plane (at + (2 * i + 1)) 0
 abbrev pub pairsSum : List ℕ → ℕ → ℕ → ℕ → ℕ → ℕ
 pairsSum plane at stride m i = sumTo m (λ dy. pairSum plane (at + dy * stride) i)
 
--- its mean
+-- the mean of cell i, of two by m pixels
 abbrev pub cellMean : List ℕ → ℕ → ℕ → ℕ → ℕ → Float
 cellMean plane top stride m i = f32 (pairsSum plane top stride m i) ⊘ f32 (2 * m)
 
--- those of n cells, put at dst
+-- the means of n cells, put at dst
 unfoldable pub cellRun : List ℕ → ℕ → ℕ → ℕ → ℕ → ℕ → List Float → List Float
 cellRun plane top stride m n dst s = put s dst n (cellMean plane top stride m)

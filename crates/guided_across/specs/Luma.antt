@@ -11,15 +11,16 @@ use Rattle.image.specs.Samples.{Plane, sampleAt}
 use Rattle.image.specs.Picture.{shortPlane}
 use Rattle.guided.specs.Guided.{sumTo, lumaOf}
 
--- what is known of a layout and its luma plane
-pub record Cells (l : Layout) (p : Plane) : Type 0 where
+-- what is known of a layout and its luma plane: the layout passed its tests, and the plane holds all pixels
+pub record LumaPixels (l : Layout) (p : Plane) : Type 0 where
   pub sound : Sound l
   pub plane : shortPlane l (l .w) (l .h) p ≡ false
 
--- the sum of the n samples of row y from column x on, and of m such rows from row y on
+-- the sum of the n samples of row y from column x on
 unfoldable pub rowSum : Layout → Plane → ℕ → ℕ → ℕ → ℕ
 rowSum l p x y n = sumTo n (λ dx. sampleAt (l .«sample_bytes») p y (x + dx))
 
+-- the sum of the n samples from column x on in each of the m rows from row y on
 unfoldable pub cellSum : Layout → Plane → ℕ → ℕ → ℕ → ℕ → ℕ
 cellSum l p x y n m = sumTo m (λ dy. rowSum l p x (y + dy) n)
 
@@ -27,6 +28,6 @@ cellSum l p x y n m = sumTo m (λ dy. rowSum l p x (y + dy) n)
 unfoldable pub lumaRun : Layout → Plane → ℕ → ℕ → ℕ → ℕ → List Float → List Float
 lumaRun l p j dst from n s = put s (dst + from) n (λ i. lumaOf l (sampleAt (l .«sample_bytes») p) j (from + i))
 
--- and of all cells
+-- the luma of all cells of chroma row j, put at dst
 unfoldable pub lumaRow : Layout → Plane → ℕ → ℕ → List Float → List Float
 lumaRow l p j dst s = put s dst (l .cw) (lumaOf l (sampleAt (l .«sample_bytes») p) j)

@@ -10,10 +10,10 @@ use Rattle.image.specs.declared.chroma.Chroma.{Chroma}
 use Rattle.image.specs.Scratch.{scratchNeed, cellAt}
 use Rattle.guided.specs.Guided.{three, lumaOf}
 use Rattle.guided.specs.Scratch.{slotAt, firstOf}
-use Rattle.guided_across.specs.declared.across.Slots.{Slots}
+use Rattle.guided_across.specs.declared.across.CellBuffers.{CellBuffers}
 
--- what `slots_at` promises: the buffers n, n + 1 and n + 2 of chroma row j, apart and within scratch
-pub record SlotsGiven (l : Layout) (n j : ℕ) (t : Slots) : Type 0 where
+-- what `cell_buffers_at` promises: the buffers n, n + 1 and n + 2 of chroma row j, apart and within scratch
+pub record CellBuffersGiven (l : Layout) (n j : ℕ) (t : CellBuffers) : Type 0 where
   pub at : t .at ≡ slotAt l n j
   pub sums : t .sums ≡ slotAt l (n + 1) j
   pub products : t .products ≡ slotAt l (n + 2) j
@@ -25,10 +25,10 @@ pub record SlotsGiven (l : Layout) (n j : ℕ) (t : Slots) : Type 0 where
 unfoldable pub statRows : Layout → ℕ → (ℕ → Float) → (ℕ → Float) → ℕ → List Float → List Float
 statRows l n f h j s = put (put (put s (slotAt l n j) (l .cw) f) (slotAt l (n + 1) j) (l .cw) (three _⊕_ (l .cw) f)) (slotAt l (n + 2) j) (l .cw) (three _⊕_ (l .cw) h)
 
--- luma's rows, `luma y x` being the samples
+-- luma's three rows of chroma row j, `luma y x` being the samples
 unfoldable pub lumaPart : Layout → (ℕ → ℕ → ℕ) → ℕ → List Float → List Float
 lumaPart l luma j = statRows l 0 (lumaOf l luma j) (λ i. lumaOf l luma j i ⊗ lumaOf l luma j i) j
 
--- a component's rows, `c j i` being the samples, from the cell luma that scratch holds
+-- a component's three rows of chroma row j, `c j i` being the samples; luma is the cell luma that scratch holds
 unfoldable pub chromaPart : Layout → (ℕ → ℕ → ℕ) → Chroma → ℕ → List Float → List Float
 chromaPart l c k j s = statRows l (firstOf k) (λ i. f32 (c j i)) (λ i. cellAt s (slotAt l 0 j) i ⊗ f32 (c j i)) j s

@@ -12,10 +12,11 @@ use Rattle.guided.specs.Guided.{three}
 unfoldable pub loadRun : List ℕ → ℕ → ℕ → ℕ → ℕ → List Float → List Float
 loadRun plane bytes at n dst s = put s dst n (λ i. f32 (sampleOf bytes plane (at + i * bytes)))
 
--- what is summed: the cells of the row at src, or the products of the rows at a and b
+-- what is summed: the cells of the row at src
 abbrev pub cellsAt : ℕ → List Float → ℕ → Float
 cellsAt src s i = cellAt s src i
 
+-- what is summed: the products of the rows at a and b, cell by cell
 abbrev pub productsAt : ℕ → ℕ → List Float → ℕ → Float
 productsAt a b s i = cellAt s a i ⊗ cellAt s b i
 
@@ -23,6 +24,6 @@ productsAt a b s i = cellAt s a i ⊗ cellAt s b i
 unfoldable pub threeRun : (List Float → ℕ → Float) → ℕ → ℕ → ℕ → ℕ → List Float → List Float
 threeRun g n dst from m s = put s (dst + from) m (λ i. three _⊕_ n (g s) (from + i))
 
--- all n of them
+-- all n sums of three neighbours, edges repeated, put at dst
 unfoldable pub threeRow : (List Float → ℕ → Float) → ℕ → ℕ → List Float → List Float
 threeRow g n dst s = put s dst n (three _⊕_ n (g s))

@@ -1,4 +1,4 @@
-// The steps of a chroma row across: its rows of cells with their sums.
+// A chroma row across: for luma and for each component a row of cells, a row of their sums and a row of the sums of products.
 ghost use mathlib.Core.Path.{_≡_};
 ghost use Prim.Native.Nat.{_≤_, _<_};
 ghost use lib.ListN.{length};
@@ -7,9 +7,9 @@ ghost use Rattle.image.specs.Samples.{sampleAt, planeOf};
 ghost use Rattle.image.specs.Picture.{Planes, pictureOf, planesOf};
 ghost use Rattle.image.specs.Scratch.{scratchNeed};
 ghost use Rattle.guided.specs.Scratch.{horizontal};
-ghost use Rattle.guided_across.specs.Luma.{Cells};
+ghost use Rattle.guided_across.specs.Luma.{LumaPixels};
 ghost use Rattle.guided_window.specs.Lent.{ChromaCells, Lent, componentsOf};
-ghost use Rattle.guided_across.specs.Parts.{SlotsGiven, lumaPart, chromaPart};
+ghost use Rattle.guided_across.specs.Parts.{CellBuffersGiven, lumaPart, chromaPart};
 use crate::luma::luma_row;
 use crate::sums::load_row;
 use crate::sums::product_sum_row;
@@ -23,32 +23,35 @@ use image::Components;
 use image::Layout;
 use image::Strides;
 
-// Three row buffers one behind the other: of cells, of their sums, and of the sums of products.
-pub struct Slots {
+// Where three row buffers begin that follow one another: of cells, of their sums, and of the sums of products.
+pub struct CellBuffers {
     pub at: usize,
     pub sums: usize,
     pub products: usize,
 }
 
 // The three buffers of chroma row j from buffer n on: luma's (cells, sums, sums of squares), or a component's (cells, sums, sums of products).
-fn slots_at(layout: Layout, n: usize, j: usize) -> Slots
+// Both have them in this order, so that one function serves both.
+fn cell_buffers_at(layout: Layout, n: usize, j: usize) -> CellBuffers
     requires { ⌜ Sound layout × (n < 13) ⌝ }
-    ensures { λ t. ⌜ SlotsGiven layout n j t ⌝ }
+    ensures { λ t. ⌜ CellBuffersGiven layout n j t ⌝ }
 {
-    Slots {
+    CellBuffers {
         at: slot_at(layout, n, j),
         sums: slot_at(layout, n + ChromaBuffer::SUM, j),
         products: slot_at(layout, n + ChromaBuffer::PRODUCT_SUM, j),
     }
 }
 
-// Luma's rows of chroma row j: the cells, their sums, and the sums of their squares.
+// Luma's rows of chroma row j: cell luma, its sums, and the sums of its squares.
 fn luma_part(layout: Layout, plane: &[u8], stride: usize, j: usize, s: &mut [f32])
-    requires { ⌜ Cells layout (planeOf (now plane) stride) ⌝ }
+    requires { ⌜ LumaPixels layout (planeOf (now plane) stride) ⌝ }
     requires { ⌜ (j < layout .ch) × (scratchNeed layout ≤ length (now s)) ⌝ }
-    ensures { λ _. ⌜ now (s .exit) ≡ lumaPart layout (sampleAt (layout .«sample_bytes») (planeOf (now (plane .entry)) stride)) j (now (s .entry)) ⌝ }
+    ensures { λ _. ⌜ now (s .exit) ≡ lumaPart layout
+        (sampleAt (layout .«sample_bytes») (planeOf (now (plane .entry)) stride))
+        j (now (s .entry)) ⌝ }
 {
-    let t = slots_at(layout, LumaBuffer::CELL, j);
+    let t = cell_buffers_at(layout, LumaBuffer::CELL, j);
     let y = t.at;
     let cw = layout.cw;
     luma_row(layout, plane, stride, j, s, y);
@@ -60,10 +63,12 @@ fn luma_part(layout: Layout, plane: &[u8], stride: usize, j: usize, s: &mut [f32
 fn chroma_part(layout: Layout, plane: &[u8], stride: usize, k: Chroma, j: usize, s: &mut [f32])
     requires { ⌜ ChromaCells layout (planeOf (now plane) stride) ⌝ }
     requires { ⌜ (j < layout .ch) × (scratchNeed layout ≤ length (now s)) ⌝ }
-    ensures { λ _. ⌜ now (s .exit) ≡ chromaPart layout (sampleAt (layout .«sample_bytes») (planeOf (now (plane .entry)) stride)) k j (now (s .entry)) ⌝ }
+    ensures { λ _. ⌜ now (s .exit) ≡ chromaPart layout
+        (sampleAt (layout .«sample_bytes») (planeOf (now (plane .entry)) stride))
+        k j (now (s .entry)) ⌝ }
 {
     let y = slot_at(layout, LumaBuffer::CELL, j);
-    let t = slots_at(layout, first_of(k), j);
+    let t = cell_buffers_at(layout, first_of(k), j);
     let c = t.at;
     let cw = layout.cw;
     load_row(plane, layout.sample_bytes, j * stride, cw, s, c);
@@ -84,7 +89,9 @@ pub fn horizontal(
 )
     requires { ⌜ Lent layout (planesOf (now y) (now cb) (now cr) strides) components ⌝ }
     requires { ⌜ (j < layout .ch) × (scratchNeed layout ≤ length (now s)) ⌝ }
-    ensures { λ _. ⌜ now (s .exit) ≡ horizontal (pictureOf layout (planesOf (now (y .entry)) (now (cb .entry)) (now (cr .entry)) strides)) (componentsOf components) j (now (s .entry)) ⌝ }
+    ensures { λ _. ⌜ now (s .exit) ≡ horizontal
+        (pictureOf layout (planesOf (now (y .entry)) (now (cb .entry)) (now (cr .entry)) strides))
+        (componentsOf components) j (now (s .entry)) ⌝ }
 {
     luma_part(layout, y, strides.y, j, s);
     chroma_part(layout, cb, strides.cb, Chroma::Cb, j, s);

@@ -1,4 +1,4 @@
-// The means of cells of bytes at ratio 2 across: cell luma, sixteen cells at a time.
+// Cell luma by blocks, for ratio 2 across and samples of one byte: the means of cells that are two bytes wide, sixteen cells at a time.
 ghost use mathlib.Core.Path.{_≡_};
 ghost use Prim.Native.Nat.{ℕ, _+_, _*_, _≤_, _<_};
 ghost use lib.Ieee.{nan};
@@ -8,13 +8,14 @@ ghost use Rattle.guided_across.specs.ByteCells.{pairSum, pairsSum, cellR
 use lanes::Lanes;
 use lanes::put_block;
 
+// A byte with room for sums: sixteen bits hold the eight bytes of a cell, and a vector holds more of them than of wider numbers.
 fn wide(x: u8) -> u16
     ensures { λ r. ⌜ (r ≡ x) × (r < 256) ⌝ }
 {
     x as u16
 }
 
-// Inner: a sum divided by the number of its pixels.
+// Inner: a cell's luma: the sum of its pixels, divided by their number. The limit is that of sixteen pixels of 65,535.
 pub fn mean_of(sum: u32, n: usize) -> f32
     requires { ⌜ (sum ≤ 1048560) × (n ≤ 16) ⌝ }
     ensures { λ r. ⌜ r ≡ f32 sum ⊘ f32 n ⌝ }
@@ -22,7 +23,7 @@ pub fn mean_of(sum: u32, n: usize) -> f32
     sum as f32 / n as f32
 }
 
-// The sums of sixteen pairs of bytes, from `at` on.
+// The sums of the sixteen pairs of bytes from byte `at` on: one row of sixteen cells.
 fn pair_sums(plane: &[u8], at: usize) -> [u16; Lanes::PIXELS]
     requires { ⌜ at + 32 ≤ length (now plane) ⌝ }
     ensures { λ r. ⌜ ((k : ℕ) → k < 16 → (getD r k 0 ≡ pairSum (now (plane .entry)) at k) × (getD r k 0 ≤ 510)) ⌝ }
@@ -34,7 +35,7 @@ fn pair_sums(plane: &[u8], at: usize) -> [u16; Lanes::PIXELS]
     v
 }
 
-// The sums of two blocks, number by number.
+// Two blocks added, number by number.
 fn added(a: [u16; Lanes::PIXELS], b: [u16; Lanes::PIXELS]) -> [u16; Lanes::PIXELS]
     requires { ⌜ ((k : ℕ) → k < 16 → getD a k 0 + getD b k 0 ≤ 65535) ⌝ }
     ensures { λ r. ⌜ ((k : ℕ) → k < 16 → getD r k 0 ≡ getD a k 0 + getD b k 0) ⌝ }
@@ -66,7 +67,7 @@ fn cell_sums(plane: &[u8], at: usize, stride: usize, m: usize) -> [u16; Lanes::P
     added(three, pair_sums(plane, at + 3 * stride))
 }
 
-// The means of sixteen cells of n pixels, by their sums.
+// The means of sixteen cells of n pixels each, given their sums.
 fn means(sums: [u16; Lanes::PIXELS], n: usize) -> [f32; Lanes::PIXELS]
     requires { ⌜ (n ≤ 16) × ((k : ℕ) → k < 16 → getD sums k 0 ≤ 2040) ⌝ }
     ensures { λ r. ⌜ ((k : ℕ) → k < 16 → getD r k nan ≡ f32 (getD sums k 0) ⊘ f32 n) ⌝ }
@@ -78,7 +79,8 @@ fn means(sums: [u16; Lanes::PIXELS], n: usize) -> [f32; Lanes::PIXELS]
     v
 }
 
-// The means of the sixteen cells from `at` on. The number of pixels is a constant at two rows, so that no division is left there.
+// The means of the sixteen cells from byte `at` on, of m rows each. Two rows are a case of their own: the number of pixels is a constant
+// there, so that no division is left.
 fn cell_block(plane: &[u8], at: usize, stride: usize, m: usize) -> [f32; Lanes::PIXELS]
     requires { ⌜ (1 ≤ m) × (m ≤ 4) × ((dy : ℕ) → dy < m → at + dy * stride + 32 ≤ length (now plane)) ⌝ }
     ensures { λ r. ⌜ ((k : ℕ) → k < 16 → getD r k nan ≡ f32 (pairsSum (now (plane .entry)) at stride m k) ⊘ f32 (2 * m)) ⌝ }
@@ -89,7 +91,8 @@ fn cell_block(plane: &[u8], at: usize, stride: usize, m: usize) -> [f32; Lanes::
     means(cell_sums(plane, at, stride, m), 2 * m)
 }
 
-// Inner: the means of n cells, two by m bytes each, of the rows of a plane from top on: blocks of sixteen, the last of which ends with the cells and overlaps the one before.
+// Inner: the means of n cells, two by m bytes each, of the rows of a plane from byte `top` on, to s from dst on: blocks of sixteen, the
+// last of which ends with the cells and overlaps the one before.
 pub fn cell_run(
     plane: &[u8],
     top: usize,
@@ -99,7 +102,9 @@ pub fn cell_run(
     s: &mut [f32],
     dst: usize,
 )
-    requires { ⌜ (1 ≤ m) × (m ≤ 4) × (16 ≤ n) × ((dy : ℕ) → dy < m → top + dy * stride + 2 * n ≤ length (now plane)) × (dst + n ≤ length (now s)) ⌝ }
+    requires { ⌜ (1 ≤ m) × (m ≤ 4) × (16 ≤ n)
+        × ((dy : ℕ) → dy < m → top + dy * stride + 2 * n ≤ length (now plane))
+        × (dst + n ≤ length (now s)) ⌝ }
     ensures { λ _. ⌜ now (s .exit) ≡ cellRun (now (plane .entry)) top stride m n dst (now (s .entry)) ⌝ }
 {
     let mut done = 0;

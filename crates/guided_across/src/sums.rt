@@ -1,4 +1,6 @@
-// Rows of lent scratch: samples of a plane, and sums of three neighbours.
+// Rows of scratch that a chroma row across is made of: a plane's samples, and sums of three neighbours.
+//
+// Products are summed as they are made, so that no row of products is kept; both kinds of sum are one definition, `three`.
 ghost use mathlib.Core.Path.{_≡_};
 ghost use Prim.Native.Nat.{_+_, _-_, _*_, _≤_, _<_};
 ghost use lib.ListN.{length};
@@ -7,7 +9,7 @@ ghost use Rattle.guided_across.specs.Sums.{loadRun, cellsAt, productsAt,
 use guided_window::next;
 use guided_window::prev;
 
-// Inner: n samples of a plane from byte `at` on, to s from dst on.
+// Inner: the n samples of a plane from byte `at` on as floats, to s from dst on.
 pub fn load_row(plane: &[u8], sample_bytes: usize, at: usize, n: usize, s: &mut [f32], dst: usize)
     requires { ⌜ (1 ≤ «sample_bytes») × («sample_bytes» ≤ 2) ⌝ }
     requires { ⌜ (at + n * «sample_bytes» ≤ length (now plane)) × (dst + n ≤ length (now s)) ⌝ }
@@ -20,14 +22,14 @@ pub fn load_row(plane: &[u8], sample_bytes: usize, at: usize, n: usize, s: &mut 
     }
 }
 
-// Three neighbours, from the left.
+// Three neighbours added from the left: document 01's "(left + middle) + right".
 fn sum3(a: f32, b: f32, c: f32) -> f32
     ensures { λ r. ⌜ r ≡ a ⊕ b ⊕ c ⌝ }
 {
     (a + b) + c
 }
 
-// Value i of the sums over the n cells at src: the edges.
+// Sum i of the n cells at src, with the edge repeated where a neighbour is missing: for the first and the last cell.
 fn sum_at(s: &mut [f32], src: usize, n: usize, dst: usize, i: usize)
     requires { ⌜ (i < n) × (src + n ≤ dst) × (dst + n ≤ length (now s)) ⌝ }
     ensures { λ _. ⌜ now (s .exit) ≡ threeRun (cellsAt src) n dst i 1 (now (s .entry)) ⌝ }
@@ -37,7 +39,7 @@ fn sum_at(s: &mut [f32], src: usize, n: usize, dst: usize, i: usize)
     s[dst + i] = sum3(s[src + l], s[src + i], s[src + r]);
 }
 
-// The sums but the two at the edges.
+// The sums of the n cells at src without the first and the last, which alone lack a neighbour: no edge is looked at in this loop.
 fn sum_inner(s: &mut [f32], src: usize, n: usize, dst: usize)
     requires { ⌜ (1 < n) × (src + n ≤ dst) × (dst + n ≤ length (now s)) ⌝ }
     ensures { λ _. ⌜ now (s .exit) ≡ threeRun (cellsAt src) n dst 1 (n - 2) (now (s .entry)) ⌝ }
@@ -63,7 +65,8 @@ pub fn sum_row(s: &mut [f32], src: usize, n: usize, dst: usize)
     sum_at(s, src, n, dst, n - 1);
 }
 
-// Value i of the sums of products of the n cells at a with those at b: the edges.
+// Sum i of the products of the n cells at a with those at b, with the edge repeated where a neighbour is missing: for the first and the
+// last cell.
 fn product_sum_at(s: &mut [f32], a: usize, b: usize, n: usize, dst: usize, i: usize)
     requires { ⌜ (i < n) × (a + n ≤ dst) × (b + n ≤ dst) × (dst + n ≤ length (now s)) ⌝ }
     ensures { λ _. ⌜ now (s .exit) ≡ threeRun (productsAt a b) n dst i 1 (now (s .entry)) ⌝ }
@@ -77,7 +80,7 @@ fn product_sum_at(s: &mut [f32], a: usize, b: usize, n: usize, dst: usize, i: us
     );
 }
 
-// The sums of products but the two at the edges.
+// The sums of the products of the n cells at a with those at b, without the first and the last: no edge is looked at in this loop.
 fn product_sum_inner(s: &mut [f32], a: usize, b: usize, n: usize, dst: usize)
     requires { ⌜ (1 < n) × (a + n ≤ dst) × (b + n ≤ dst) × (dst + n ≤ length (now s)) ⌝ }
     ensures { λ _. ⌜ now (s .exit) ≡ threeRun (productsAt a b) n dst 1 (n - 2) (now (s .entry)) ⌝ }
@@ -93,7 +96,8 @@ fn product_sum_inner(s: &mut [f32], a: usize, b: usize, n: usize, dst: usize)
     }
 }
 
-// Inner: the sums of three neighbouring products of the n cells at a with those at b, edges repeated, to s from dst on; squares where a is b.
+// Inner: the sums of three neighbouring products of the n cells at a with those at b, edges repeated, to s from dst on. Where a is b the
+// products are squares.
 pub fn product_sum_row(s: &mut [f32], a: usize, b: usize, n: usize, dst: usize)
     requires { ⌜ (0 < n) × (a + n ≤ dst) × (b + n ≤ dst) × (dst + n ≤ length (now s)) ⌝ }
     ensures { λ _. ⌜ now (s .exit) ≡ threeRow (productsAt a b) n dst (now (s .entry)) ⌝ }

@@ -1,4 +1,5 @@
 -- Slopes over scratch: what is written leaves the sums that they are made of.
+-- `slope-same` carries it: the row of slopes is apart from each of the twelve rows of sums (`Clear`), so that a slope made later is by the sums of the beginning.
 use mathlib.Core.Path.{_≡_, refl, sym, ap, _∙_}
 use mathlib.Core.Logic.{inl, inr}
 use mathlib.Core.List.{List}

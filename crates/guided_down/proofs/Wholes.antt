@@ -1,4 +1,5 @@
 -- Extremes in whole numbers are those in floats, and a row of them in parts.
+-- `whole-is` rests on guided's law that whole samples order as floats do; the work is in `across-from`: an inner cell's neighbours are three samples in a row.
 use mathlib.Core.Path.{_≡_, refl, sym, ap, _∙_}
 use mathlib.Core.Bool.{Bool, true, false}
 use mathlib.Core.List.{List}

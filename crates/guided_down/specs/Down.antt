@@ -10,6 +10,6 @@ use Rattle.guided.specs.Scratch.{slotAt, Least, Greatest, numDown}
 use Rattle.guided_down.specs.Extremes.{extremeRow}
 use Rattle.guided_down.specs.Slopes.{slopeRow}
 
--- a component's slopes of chroma row j, and its least and greatest samples round each cell
+-- a component's slopes of chroma row j, and its least and greatest samples round each cell, put into their buffers
 unfoldable pub downRow : Layout → Plane → Chroma → ℕ → List Float → List Float
 downRow l p k j s = extremeRow l p true j (slotAt l (numDown (Greatest k)) j) (extremeRow l p false j (slotAt l (numDown (Least k)) j) (slopeRow l k j s))

@@ -19,10 +19,11 @@ use Rattle.guided_down.specs.declared.slopes.Stats.{Stats}
 unfoldable pub slopeBy : Float → Float → Float → Float → Float → Float
 slopeBy y yy c yc eps = (yc ⊖ y ⊗ c) ⊘ (fmax (yy ⊖ y ⊗ y) (f32 0) ⊕ eps)
 
--- a window's mean at cell i, and the slope of four windows
+-- "mean = ((up + middle) + down) · (1/9)", of cell i of a window's three rows of sums
 unfoldable pub meanAt : List Float → Window → ℕ → Float
 meanAt s t i = (cellAt s (t .up) i ⊕ cellAt s (t .at) i ⊕ cellAt s (t .down) i) ⊗ (f32 1 ⊘ f32 9)
 
+-- the slope at cell i by its four means
 unfoldable pub slopeAt : List Float → Stats → Float → ℕ → Float
 slopeAt s t eps i = slopeBy (meanAt s (t .y) i) (meanAt s (t .yy) i) (meanAt s (t .c) i) (meanAt s (t .yc) i) eps
 
@@ -36,6 +37,7 @@ pub record Inside (t : Window) (n len : ℕ) : Type 0 where
   pub at : t .at + n ≤ len
   pub down : t .down + n ≤ len
 
+-- the first n cells of all twelve buffers of sums lie within `len` values
 pub record AllInside (t : Stats) (n len : ℕ) : Type 0 where
   pub y : Inside (t .y) n len
   pub yy : Inside (t .yy) n len
@@ -46,12 +48,13 @@ pub record AllInside (t : Stats) (n len : ℕ) : Type 0 where
 abbrev pub Apart : ℕ → ℕ → ℕ → Type 0
 Apart a b n = (a + n ≤ b) ⊎ (b + n ≤ a)
 
--- none of the windows' buffers meets the row at dst
+-- none of a window's three buffers meets the row of n cells at dst
 pub record ClearOf (t : Window) (dst n : ℕ) : Type 0 where
   pub up : Apart (t .up) dst n
   pub at : Apart (t .at) dst n
   pub down : Apart (t .down) dst n
 
+-- none of the twelve buffers of sums meets the row of n cells at dst
 pub record Clear (t : Stats) (dst n : ℕ) : Type 0 where
   pub y : ClearOf (t .y) dst n
   pub yy : ClearOf (t .yy) dst n
@@ -60,7 +63,7 @@ pub record Clear (t : Stats) (dst n : ℕ) : Type 0 where
 
 -- ---- a component's row
 
--- the sums round chroma row j that its slopes are made of
+-- the sums round chroma row j that a component's slopes are made of
 unfoldable pub statsOf : Layout → Chroma → ℕ → Stats
 statsOf l k j = record {
   y = windowOf l (numAcross LumaSum) j;
@@ -69,6 +72,6 @@ statsOf l k j = record {
   yc = windowOf l (numAcross (ProductSum k)) j;
 }
 
--- the slopes of chroma row j, put into their buffer
+-- a component's slopes of chroma row j, put into their buffer
 unfoldable pub slopeRow : Layout → Chroma → ℕ → List Float → List Float
 slopeRow l k j s = put s (slotAt l (numDown (Slope k)) j) (l .cw) (slopeOf l (readAcross l s) k j)

@@ -1,4 +1,6 @@
-// The least and the greatest sample of the three by three cells round each cell.
+// The least and the greatest sample of the three by three cells round each cell, edges repeated.
+//
+// They are found among whole samples, before any is made a float: both orders agree, and of narrow numbers more are compared at a time.
 ghost use mathlib.Core.Path.{_≡_};
 ghost use Prim.Native.Nat.{_+_, _-_, _≤_, _<_};
 ghost use lib.ListN.{length};
@@ -13,10 +15,12 @@ use crate::nines::word_run;
 use guided_window::whole_at;
 use image::Layout;
 
-// Of the three cells across round cell i of row r.
+// The least, or the greatest, of cell i of row r and its two neighbours across.
 fn across(layout: Layout, plane: &[u8], stride: usize, greatest: bool, r: usize, i: usize) -> u16
     requires { ⌜ ChromaCells layout (planeOf (now plane) stride) × (i < layout .cw) × (r < layout .ch) ⌝ }
-    ensures { λ v. ⌜ v ≡ threeN (wholeOp greatest) (layout .cw) (λ q. sampleAt (layout .«sample_bytes») (planeOf (now (plane .entry)) stride) r q) i ⌝ }
+    ensures { λ v. ⌜ v ≡ threeN (wholeOp greatest) (layout .cw)
+        (λ q. sampleAt (layout .«sample_bytes») (planeOf (now (plane .entry)) stride) r q)
+        i ⌝ }
 {
     let w = layout.cw;
     let h = layout.ch;
@@ -26,7 +30,7 @@ fn across(layout: Layout, plane: &[u8], stride: usize, greatest: bool, r: usize,
     pick_word(greatest, pick_word(greatest, a, b), c)
 }
 
-// Of the nine round cell i of row j: the three rows' in turn.
+// The least, or the greatest, of the nine samples round cell i of row j: of three rows' least or greatest in turn.
 fn extreme_at(
     layout: Layout,
     plane: &[u8],
@@ -36,7 +40,9 @@ fn extreme_at(
     i: usize,
 ) -> u16
     requires { ⌜ ChromaCells layout (planeOf (now plane) stride) × (i < layout .cw) × (j < layout .ch) ⌝ }
-    ensures { λ v. ⌜ v ≡ wholeExtreme layout greatest (sampleAt (layout .«sample_bytes») (planeOf (now (plane .entry)) stride)) j i ⌝ }
+    ensures { λ v. ⌜ v ≡ wholeExtreme layout greatest
+        (sampleAt (layout .«sample_bytes») (planeOf (now (plane .entry)) stride))
+        j i ⌝ }
 {
     let a = across(layout, plane, stride, greatest, guided_window::prev(j), i);
     let b = across(layout, plane, stride, greatest, j, i);
@@ -45,7 +51,7 @@ fn extreme_at(
     pick_word(greatest, pick_word(greatest, a, b), c)
 }
 
-// Those of n cells of chroma row j, from cell `from` on.
+// The extremes round n cells of chroma row j, from cell `from` on, one by one with edges repeated.
 fn extreme_run(
     layout: Layout,
     plane: &[u8],
@@ -68,7 +74,7 @@ fn extreme_run(
     }
 }
 
-// Those of the cells that have neighbours on both sides.
+// The extremes round the cells of chroma row j that have neighbours on both sides, by the loop for their number of bytes.
 fn extreme_inner(
     layout: Layout,
     plane: &[u8],
@@ -78,7 +84,8 @@ fn extreme_inner(
     s: &mut [f32],
     dst: usize,
 )
-    requires { ⌜ ChromaCells layout (planeOf (now plane) stride) × (j < layout .ch) × (2 ≤ layout .cw) × (dst + layout .cw ≤ length (now s)) ⌝ }
+    requires { ⌜ ChromaCells layout (planeOf (now plane) stride)
+        × (j < layout .ch) × (2 ≤ layout .cw) × (dst + layout .cw ≤ length (now s)) ⌝ }
     ensures { λ _. ⌜ now (s .exit) ≡ extremeRun layout (planeOf (now (plane .entry)) stride) greatest j dst 1 (layout .cw - 2) (now (s .entry)) ⌝ }
 {
     let n = layout.cw - 2;
@@ -92,7 +99,7 @@ fn extreme_inner(
     word_run(plane, greatest, u, m, d, n, s, dst + 1);
 }
 
-// Inner: the least, or the greatest, samples round the cells of chroma row j, to s from dst on.
+// Inner: the least, or the greatest, sample round each cell of chroma row j, to s from dst on: the edges one by one, the rest by blocks.
 pub fn extreme_row(
     layout: Layout,
     plane: &[u8],

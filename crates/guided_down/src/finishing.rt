@@ -1,4 +1,4 @@
-// A chroma row down, from the sums of the rows round it and from its plane: the original's GuidedRows::finish.
+// A chroma row down, from the sums of the rows round it and from its plane: the original's `GuidedRows::finish`.
 ghost use mathlib.Core.Path.{_≡_};
 ghost use mathlib.Core.List.{List};
 ghost use Prim.Native.Nat.{ℕ, _≤_, _<_};
@@ -17,7 +17,7 @@ use image::Components;
 use image::Layout;
 use image::Strides;
 
-// A component's slopes of chroma row j, and its least and greatest samples round each cell.
+// A component's slopes of chroma row j, and its least and greatest samples round each cell, to their buffers.
 fn down_row(layout: Layout, plane: &[u8], stride: usize, k: Chroma, j: usize, s: &mut [f32])
     requires { ⌜ ChromaCells layout (planeOf (now plane) stride) × (j < layout .ch) × (scratchNeed layout ≤ length (now s)) ⌝ }
     ensures { λ _. ⌜ now (s .exit) ≡ downRow layout (planeOf (now (plane .entry)) stride) k j (now (s .entry)) ⌝ }
@@ -30,7 +30,7 @@ fn down_row(layout: Layout, plane: &[u8], stride: usize, k: Chroma, j: usize, s:
     extreme_row(layout, plane, stride, true, j, s, greatest);
 }
 
-// Inner: chroma row j down, of Cb, and of Cr where both are asked for. Luma's plane isn't looked at.
+// Inner: chroma row j down, of Cb, and of Cr where both are asked for. Luma's plane isn't looked at, so that the promise is for any.
 pub fn finish(
     layout: Layout,
     cb: &[u8],
@@ -40,9 +40,12 @@ pub fn finish(
     j: usize,
     s: &mut [f32],
 )
-    requires { ⌜ ChromaCells layout (planeOf (now cb) (strides .cb)) × (components ≡ Components.Both → ChromaCells layout (planeOf (now cr) (strides .cr))) ⌝ }
+    requires { ⌜ ChromaCells layout (planeOf (now cb) (strides .cb))
+        × (components ≡ Components.Both → ChromaCells layout (planeOf (now cr) (strides .cr))) ⌝ }
     requires { ⌜ (j < layout .ch) × (scratchNeed layout ≤ length (now s)) ⌝ }
-    ensures { λ _. ⌜ ((y : List ℕ) → now (s .exit) ≡ finish (pictureOf layout (planesOf y (now (cb .entry)) (now (cr .entry)) strides)) (componentsOf components) j (now (s .entry))) ⌝ }
+    ensures { λ _. ⌜ ((y : List ℕ) → now (s .exit) ≡ finish
+        (pictureOf layout (planesOf y (now (cb .entry)) (now (cr .entry)) strides))
+        (componentsOf components) j (now (s .entry))) ⌝ }
 {
     down_row(layout, cb, strides.cb, Chroma::Cb, j, s);
     let Components::Both = components else {

@@ -1,4 +1,7 @@
-// The cells that have neighbours on both sides, in whole numbers: no edge is looked at, so that these loops compute many cells at a time.
+// The least or the greatest of nine samples, for the cells that have neighbours on both sides: no edge is looked at, so that these loops
+// compute many cells at a time. Samples of one and of two bytes have loops of their own, since bytes are compared more at a time.
+//
+// u, m and d are where a cell's left neighbours begin in the plane: in the row above (up), in its own (middle) and in the row below (down).
 ghost use mathlib.Core.Path.{_≡_};
 ghost use Prim.Native.Nat.{ℕ, _+_, _*_, _≤_, _<_};
 ghost use lib.ListN.{length, getD};
@@ -6,10 +9,11 @@ ghost use Rattle.laws.specs.Floats.{f32};
 ghost use Rattle.laws.specs.Lists.{put};
 ghost use Rattle.guided_down.specs.Nines.{wholeOp, threeFrom, nineFrom};
 
+// The cells of a chroma row, as these loops take them.
 pub struct Cells;
 
 impl Cells {
-    // How many cells are computed at once.
+    // How many cells are computed at once: as many bytes as a vector of 128 bits holds.
     pub const BLOCK: usize = 16;
 }
 
@@ -23,7 +27,7 @@ fn pick_byte(greatest: bool, a: u8, b: u8) -> u8
     if a < b { a } else { b }
 }
 
-// Of the three bytes from `at` on.
+// The least, or the greatest, of the three bytes from `at` on.
 fn byte_three(plane: &[u8], greatest: bool, at: usize) -> u8
     requires { ⌜ at + 3 ≤ length (now plane) ⌝ }
     ensures { λ r. ⌜ r ≡ threeFrom greatest 1 (now (plane .entry)) at ⌝ }
@@ -32,7 +36,7 @@ fn byte_three(plane: &[u8], greatest: bool, at: usize) -> u8
     pick_byte(greatest, a, plane[at + 2])
 }
 
-// Of nine bytes, three from each of u, m and d on.
+// The least, or the greatest, of nine bytes, three from each of u, m and d on.
 fn byte_nine(plane: &[u8], greatest: bool, u: usize, m: usize, d: usize) -> u8
     requires { ⌜ (u + 3 ≤ length (now plane)) × (m + 3 ≤ length (now plane)) × (d + 3 ≤ length (now plane)) ⌝ }
     ensures { λ r. ⌜ r ≡ nineFrom greatest 1 (now (plane .entry)) u m d ⌝ }
@@ -43,7 +47,7 @@ fn byte_nine(plane: &[u8], greatest: bool, u: usize, m: usize, d: usize) -> u8
     pick_byte(greatest, pick_byte(greatest, a, b), c)
 }
 
-// n cells of one-byte samples one by one, to s from dst on; the left neighbours of the first begin at u, m and d.
+// The extremes round n cells of one-byte samples one by one, to s from dst on; the first cell's left neighbours begin at u, m and d.
 fn byte_cells(
     plane: &[u8],
     greatest: bool,
@@ -54,8 +58,10 @@ fn byte_cells(
     s: &mut [f32],
     dst: usize,
 )
-    requires { ⌜ (u + n + 2 ≤ length (now plane)) × (m + n + 2 ≤ length (now plane)) × (d + n + 2 ≤ length (now plane)) × (dst + n ≤ length (now s)) ⌝ }
-    ensures { λ _. ⌜ now (s .exit) ≡ put (now (s .entry)) dst n (λ i. f32 (nineFrom greatest 1 (now (plane .entry)) (u + i) (m + i) (d + i))) ⌝ }
+    requires { ⌜ (u + n + 2 ≤ length (now plane)) × (m + n + 2 ≤ length (now plane)) × (d + n + 2 ≤ length (now plane))
+        × (dst + n ≤ length (now s)) ⌝ }
+    ensures { λ _. ⌜ now (s .exit) ≡ put (now (s .entry)) dst n
+        (λ i. f32 (nineFrom greatest 1 (now (plane .entry)) (u + i) (m + i) (d + i))) ⌝ }
 {
     let mut i = 0;
     while i < n {
@@ -64,7 +70,7 @@ fn byte_cells(
     }
 }
 
-// Sixteen cells of one-byte samples; the left neighbours of the first begin at u, m and d.
+// The extremes round sixteen cells of one-byte samples; the first cell's left neighbours begin at u, m and d.
 fn byte_block(plane: &[u8], greatest: bool, u: usize, m: usize, d: usize) -> [u8; Cells::BLOCK]
     requires { ⌜ (u + 18 ≤ length (now plane)) × (m + 18 ≤ length (now plane)) × (d + 18 ≤ length (now plane)) ⌝ }
     ensures { λ r. ⌜ ((k : ℕ) → k < 16 → getD r k 0 ≡ nineFrom greatest 1 (now (plane .entry)) (u + k) (m + k) (d + k)) ⌝ }
@@ -76,7 +82,7 @@ fn byte_block(plane: &[u8], greatest: bool, u: usize, m: usize, d: usize) -> [u8
     block
 }
 
-// A block as floats, to s from `at` on.
+// A block of bytes as floats, to s from `at` on.
 fn put_floats(s: &mut [f32], at: usize, block: [u8; Cells::BLOCK])
     requires { ⌜ at + 16 ≤ length (now s) ⌝ }
     ensures { λ _. ⌜ now (s .exit) ≡ put (now (s .entry)) at 16 (λ k. f32 (getD block k 0)) ⌝ }
@@ -86,7 +92,8 @@ fn put_floats(s: &mut [f32], at: usize, block: [u8; Cells::BLOCK])
     }
 }
 
-// Inner: n cells of one-byte samples, to s from dst on; the left neighbours of the first begin at u, m and d. By sixteens, the last of which end with the cells and overlap those before; fewer than sixteen one by one.
+// Inner: the extremes round n cells of one-byte samples, to s from dst on; the first cell's left neighbours begin at u, m and d. They are
+// made by blocks of sixteen, the last of which ends with the cells and overlaps the one before, and fewer than sixteen one by one.
 pub fn byte_run(
     plane: &[u8],
     greatest: bool,
@@ -97,8 +104,10 @@ pub fn byte_run(
     s: &mut [f32],
     dst: usize,
 )
-    requires { ⌜ (u + n + 2 ≤ length (now plane)) × (m + n + 2 ≤ length (now plane)) × (d + n + 2 ≤ length (now plane)) × (dst + n ≤ length (now s)) ⌝ }
-    ensures { λ _. ⌜ now (s .exit) ≡ put (now (s .entry)) dst n (λ i. f32 (nineFrom greatest 1 (now (plane .entry)) (u + i) (m + i) (d + i))) ⌝ }
+    requires { ⌜ (u + n + 2 ≤ length (now plane)) × (m + n + 2 ≤ length (now plane)) × (d + n + 2 ≤ length (now plane))
+        × (dst + n ≤ length (now s)) ⌝ }
+    ensures { λ _. ⌜ now (s .exit) ≡ put (now (s .entry)) dst n
+        (λ i. f32 (nineFrom greatest 1 (now (plane .entry)) (u + i) (m + i) (d + i))) ⌝ }
 {
     if n < Cells::BLOCK {
         byte_cells(plane, greatest, u, m, d, n, s, dst);
@@ -123,7 +132,7 @@ pub fn pick_word(greatest: bool, a: u16, b: u16) -> u16
     if a < b { a } else { b }
 }
 
-// Of the three two-byte samples from `at` on.
+// The least, or the greatest, of the three two-byte samples from byte `at` on.
 fn word_three(plane: &[u8], greatest: bool, at: usize) -> u16
     requires { ⌜ at + 6 ≤ length (now plane) ⌝ }
     ensures { λ r. ⌜ r ≡ threeFrom greatest 2 (now (plane .entry)) at ⌝ }
@@ -134,7 +143,7 @@ fn word_three(plane: &[u8], greatest: bool, at: usize) -> u16
     pick_word(greatest, pick_word(greatest, a, b), c)
 }
 
-// Of nine two-byte samples.
+// The least, or the greatest, of nine two-byte samples, three from each of u, m and d on.
 fn word_nine(plane: &[u8], greatest: bool, u: usize, m: usize, d: usize) -> u16
     requires { ⌜ (u + 6 ≤ length (now plane)) × (m + 6 ≤ length (now plane)) × (d + 6 ≤ length (now plane)) ⌝ }
     ensures { λ r. ⌜ r ≡ nineFrom greatest 2 (now (plane .entry)) u m d ⌝ }
@@ -145,7 +154,7 @@ fn word_nine(plane: &[u8], greatest: bool, u: usize, m: usize, d: usize) -> u16
     pick_word(greatest, pick_word(greatest, a, b), c)
 }
 
-// Inner: n cells of two-byte samples.
+// Inner: the extremes round n cells of two-byte samples, to s from dst on; the first cell's left neighbours begin at u, m and d.
 pub fn word_run(
     plane: &[u8],
     greatest: bool,
@@ -156,8 +165,10 @@ pub fn word_run(
     s: &mut [f32],
     dst: usize,
 )
-    requires { ⌜ (u + n * 2 + 4 ≤ length (now plane)) × (m + n * 2 + 4 ≤ length (now plane)) × (d + n * 2 + 4 ≤ length (now plane)) × (dst + n ≤ length (now s)) ⌝ }
-    ensures { λ _. ⌜ now (s .exit) ≡ put (now (s .entry)) dst n (λ i. f32 (nineFrom greatest 2 (now (plane .entry)) (u + i * 2) (m + i * 2) (d + i * 2))) ⌝ }
+    requires { ⌜ (u + n * 2 + 4 ≤ length (now plane)) × (m + n * 2 + 4 ≤ length (now plane)) × (d + n * 2 + 4 ≤ length (now plane))
+        × (dst + n ≤ length (now s)) ⌝ }
+    ensures { λ _. ⌜ now (s .exit) ≡ put (now (s .entry)) dst n
+        (λ i. f32 (nineFrom greatest 2 (now (plane .entry)) (u + i * 2) (m + i * 2) (d + i * 2))) ⌝ }
 {
     let mut i = 0;
     while i < n {

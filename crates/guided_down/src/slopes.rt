@@ -1,4 +1,4 @@
-// The slope of a chroma row's cells, from the sums of the rows round it: in the original's GuidedRows::finish.
+// The slopes of a chroma row's cells, from the sums of the rows round it: a step of the original's `GuidedRows::finish`.
 ghost use mathlib.Core.Path.{_≡_};
 ghost use Prim.Native.Nat.{ℕ, _+_, _*_, _≤_, _<_};
 ghost use lib.Ieee.{nan};
@@ -19,7 +19,7 @@ use guided_window::window_at;
 use image::Chroma;
 use image::Layout;
 
-// The sums that a slope is made of: of luma, its squares, a component, and its products with luma.
+// Where the rows of sums begin that slopes are made of: of luma, its squares, a component, and its products with luma.
 pub struct Stats {
     pub y: Window,
     pub yy: Window,
@@ -27,7 +27,7 @@ pub struct Stats {
     pub yc: Window,
 }
 
-// Inner: what is added to the variance, in the picture's sample range.
+// Inner: what is added to the variance of luma, in the picture's sample range: document 01's "eps = (16·s)·s, s = maxval/255".
 pub fn epsilon_of(layout: Layout) -> f32
     requires { ⌜ layout .maxval ≤ 65535 ⌝ }
     ensures { λ r. ⌜ r ≡ epsilon layout ⌝ }
@@ -36,21 +36,21 @@ pub fn epsilon_of(layout: Layout) -> f32
     Geometry::EPSILON * s * s
 }
 
-// A ninth of the sum of three.
+// The mean of nine cells, given the sums of three rows: document 01's "((up + middle) + down) · (1/9)".
 fn mean3(a: f32, b: f32, c: f32) -> f32
     ensures { λ r. ⌜ r ≡ (a ⊕ b ⊕ c) ⊗ (f32 1 ⊘ f32 9) ⌝ }
 {
     ((a + b) + c) * (1.0 / 9.0)
 }
 
-// The slope by the means of luma, its square, the component and the product.
+// The slope, given the means of luma, its square, the component and the product: covariance over variance.
 fn slope_by(y: f32, yy: f32, c: f32, yc: f32, eps: f32) -> f32
     ensures { λ r. ⌜ r ≡ slopeBy y yy c yc eps ⌝ }
 {
     (yc - y * c) / (fround::fmax(yy - y * y, 0.0) + eps)
 }
 
-// The mean over the three by three cells round cell i.
+// The mean over the three by three cells round cell i, from the sums across that three rows hold.
 fn mean_at(s: &[f32], t: Window, i: usize) -> f32
     requires { ⌜ Inside t (i + 1) (length (now s)) ⌝ }
     ensures { λ r. ⌜ r ≡ meanAt (now (s .entry)) t i ⌝ }
@@ -61,7 +61,7 @@ fn mean_at(s: &[f32], t: Window, i: usize) -> f32
     mean3(s[u + i], s[m + i], s[d + i])
 }
 
-// The slope at cell i.
+// A component's slope at cell i, from the four means round it.
 fn slope_at(s: &[f32], t: Stats, eps: f32, i: usize) -> f32
     requires { ⌜ AllInside t (i + 1) (length (now s)) ⌝ }
     ensures { λ r. ⌜ r ≡ slopeAt (now (s .entry)) t eps i ⌝ }
@@ -73,7 +73,7 @@ fn slope_at(s: &[f32], t: Stats, eps: f32, i: usize) -> f32
     slope_by(y, yy, c, yc, eps)
 }
 
-// The slopes at n cells, one by one.
+// The slopes at the first n cells one by one, to s from dst on.
 fn slope_run(s: &mut [f32], t: Stats, eps: f32, n: usize, dst: usize)
     requires { ⌜ AllInside t n (length (now s)) × Clear t dst n × (dst + n ≤ length (now s)) ⌝ }
     ensures { λ _. ⌜ now (s .exit) ≡ slopeRun t eps dst n (now (s .entry)) ⌝ }
@@ -100,6 +100,7 @@ fn slope_eight(s: &[f32], t: Stats, eps: f32, i: usize) -> [f32; 8]
     v
 }
 
+// A block of eight, to s from `at` on.
 fn store_eight(s: &mut [f32], at: usize, v: [f32; 8])
     requires { ⌜ at + 8 ≤ length (now s) ⌝ }
     ensures { λ _. ⌜ now (s .exit) ≡ put (now (s .entry)) at 8 (λ k. getD v k nan) ⌝ }
@@ -111,7 +112,8 @@ fn store_eight(s: &mut [f32], at: usize, v: [f32; 8])
     }
 }
 
-// The slopes at n cells: blocks of eight, the last of which ends with the cells and overlaps the one before; fewer than eight one by one.
+// The slopes at the first n cells, to s from dst on: blocks of eight, the last of which ends with the cells and overlaps the one before;
+// fewer than eight one by one.
 fn slope_cells(s: &mut [f32], t: Stats, eps: f32, n: usize, dst: usize)
     requires { ⌜ AllInside t n (length (now s)) × Clear t dst n × (dst + n ≤ length (now s)) ⌝ }
     ensures { λ _. ⌜ now (s .exit) ≡ slopeRun t eps dst n (now (s .entry)) ⌝ }
@@ -129,7 +131,7 @@ fn slope_cells(s: &mut [f32], t: Stats, eps: f32, n: usize, dst: usize)
     }
 }
 
-// The sums round chroma row j that a component's slopes are made of.
+// Where the sums lie that a component's slopes of chroma row j are made of: those of rows j - 1, j and j + 1.
 fn stats_at(layout: Layout, k: Chroma, j: usize) -> Stats
     requires { ⌜ Sound layout × (j < layout .ch) ⌝ }
     ensures { λ t. ⌜ t ≡ statsOf layout k j ⌝ }

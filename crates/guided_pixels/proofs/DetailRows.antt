@@ -1,4 +1,5 @@
 -- The detail of a pixel, and a row of it in parts.
+-- `detail-same` carries it: luma's row of cells lies behind the detail, so that what is written leaves it; `detail-runs` makes rows of detail a case of `Runs`.
 use mathlib.Core.Path.{_≡_, refl, ap, _∙_}
 use mathlib.Core.List.{List}
 use Prim.Native.Nat.{ℕ, _+_, _*_, _≤_, _<_}

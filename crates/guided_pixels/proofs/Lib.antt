@@ -1,5 +1,5 @@
 -- Laws that the proofs and other crates cite.
-pub mod Cells
+pub mod CellValues
 pub mod DetailRows
 pub mod DownLerps
 pub mod Lerps

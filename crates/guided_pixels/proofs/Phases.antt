@@ -1,4 +1,5 @@
 -- The pixels of a cell by its phases, and rows cell by cell.
+-- `pixel-is` is the heart: pixel k of cell i has quotient i and rest k by the ratio. `Runs` and `Each` are over any run of columns, so that detail and values share them.
 use mathlib.Core.Path.{_≡_, refl, sym, ap, _∙_}
 use mathlib.Core.Bool.{Bool, true, false, cond}
 use mathlib.Core.List.{List, [], _∷_}

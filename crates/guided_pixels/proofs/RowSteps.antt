@@ -16,14 +16,14 @@ use Rattle.guided.specs.Guided.{detailOf}
 use Rattle.guided.specs.Scratch.{firstOf, columnAt, columnOf, detailAt, readAcross, readDown, lumaColumn, detailRow, componentColumns, finishedRow, componentsOver}
 use Rattle.guided_pixels.specs.Columns.{downColumn}
 use Rattle.guided_pixels.specs.Pixels.{detailLine}
-use Rattle.guided_pixels.specs.Row.{downsOf, componentRow, windowRow}
-use Rattle.guided_pixels.specs.Values.{bandsOf, valueAt, valueRow}
+use Rattle.guided_pixels.specs.Row.{downColumns, componentRow, windowRow}
+use Rattle.guided_pixels.specs.Values.{inputsOf, valueAt, valueRow}
 use Rattle.laws.proofs.Counts.{plus-none}
 
 -- a component's rows lerped down, by the numbers of its first rows
-pub downs-are : (l : Layout) (k : Chroma) (y n m : ℕ) (s : List Float) → n ≡ firstOf k → m ≡ columnOf k → downColumn l (n + 3) (m + 1) y (downColumn l n m y s) ≡ downsOf l k y s
-unfolding downsOf
-downs-are l k y n m s p q = rw (p, q, plus-none (columnOf k)) refl
+pub down-columns-are : (l : Layout) (k : Chroma) (y n m : ℕ) (s : List Float) → n ≡ firstOf k → m ≡ columnOf k → downColumn l (n + 3) (m + 1) y (downColumn l n m y s) ≡ downColumns l k y s
+unfolding downColumns
+down-columns-are l k y n m s p q = rw (p, q, plus-none (columnOf k)) refl
 
 -- ---- the picture's samples
 
@@ -38,7 +38,7 @@ module _ (l : Layout) (ps : Planes) (y : ℕ) where
       put-same s (detailAt l) (l .w) _ _ (λ x k. ap (λ (n : ℕ). detailOf l (cellAt s (columnAt l 0)) (f32 n) x) (sym (inside-is (l .w) (l .h) (sampleAt (l .«sample_bytes») (ps .y)) x y k h)))
 
   pub component-is : (k : Chroma) (s : List Float) → componentRow l k y s ≡ finishedRow (pictureOf l ps) k y (componentColumns (pictureOf l ps) k y s)
-  unfolding componentRow downsOf downColumn valueRow valueAt bandsOf finishedRow componentColumns readAcross readDown pictureOf
+  unfolding componentRow downColumns downColumn valueRow valueAt inputsOf finishedRow componentColumns readAcross readDown pictureOf
   component-is k s = refl
 
   -- ---- the whole row, from what each step leaves

@@ -1,4 +1,5 @@
 -- Ratio 2: the phases of a cell's two pixels, and rows in parts.
+-- `pair-left` and `pair-right` find the phases. `lanes-more` and `row-chain` are over any value that looks only at what lies from `low` on: detail and values share them.
 use mathlib.Core.Path.{_≡_, refl, sym, ap, _∙_}
 use mathlib.Core.List.{List}
 use Prim.Native.Nat.{ℕ, _+_, _-_, _*_, _/_, _%_, _≤_, _<_, min}

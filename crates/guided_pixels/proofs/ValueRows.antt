@@ -1,4 +1,5 @@
 -- A component's values: only its rows of cells and the detail are looked at.
+-- `value-same` carries it: these rows lie behind the finished rows (`inputs-inside`), so that a value is the same while finished rows are written.
 use mathlib.Core.Path.{_≡_, refl, sym, ap, _∙_}
 use mathlib.Core.List.{List}
 use Prim.Native.Nat.{ℕ, _+_, _*_, _/_, _≤_, _<_}
@@ -18,10 +19,10 @@ use Rattle.image.specs.Scratch.{cellAt, scratchNeed}
 use Rattle.guided.specs.Guided.{acrossTo, valueOf}
 use Rattle.guided.specs.Scratch.{detailAt, finishedAt, slotAt, firstOf, columnAt, columnOf}
 use Rattle.guided.proofs.Places.{first-few, slot-behind, slot-fits, column-behind, column-fits, detail-place}
-use Rattle.guided_pixels.specs.declared.bands.Bands.{Bands}
+use Rattle.guided_pixels.specs.declared.value_inputs.ValueInputs.{ValueInputs}
 use Rattle.guided_pixels.proofs.Lerps.{across-same}
 use Rattle.laws.proofs.Counts.{none-plus, plus-none}
-use Rattle.guided_pixels.specs.Values.{Band, BandsInside, bandsOf, valueAt, valueRow, valueRun}
+use Rattle.guided_pixels.specs.Values.{CellsInside, InputsInside, inputsOf, valueAt, valueRow, valueRun}
 
 -- a value from its parts
 pub value-is : (l : Layout) (gc ga lo hi : ℕ → Float) (d : Float) (x : ℕ) (u v r : Float) → u ≡ acrossTo l gc x → v ≡ acrossTo l ga x → r ≡ fmin (fmax (u ⊕ v ⊗ d) (lo (x / l .rh))) (hi (x / l .rh)) → r ≡ valueOf l gc ga lo hi d x
@@ -29,7 +30,7 @@ unfolding valueOf
 value-is l gc ga lo hi d x u v r p q e = e ∙ rw (p, q) refl
 
 -- what is written before the detail leaves the values
-pub value-same : (l : Layout) → Sound l → (t : Bands) (xs ys : List Float) (len x : ℕ) → BandsInside t (3 * l .w) (l .cw) len → x < l .w → ((k : ℕ) → 2 * l .w ≤ k → getD ys k nan ≡ getD xs k nan) → valueAt l ys t x ≡ valueAt l xs t x
+pub value-same : (l : Layout) → Sound l → (t : ValueInputs) (xs ys : List Float) (len x : ℕ) → InputsInside t (3 * l .w) (l .cw) len → x < l .w → ((k : ℕ) → 2 * l .w ≤ k → getD ys k nan ≡ getD xs k nan) → valueAt l ys t x ≡ valueAt l xs t x
 unfolding valueAt valueOf
 value-same l o t xs ys len x b h e =
     rw (
@@ -41,24 +42,24 @@ value-same l o t xs ys len x b h e =
     ) refl
 
 -- a component's rows by the numbers of its first ones
-pub bands-are : (l : Layout) (k : Chroma) (j m n a b c d : ℕ) → m ≡ columnOf k → n ≡ firstOf k → a ≡ columnAt l m → b ≡ columnAt l (m + 1) → c ≡ slotAt l (n + 4) j → d ≡ slotAt l (n + 5) j → record { cells = a; slopes = b; least = c; greatest = d } ≡ bandsOf l k j
-unfolding bandsOf
-bands-are l k j m n a b c d e f p q r s = rw (sym e, plus-none m, sym f, sym p, sym q, sym r, sym s) refl
+pub inputs-are : (l : Layout) (k : Chroma) (j m n a b c d : ℕ) → m ≡ columnOf k → n ≡ firstOf k → a ≡ columnAt l m → b ≡ columnAt l (m + 1) → c ≡ slotAt l (n + 4) j → d ≡ slotAt l (n + 5) j → record { cells = a; slopes = b; least = c; greatest = d } ≡ inputsOf l k j
+unfolding inputsOf
+inputs-are l k j m n a b c d e f p q r s = rw (sym e, plus-none m, sym f, sym p, sym q, sym r, sym s) refl
 
 few : (k : Chroma) → columnOf k ≤ 3
 few Cb = lit≤ tt
 few Cr = lit≤ tt
 
-column : (l : Layout) (m len : ℕ) → m < 5 → scratchNeed l ≤ len → Band (columnAt l m) (3 * l .w) (l .cw) len
+column : (l : Layout) (m len : ℕ) → m < 5 → scratchNeed l ≤ len → CellsInside (columnAt l m) (3 * l .w) (l .cw) len
 column l m len h k = record { behind = column-behind l m; fits = omega (arith, column-fits l m h) }
 
-slot : (l : Layout) (n j len : ℕ) → n < 15 → scratchNeed l ≤ len → Band (slotAt l n j) (3 * l .w) (l .cw) len
+slot : (l : Layout) (n j len : ℕ) → n < 15 → scratchNeed l ≤ len → CellsInside (slotAt l n j) (3 * l .w) (l .cw) len
 slot l n j len h k = record { behind = slot-behind l n j; fits = omega (arith, slot-fits l n j h) }
 
 -- they lie behind the detail and within scratch
-pub bands-inside : (l : Layout) (k : Chroma) (j : ℕ) (t : Bands) (len : ℕ) → t ≡ bandsOf l k j → scratchNeed l ≤ len → BandsInside t (3 * l .w) (l .cw) len
-unfolding bandsOf
-bands-inside l k j t len e h =
+pub inputs-inside : (l : Layout) (k : Chroma) (j : ℕ) (t : ValueInputs) (len : ℕ) → t ≡ inputsOf l k j → scratchNeed l ≤ len → InputsInside t (3 * l .w) (l .cw) len
+unfolding inputsOf
+inputs-inside l k j t len e h =
     let f = few k in
     let g = first-few k in
     rw e (record {
@@ -69,8 +70,8 @@ bands-inside l k j t len e h =
     })
 
 -- a whole row is the run from 0
-pub value-line : (l : Layout) (k : Chroma) (j : ℕ) (t : Bands) (dst : ℕ) (s : List Float) → t ≡ bandsOf l k j → dst ≡ finishedAt l k → valueRun l t dst 0 (l .w) s ≡ valueRow l k j s
+pub value-line : (l : Layout) (k : Chroma) (j : ℕ) (t : ValueInputs) (dst : ℕ) (s : List Float) → t ≡ inputsOf l k j → dst ≡ finishedAt l k → valueRun l t dst 0 (l .w) s ≡ valueRow l k j s
 unfolding valueRun valueRow
 value-line l k j t dst s e q =
-    let f : ℕ → Float = valueAt l s (bandsOf l k j) in
+    let f : ℕ → Float = valueAt l s (inputsOf l k j) in
     rw (e, q) (ap (λ (a : ℕ). put s a (l .w) (λ i. f (0 + i))) (plus-none (finishedAt l k)) ∙ put-same s (finishedAt l k) (l .w) _ f (λ i h. ap f (none-plus i)))

@@ -15,14 +15,14 @@ use Rattle.guided_pixels.specs.declared.pairs.Pair.{Pair}
 abbrev pub detailIn : Layout → Plane → ℕ → List Float → ℕ → ℕ → Float
 detailIn l p y s src x = detailOf l (cellAt s src) (f32 (sampleAt (l .«sample_bytes») p y x)) x
 
--- of the two pixels of cell i + 1 at ratio 2
+-- the detail of the two pixels of cell i + 1 at ratio 2
 unfoldable pub detailPair : Layout → Plane → ℕ → List Float → ℕ → ℕ → Pair
 detailPair l p y s src i = record { left = detailIn l p y s src (2 + 2 * i); right = detailIn l p y s src (2 + (2 * i + 1)) }
 
--- of columns from, .. from + n - 1, put at dst + from
+-- the detail of columns from, .. from + n - 1 of row y, put at dst + from
 unfoldable pub detailRun : Layout → Plane → ℕ → ℕ → ℕ → ℕ → ℕ → List Float → List Float
 detailRun l p y src dst from n s = put s (dst + from) n (λ i. detailIn l p y s src (from + i))
 
--- and of all columns by luma's row of cells, put where the detail lies
+-- the detail of all columns of row y by luma's row of cells, put where the detail lies
 unfoldable pub detailLine : Layout → Plane → ℕ → List Float → List Float
 detailLine l p y s = put s (detailAt l) (l .w) (λ x. detailOf l (cellAt s (columnAt l 0)) (f32 (sampleAt (l .«sample_bytes») p y x)) x)

@@ -10,13 +10,13 @@ use Rattle.guided.specs.Scratch.{numAcross, Slope, numDown, columnOf, lumaColum
 use Rattle.guided_pixels.specs.Columns.{downColumn}
 use Rattle.guided_pixels.specs.Values.{valueRow}
 
--- a component's samples and slopes, lerped down for row y
-unfoldable pub downsOf : Layout → Chroma → ℕ → List Float → List Float
-downsOf l k y s = downColumn l (numDown (Slope k)) (columnOf k + 1) y (downColumn l (numAcross (Cell k)) (columnOf k + 0) y s)
+-- a component's samples and slopes, lerped down for row y into its two rows of cells
+unfoldable pub downColumns : Layout → Chroma → ℕ → List Float → List Float
+downColumns l k y s = downColumn l (numDown (Slope k)) (columnOf k + 1) y (downColumn l (numAcross (Cell k)) (columnOf k + 0) y s)
 
--- and its finished row
+-- a component's rows of cells for row y, and its finished row made of them
 unfoldable pub componentRow : Layout → Chroma → ℕ → List Float → List Float
-componentRow l k y s = valueRow l k (y / l .rv) (downsOf l k y s)
+componentRow l k y s = valueRow l k (y / l .rv) (downColumns l k y s)
 
 -- picture row y of the components ks, from the window that scratch holds
 abbrev pub windowRow : Picture → List Chroma → ℕ → List Float → List Float

@@ -9,34 +9,36 @@ use Rattle.image.specs.Scratch.{cellAt}
 use Rattle.guided.specs.Guided.{valueOf}
 use Rattle.guided.specs.Scratch.{detailAt, finishedAt, slotAt, Least, Greatest, numDown, columnAt, columnOf}
 use Rattle.guided_pixels.specs.declared.pairs.Pair.{Pair}
-use Rattle.guided_pixels.specs.declared.bands.Bands.{Bands}
+use Rattle.guided_pixels.specs.declared.value_inputs.ValueInputs.{ValueInputs}
 
--- a component's two rows of cells, and its extremes of chroma row j
-unfoldable pub bandsOf : Layout → Chroma → ℕ → Bands
-bandsOf l k j = record { cells = columnAt l (columnOf k + 0); slopes = columnAt l (columnOf k + 1); least = slotAt l (numDown (Least k)) j; greatest = slotAt l (numDown (Greatest k)) j }
+-- where the rows begin that a component's values in chroma row j are made of: two rows of cells, and its extremes
+unfoldable pub inputsOf : Layout → Chroma → ℕ → ValueInputs
+inputsOf l k j = record { cells = columnAt l (columnOf k + 0); slopes = columnAt l (columnOf k + 1); least = slotAt l (numDown (Least k)) j; greatest = slotAt l (numDown (Greatest k)) j }
 
 -- a row of n cells lies behind the first `low` values and within `len`
-pub record Band (at low n len : ℕ) : Type 0 where
+pub record CellsInside (at low n len : ℕ) : Type 0 where
   pub behind : low ≤ at
   pub fits : at + n ≤ len
 
-pub record BandsInside (t : Bands) (low n len : ℕ) : Type 0 where
-  pub cells : Band (t .cells) low n len
-  pub slopes : Band (t .slopes) low n len
-  pub least : Band (t .least) low n len
-  pub greatest : Band (t .greatest) low n len
+-- the four rows that values are made of lie behind the first `low` values and within `len`
+pub record InputsInside (t : ValueInputs) (low n len : ℕ) : Type 0 where
+  pub cells : CellsInside (t .cells) low n len
+  pub slopes : CellsInside (t .slopes) low n len
+  pub least : CellsInside (t .least) low n len
+  pub greatest : CellsInside (t .greatest) low n len
 
 -- a component's value in column x, from its rows of cells and the detail
-unfoldable pub valueAt : Layout → List Float → Bands → ℕ → Float
+unfoldable pub valueAt : Layout → List Float → ValueInputs → ℕ → Float
 valueAt l s t x = valueOf l (cellAt s (t .cells)) (cellAt s (t .slopes)) (cellAt s (t .least)) (cellAt s (t .greatest)) (cellAt s (detailAt l) x) x
 
--- its values in the two pixels of cell i + 1 at ratio 2
-unfoldable pub valuePair : Layout → List Float → Bands → ℕ → Pair
+-- a component's values in the two pixels of cell i + 1 at ratio 2
+unfoldable pub valuePair : Layout → List Float → ValueInputs → ℕ → Pair
 valuePair l s t i = record { left = valueAt l s t (2 + 2 * i); right = valueAt l s t (2 + (2 * i + 1)) }
 
--- those of columns from, .. from + n - 1, put at dst + from, and of all columns, put where the finished row lies
-unfoldable pub valueRun : Layout → Bands → ℕ → ℕ → ℕ → List Float → List Float
+-- a component's values in columns from, .. from + n - 1, put at dst + from
+unfoldable pub valueRun : Layout → ValueInputs → ℕ → ℕ → ℕ → List Float → List Float
 valueRun l t dst from n s = put s (dst + from) n (λ i. valueAt l s t (from + i))
 
+-- a component's values in all columns, put where its finished row lies
 unfoldable pub valueRow : Layout → Chroma → ℕ → List Float → List Float
-valueRow l k j s = put s (finishedAt l k) (l .w) (valueAt l s (bandsOf l k j))
+valueRow l k j s = put s (finishedAt l k) (l .w) (valueAt l s (inputsOf l k j))

@@ -1,4 +1,4 @@
-// Rows of cells of one picture row: rows of the window lerped down.
+// The rows of cells of one picture row: rows of the window lerped down by the row's tap.
 ghost use mathlib.Core.Path.{_≡_};
 ghost use Prim.Native.Nat.{_+_, _≤_, _<_};
 ghost use lib.ListN.{length};
@@ -8,7 +8,7 @@ ghost use Rattle.guided_pixels.specs.Columns.{lerpRun, ColumnGiven, down
 use guided_window::Window;
 use image::Layout;
 
-// The n cells at a and at b, lerped by f, to s from dst on.
+// The n cells at a and the n cells at b, lerped by f, to s from dst on.
 fn lerp_row(s: &mut [f32], a: usize, b: usize, f: f32, n: usize, dst: usize)
     requires { ⌜ (a + n ≤ dst) × (b + n ≤ dst) × (dst + n ≤ length (now s)) ⌝ }
     ensures { λ _. ⌜ now (s .exit) ≡ lerpRun a b f n dst (now (s .entry)) ⌝ }
@@ -20,7 +20,7 @@ fn lerp_row(s: &mut [f32], a: usize, b: usize, f: f32, n: usize, dst: usize)
     }
 }
 
-// Inner: where row of cells m of a picture row begins: these rows lie behind the window.
+// Inner: where row of cells m of a picture row begins in scratch: there are five, and they lie behind the window.
 pub fn column_at(layout: Layout, m: usize) -> usize
     requires { ⌜ Sound layout × (m < 5) ⌝ }
     ensures { λ r. ⌜ ColumnGiven layout m r ⌝ }

@@ -1,8 +1,8 @@
-// The detail of pixels one by one, each by its own tap.
+// The detail of pixels one by one, each by its own phase: for the first and the last cell of a row, where an edge may be met.
 ghost use mathlib.Core.Path.{_≡_};
 ghost use Prim.Native.Nat.{_+_, _≤_, _<_};
 ghost use lib.ListN.{length};
-ghost use Rattle.guided_across.specs.Luma.{Cells};
+ghost use Rattle.guided_across.specs.Luma.{LumaPixels};
 ghost use Rattle.guided_pixels.specs.Pixels.{detailRun};
 ghost use Rattle.image.specs.Samples.{planeOf};
 use crate::pairs::across_pixel;
@@ -21,7 +21,7 @@ pub fn detail_run(
     from: usize,
     n: usize,
 )
-    requires { ⌜ Cells layout (planeOf (now plane) stride) × (y < layout .h) × (from + n ≤ layout .w) ⌝ }
+    requires { ⌜ LumaPixels layout (planeOf (now plane) stride) × (y < layout .h) × (from + n ≤ layout .w) ⌝ }
     requires { ⌜ (dst + layout .w ≤ src) × (src + layout .cw ≤ length (now s)) ⌝ }
     ensures { λ _. ⌜ now (s .exit) ≡ detailRun layout (planeOf (now (plane .entry)) stride) y src dst from n (now (s .entry)) ⌝ }
 {

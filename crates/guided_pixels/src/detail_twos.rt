@@ -1,9 +1,9 @@
-// The detail of the cells that have both neighbours, at ratio 2: eight cells at a time, so that many pixels are computed at once.
+// The detail of the pixels of cells that have both neighbours, at ratio 2: eight cells at a time, so that many pixels are computed at once.
 ghost use mathlib.Core.Path.{_≡_};
 ghost use Prim.Native.Nat.{ℕ, _+_, _*_, _≤_, _<_};
 ghost use lib.Ieee.{nan};
 ghost use lib.ListN.{length, getD};
-ghost use Rattle.guided_across.specs.Luma.{Cells};
+ghost use Rattle.guided_across.specs.Luma.{LumaPixels};
 ghost use Rattle.guided_pixels.specs.Pixels.{detailIn, detailPair, detailRun};
 ghost use Rattle.image.specs.Samples.{planeOf};
 use crate::detail_runs::detail_run;
@@ -24,7 +24,8 @@ fn detail_pair(
     src: usize,
     i: usize,
 ) -> Pair
-    requires { ⌜ Cells layout (planeOf (now plane) stride) × (y < layout .h) × (layout .rh ≡ 2) × (i + 3 ≤ layout .cw) × (2 * i + 4 ≤ layout .w) ⌝ }
+    requires { ⌜ LumaPixels layout (planeOf (now plane) stride) × (y < layout .h)
+        × (layout .rh ≡ 2) × (i + 3 ≤ layout .cw) × (2 * i + 4 ≤ layout .w) ⌝ }
     requires { ⌜ src + layout .cw ≤ length (now s) ⌝ }
     ensures { λ r. ⌜ r ≡ detailPair layout (planeOf (now (plane .entry)) stride) y (now (s .entry)) src i ⌝ }
 {
@@ -37,7 +38,7 @@ fn detail_pair(
     }
 }
 
-// Of the pixels of eight cells, from cell i + 1 on.
+// The detail of the pixels of eight cells, from cell i + 1 on, at ratio 2.
 fn detail_block(
     layout: Layout,
     plane: &[u8],
@@ -47,9 +48,11 @@ fn detail_block(
     src: usize,
     i: usize,
 ) -> [f32; Lanes::PIXELS]
-    requires { ⌜ Cells layout (planeOf (now plane) stride) × (y < layout .h) × (layout .rh ≡ 2) × (i + 10 ≤ layout .cw) × (2 * i + 18 ≤ layout .w) ⌝ }
+    requires { ⌜ LumaPixels layout (planeOf (now plane) stride) × (y < layout .h)
+        × (layout .rh ≡ 2) × (i + 10 ≤ layout .cw) × (2 * i + 18 ≤ layout .w) ⌝ }
     requires { ⌜ src + layout .cw ≤ length (now s) ⌝ }
-    ensures { λ r. ⌜ ((k : ℕ) → k < 16 → getD r k nan ≡ detailIn layout (planeOf (now (plane .entry)) stride) y (now (s .entry)) src (2 + 2 * i + k)) ⌝ }
+    ensures { λ r. ⌜ ((k : ℕ) → k < 16
+        → getD r k nan ≡ detailIn layout (planeOf (now (plane .entry)) stride) y (now (s .entry)) src (2 + 2 * i + k)) ⌝ }
 {
     let mut block = [0.0f32; Lanes::PIXELS];
     for b in 0..Lanes::CELLS {
@@ -60,7 +63,8 @@ fn detail_block(
     block
 }
 
-// Inner: the detail of n cells, from cell 1 on, at ratio 2: blocks, the last of which ends with the cells and overlaps the one before.
+// Inner: the detail of the pixels of n cells, from cell 1 on, at ratio 2: blocks of eight cells, the last of which ends with the cells and
+// overlaps the one before; fewer than eight pixel by pixel.
 pub fn detail_twos(
     layout: Layout,
     plane: &[u8],
@@ -71,7 +75,8 @@ pub fn detail_twos(
     dst: usize,
     n: usize,
 )
-    requires { ⌜ Cells layout (planeOf (now plane) stride) × (y < layout .h) × (layout .rh ≡ 2) × (n + 2 ≤ layout .cw) × (2 + 2 * n ≤ layout .w) ⌝ }
+    requires { ⌜ LumaPixels layout (planeOf (now plane) stride) × (y < layout .h)
+        × (layout .rh ≡ 2) × (n + 2 ≤ layout .cw) × (2 + 2 * n ≤ layout .w) ⌝ }
     requires { ⌜ (dst + layout .w ≤ src) × (src + layout .cw ≤ length (now s)) ⌝ }
     ensures { λ _. ⌜ now (s .exit) ≡ detailRun layout (planeOf (now (plane .entry)) stride) y src dst 2 (2 * n) (now (s .entry)) ⌝ }
 {

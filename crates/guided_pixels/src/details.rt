@@ -1,10 +1,10 @@
-// The detail of a picture row: luma less what its cells lerp to.
+// The detail of a picture row: luma less what its cells lerp to, document 01's "luma − y".
 ghost use mathlib.Core.Path.{_≡_};
 ghost use Prim.Native.Nat.{_+_, _*_, _≤_, _<_};
 ghost use lib.ListN.{length};
 ghost use Rattle.image.specs.Scratch.{scratchNeed};
 ghost use Rattle.taps.specs.Taps.{phasesOf};
-ghost use Rattle.guided_across.specs.Luma.{Cells};
+ghost use Rattle.guided_across.specs.Luma.{LumaPixels};
 ghost use Rattle.guided_pixels.specs.Pixels.{detailRun, detailLine};
 ghost use Rattle.image.specs.Samples.{planeOf};
 use crate::columns::column_at;
@@ -16,7 +16,7 @@ use guided_window::sample_at;
 use image::Layout;
 use taps::Phase;
 
-// The detail of the pixels of cell i: no edge is met.
+// The detail of the pixels of cell i of row y, which has both neighbours: no edge is met.
 fn detail_cell(
     layout: Layout,
     plane: &[u8],
@@ -28,10 +28,11 @@ fn detail_cell(
     dst: usize,
     i: usize,
 )
-    requires { ⌜ Cells layout (planeOf (now plane) stride) × (y < layout .h) × (phases ≡ phasesOf (layout .rh)) ⌝ }
+    requires { ⌜ LumaPixels layout (planeOf (now plane) stride) × (y < layout .h) × (phases ≡ phasesOf (layout .rh)) ⌝ }
     requires { ⌜ (0 < i) × (i + 1 < layout .cw) × (i * layout .rh + layout .rh ≤ layout .w) ⌝ }
     requires { ⌜ (dst + layout .w ≤ src) × (src + layout .cw ≤ length (now s)) ⌝ }
-    ensures { λ _. ⌜ now (s .exit) ≡ detailRun layout (planeOf (now (plane .entry)) stride) y src dst (i * layout .rh) (layout .rh) (now (s .entry)) ⌝ }
+    ensures { λ _. ⌜ now (s .exit) ≡ detailRun layout (planeOf (now (plane .entry)) stride) y src dst
+        (i * layout .rh) (layout .rh) (now (s .entry)) ⌝ }
 {
     let w = layout.w;
     let h = layout.h;
@@ -45,7 +46,7 @@ fn detail_cell(
     }
 }
 
-// Of n cells, from cell 1 on.
+// The detail of the pixels of n cells, from cell 1 on, cell by cell at any ratio.
 fn detail_each(
     layout: Layout,
     plane: &[u8],
@@ -56,9 +57,11 @@ fn detail_each(
     dst: usize,
     n: usize,
 )
-    requires { ⌜ Cells layout (planeOf (now plane) stride) × (y < layout .h) × (n + 2 ≤ layout .cw) × (layout .rh + n * layout .rh ≤ layout .w) ⌝ }
+    requires { ⌜ LumaPixels layout (planeOf (now plane) stride) × (y < layout .h)
+        × (n + 2 ≤ layout .cw) × (layout .rh + n * layout .rh ≤ layout .w) ⌝ }
     requires { ⌜ (dst + layout .w ≤ src) × (src + layout .cw ≤ length (now s)) ⌝ }
-    ensures { λ _. ⌜ now (s .exit) ≡ detailRun layout (planeOf (now (plane .entry)) stride) y src dst (layout .rh) (n * layout .rh) (now (s .entry)) ⌝ }
+    ensures { λ _. ⌜ now (s .exit) ≡ detailRun layout (planeOf (now (plane .entry)) stride) y src dst
+        (layout .rh) (n * layout .rh) (now (s .entry)) ⌝ }
 {
     let phases = taps::phases_of(layout.rh);
     let mut i = 0;
@@ -68,7 +71,7 @@ fn detail_each(
     }
 }
 
-// Of n cells, from cell 1 on, at ratio 1, where each is a pixel.
+// The detail of n cells, from cell 1 on, at ratio 1, where each cell is a pixel and its fraction is 0.
 fn detail_ones(
     layout: Layout,
     plane: &[u8],
@@ -79,7 +82,8 @@ fn detail_ones(
     dst: usize,
     n: usize,
 )
-    requires { ⌜ Cells layout (planeOf (now plane) stride) × (y < layout .h) × (layout .rh ≡ 1) × (n + 2 ≤ layout .cw) × (1 + n ≤ layout .w) ⌝ }
+    requires { ⌜ LumaPixels layout (planeOf (now plane) stride) × (y < layout .h)
+        × (layout .rh ≡ 1) × (n + 2 ≤ layout .cw) × (1 + n ≤ layout .w) ⌝ }
     requires { ⌜ (dst + layout .w ≤ src) × (src + layout .cw ≤ length (now s)) ⌝ }
     ensures { λ _. ⌜ now (s .exit) ≡ detailRun layout (planeOf (now (plane .entry)) stride) y src dst 1 n (now (s .entry)) ⌝ }
 {
@@ -94,7 +98,7 @@ fn detail_ones(
     }
 }
 
-// Of n cells, from cell 1 on: a loop for each ratio.
+// The detail of the pixels of n cells, from cell 1 on: the loops of ratios 1 and 2 are faster than the one of any ratio.
 fn detail_inner(
     layout: Layout,
     plane: &[u8],
@@ -105,9 +109,11 @@ fn detail_inner(
     dst: usize,
     n: usize,
 )
-    requires { ⌜ Cells layout (planeOf (now plane) stride) × (y < layout .h) × (n + 2 ≤ layout .cw) × (layout .rh + n * layout .rh ≤ layout .w) ⌝ }
+    requires { ⌜ LumaPixels layout (planeOf (now plane) stride) × (y < layout .h)
+        × (n + 2 ≤ layout .cw) × (layout .rh + n * layout .rh ≤ layout .w) ⌝ }
     requires { ⌜ (dst + layout .w ≤ src) × (src + layout .cw ≤ length (now s)) ⌝ }
-    ensures { λ _. ⌜ now (s .exit) ≡ detailRun layout (planeOf (now (plane .entry)) stride) y src dst (layout .rh) (n * layout .rh) (now (s .entry)) ⌝ }
+    ensures { λ _. ⌜ now (s .exit) ≡ detailRun layout (planeOf (now (plane .entry)) stride) y src dst
+        (layout .rh) (n * layout .rh) (now (s .entry)) ⌝ }
 {
     if layout.rh == 1 {
         detail_ones(layout, plane, stride, y, s, src, dst, n);
@@ -120,7 +126,7 @@ fn detail_inner(
     detail_each(layout, plane, stride, y, s, src, dst, n);
 }
 
-// Of all cells: the first, the inner ones, and the last with its pixels inside the picture.
+// The detail of all columns of row y: the first cell's, the inner cells', and the last cell's that lie inside the picture.
 fn detail_cells(
     layout: Layout,
     plane: &[u8],
@@ -130,7 +136,7 @@ fn detail_cells(
     src: usize,
     dst: usize,
 )
-    requires { ⌜ Cells layout (planeOf (now plane) stride) × (y < layout .h) ⌝ }
+    requires { ⌜ LumaPixels layout (planeOf (now plane) stride) × (y < layout .h) ⌝ }
     requires { ⌜ (dst + layout .w ≤ src) × (src + layout .cw ≤ length (now s)) ⌝ }
     ensures { λ _. ⌜ now (s .exit) ≡ detailRun layout (planeOf (now (plane .entry)) stride) y src dst 0 (layout .w) (now (s .entry)) ⌝ }
 {
@@ -147,9 +153,9 @@ fn detail_cells(
     detail_run(layout, plane, stride, y, s, src, dst, m, w - m);
 }
 
-// Inner: the detail of row y, from luma's row of cells.
+// Inner: the detail of row y from luma's row of cells, to its place in scratch.
 pub fn detail_row(layout: Layout, plane: &[u8], stride: usize, y: usize, s: &mut [f32])
-    requires { ⌜ Cells layout (planeOf (now plane) stride) × (y < layout .h) × (scratchNeed layout ≤ length (now s)) ⌝ }
+    requires { ⌜ LumaPixels layout (planeOf (now plane) stride) × (y < layout .h) × (scratchNeed layout ≤ length (now s)) ⌝ }
     ensures { λ _. ⌜ now (s .exit) ≡ detailLine layout (planeOf (now (plane .entry)) stride) y (now (s .entry)) ⌝ }
 {
     let src = column_at(layout, 0);

@@ -1,4 +1,4 @@
-// Cells lerped across: by any phase, by all phases of a cell, and by pairs of pixels at ratio 2.
+// Cells lerped across: by one phase, by all phases of a cell, and by pairs of pixels at ratio 2.
 ghost use mathlib.Core.Path.{_≡_};
 ghost use mathlib.Core.Bool.{cond};
 ghost use Prim.Native.Nat.{ℕ, _+_, _-_, _*_, _≤_, _<_};
@@ -12,7 +12,7 @@ ghost use Rattle.guided_pixels.specs.Across.{phased, pairOf};
 use image::Layout;
 use taps::Phase;
 
-// Cell i of the cw cells at src, lerped across by a phase.
+// Cell i of the cw cells at src, lerped across by a phase: towards the left neighbour or the right one, edges repeated.
 fn across_at(s: &[f32], src: usize, cw: usize, p: Phase, i: usize) -> f32
     requires { ⌜ (i < cw) × (src + cw ≤ length (now s)) ⌝ }
     ensures { λ r. ⌜ r ≡ phased (cellAt (now (s .entry)) src) cw p i ⌝ }
@@ -25,7 +25,7 @@ fn across_at(s: &[f32], src: usize, cw: usize, p: Phase, i: usize) -> f32
     taps::lerp(s[src + i], s[src + r], p.f)
 }
 
-// Inner: the cells at src, lerped across at column x.
+// Inner: what the cells at src lerp to in column x, by the pixel's phase within its cell.
 pub fn across_pixel(layout: Layout, s: &[f32], src: usize, x: usize) -> f32
     requires { ⌜ Sound layout × (x < layout .w) × (src + layout .cw ≤ length (now s)) ⌝ }
     ensures { λ r. ⌜ r ≡ acrossTo layout (cellAt (now (s .entry)) src) x ⌝ }
@@ -45,7 +45,7 @@ fn start_of(p: Phase, i: usize) -> usize
     i
 }
 
-// Cell i of the cells at src, lerped across by a phase: no edge is met.
+// Cell i of the cells at src, which has both neighbours, lerped across by a phase: no edge is looked at.
 fn between(s: &[f32], src: usize, p: Phase, i: usize) -> f32
     requires { ⌜ (0 < i) × (src + i + 2 ≤ length (now s)) ⌝ }
     ensures { λ r. ⌜ ((n : ℕ) → i + 1 < n → r ≡ phased (cellAt (now (s .entry)) src) n p i) ⌝ }
@@ -54,10 +54,13 @@ fn between(s: &[f32], src: usize, p: Phase, i: usize) -> f32
     taps::lerp(s[src + a], s[src + (a + 1)], p.f)
 }
 
-// Inner: cell i of the cells at src, lerped across in each of its pixels: no edge is met. What stands past the ratio is no pixel's.
+// Inner: cell i of the cells at src, which has both neighbours, lerped across in each of its pixels. An array has four places, and what
+// stands past the ratio is no pixel's.
 pub fn cell_at(layout: Layout, s: &[f32], src: usize, phases: [Phase; 4], i: usize) -> [f32; 4]
-    requires { ⌜ (phases ≡ phasesOf (layout .rh)) × (layout .rh ≤ 4) × (0 < i) × (i + 1 < layout .cw) × (src + layout .cw ≤ length (now s)) ⌝ }
-    ensures { λ r. ⌜ ((k : ℕ) → k < layout .rh → getD r k nan ≡ acrossTo layout (cellAt (now (s .entry)) src) (i * layout .rh + k)) ⌝ }
+    requires { ⌜ (phases ≡ phasesOf (layout .rh)) × (layout .rh ≤ 4)
+        × (0 < i) × (i + 1 < layout .cw) × (src + layout .cw ≤ length (now s)) ⌝ }
+    ensures { λ r. ⌜ ((k : ℕ) → k < layout .rh
+        → getD r k nan ≡ acrossTo layout (cellAt (now (s .entry)) src) (i * layout .rh + k)) ⌝ }
 {
     [
         between(s, src, phases[0], i),
@@ -73,7 +76,8 @@ pub struct Pair {
     pub right: f32,
 }
 
-// Inner: cell i + 1 of the cells at src, lerped across at ratio 2: no edge is met.
+// Inner: cell i + 1 of the cells at src, which has both neighbours, lerped across at ratio 2, whose fractions are 3/4 from the left
+// neighbour and 1/4 to the right one.
 pub fn pair_at(s: &[f32], src: usize, i: usize) -> Pair
     requires { ⌜ src + i + 3 ≤ length (now s) ⌝ }
     ensures { λ p. ⌜ p ≡ pairOf (cellAt (now (s .entry)) src) i ⌝ }

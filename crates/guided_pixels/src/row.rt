@@ -1,4 +1,4 @@
-// A picture row from the window: luma's cells and the detail, then each component's rows of cells and its finished row.
+// A picture row from the window: luma's row of cells and the detail, then each component's rows of cells and its finished row.
 ghost use mathlib.Core.Path.{_≡_};
 ghost use Prim.Native.Nat.{_≤_, _<_};
 ghost use lib.ListN.{length};
@@ -6,12 +6,12 @@ ghost use Rattle.image.specs.Tests.{Sound};
 ghost use Rattle.image.specs.Samples.{Plane, planeOf};
 ghost use Rattle.image.specs.Picture.{Planes, pictureOf};
 ghost use Rattle.image.specs.Scratch.{scratchNeed};
-ghost use Rattle.guided_across.specs.Luma.{Cells};
+ghost use Rattle.guided_across.specs.Luma.{LumaPixels};
 ghost use Rattle.guided_window.specs.Lent.{componentsOf};
-ghost use Rattle.guided_pixels.specs.Row.{downsOf, componentRow, windowRow};
-use crate::bands::column_of;
+ghost use Rattle.guided_pixels.specs.Row.{downColumns, componentRow, windowRow};
 use crate::columns::down_column;
 use crate::details::detail_row;
+use crate::value_inputs::column_of;
 use crate::values::value_row;
 use guided_window::ChromaBuffer;
 use guided_window::LumaBuffer;
@@ -19,10 +19,10 @@ use image::Chroma;
 use image::Components;
 use image::Layout;
 
-// A component's samples and slopes, lerped down for row y.
-fn downs(layout: Layout, k: Chroma, y: usize, s: &mut [f32])
+// A component's samples and slopes, lerped down for row y into its two rows of cells.
+fn down_columns(layout: Layout, k: Chroma, y: usize, s: &mut [f32])
     requires { ⌜ Sound layout × (y < layout .h) × (scratchNeed layout ≤ length (now s)) ⌝ }
-    ensures { λ _. ⌜ now (s .exit) ≡ downsOf layout k y (now (s .entry)) ⌝ }
+    ensures { λ _. ⌜ now (s .exit) ≡ downColumns layout k y (now (s .entry)) ⌝ }
 {
     let n = guided_window::first_of(k);
     let m = column_of(k);
@@ -30,16 +30,17 @@ fn downs(layout: Layout, k: Chroma, y: usize, s: &mut [f32])
     down_column(layout, n + ChromaBuffer::SLOPE, m + 1, y, s);
 }
 
-// A component's rows of cells of row y, and its finished row.
+// A component's rows of cells of row y, and its finished row made of them.
 fn component(layout: Layout, k: Chroma, y: usize, s: &mut [f32])
     requires { ⌜ Sound layout × (y < layout .h) × (scratchNeed layout ≤ length (now s)) ⌝ }
     ensures { λ _. ⌜ now (s .exit) ≡ componentRow layout k y (now (s .entry)) ⌝ }
 {
-    downs(layout, k, y, s);
+    down_columns(layout, k, y, s);
     value_row(layout, k, y / layout.rv, s);
 }
 
-// Inner: row `row` of Cb, and of Cr where both are asked for, from the window that scratch holds: no chroma plane is looked at.
+// Inner: picture row `row` of Cb, and of Cr where both are asked for, from the window that scratch holds. No chroma plane is looked at, so
+// that the promise is for any.
 pub fn guided_row(
     layout: Layout,
     y: &[u8],
@@ -48,8 +49,11 @@ pub fn guided_row(
     row: usize,
     s: &mut [f32],
 )
-    requires { ⌜ Cells layout (planeOf (now y) «y_stride») × (row < layout .h) × (scratchNeed layout ≤ length (now s)) ⌝ }
-    ensures { λ _. ⌜ ((cb cr : Plane) → now (s .exit) ≡ windowRow (pictureOf layout (record { y = planeOf (now (y .entry)) «y_stride»; cb = cb; cr = cr })) (componentsOf components) row (now (s .entry))) ⌝ }
+    requires { ⌜ LumaPixels layout (planeOf (now y) «y_stride»)
+        × (row < layout .h) × (scratchNeed layout ≤ length (now s)) ⌝ }
+    ensures { λ _. ⌜ ((cb cr : Plane) → now (s .exit) ≡ windowRow
+        (pictureOf layout (record { y = planeOf (now (y .entry)) «y_stride»; cb = cb; cr = cr }))
+        (componentsOf components) row (now (s .entry))) ⌝ }
 {
     down_column(layout, LumaBuffer::CELL, 0, row, s);
     detail_row(layout, y, y_stride, row, s);

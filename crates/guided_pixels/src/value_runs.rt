@@ -1,18 +1,19 @@
-// A component's values in pixels one by one, each by its own tap.
+// A component's values in pixels one by one, each by its own phase: for the first and the last cell of a row, where an edge may be met.
 ghost use mathlib.Core.Path.{_≡_};
 ghost use Prim.Native.Nat.{_+_, _*_, _≤_, _<_};
 ghost use lib.ListN.{length};
 ghost use Rattle.image.specs.Tests.{Sound};
-ghost use Rattle.guided_pixels.specs.Values.{BandsInside, valueAt, valueRun};
-use crate::bands::Bands;
-use crate::bands::limited;
+ghost use Rattle.guided_pixels.specs.Values.{InputsInside, valueAt, valueRun};
 use crate::pairs::across_pixel;
+use crate::value_inputs::ValueInputs;
+use crate::value_inputs::limited;
 use guided_window::Window;
 use image::Layout;
 
-// A component's value in column x: its cells and slopes lerped across, the detail between them, raised to the least and lowered to the greatest of its cell.
-fn value_at(layout: Layout, s: &[f32], t: Bands, x: usize) -> f32
-    requires { ⌜ Sound layout × (x < layout .w) × BandsInside t (3 * layout .w) (layout .cw) (length (now s)) ⌝ }
+// A component's value in column x: document 01's "c + a·(luma − y), then raised to the least and lowered to the greatest c" of its cell,
+// c and a being the cells and slopes lerped across.
+fn value_at(layout: Layout, s: &[f32], t: ValueInputs, x: usize) -> f32
+    requires { ⌜ Sound layout × (x < layout .w) × InputsInside t (3 * layout .w) (layout .cw) (length (now s)) ⌝ }
     ensures { λ r. ⌜ r ≡ valueAt layout (now (s .entry)) t x ⌝ }
 {
     let c = across_pixel(layout, s, t.cells, x);
@@ -24,9 +25,9 @@ fn value_at(layout: Layout, s: &[f32], t: Bands, x: usize) -> f32
     limited(c + a * d, s[lo + i], s[hi + i])
 }
 
-// Inner: a component's values in n columns, from column `from` on.
-pub fn value_run(layout: Layout, s: &mut [f32], t: Bands, dst: usize, from: usize, n: usize)
-    requires { ⌜ Sound layout × BandsInside t (3 * layout .w) (layout .cw) (length (now s)) ⌝ }
+// Inner: a component's values in n columns, from column `from` on, to its row at dst.
+pub fn value_run(layout: Layout, s: &mut [f32], t: ValueInputs, dst: usize, from: usize, n: usize)
+    requires { ⌜ Sound layout × InputsInside t (3 * layout .w) (layout .cw) (length (now s)) ⌝ }
     requires { ⌜ (from + n ≤ layout .w) × (dst ≤ layout .w) ⌝ }
     ensures { λ _. ⌜ now (s .exit) ≡ valueRun layout t dst from n (now (s .entry)) ⌝ }
 {

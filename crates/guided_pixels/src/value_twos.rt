@@ -1,24 +1,25 @@
-// A component's values in the cells that have both neighbours, at ratio 2: eight cells at a time, so that many pixels are computed at once.
+// A component's values in the pixels of cells that have both neighbours, at ratio 2: eight cells at a time, so that many pixels are
+// computed at once.
 ghost use mathlib.Core.Path.{_≡_};
 ghost use Prim.Native.Nat.{ℕ, _+_, _*_, _≤_, _<_};
 ghost use lib.Ieee.{nan};
 ghost use lib.ListN.{length, getD};
 ghost use Rattle.image.specs.Tests.{Sound};
-ghost use Rattle.guided_pixels.specs.Values.{BandsInside, valueAt, valuePair, valueRun};
-use crate::bands::Bands;
-use crate::bands::limited;
+ghost use Rattle.guided_pixels.specs.Values.{InputsInside, valueAt, valuePair, valueRun};
 use crate::pairs::Pair;
 use crate::pairs::pair_at;
+use crate::value_inputs::ValueInputs;
+use crate::value_inputs::limited;
 use crate::value_runs::value_run;
 use guided_window::Window;
 use image::Layout;
 use lanes::Lanes;
 use lanes::put_block;
 
-// A component's values in the pixels of cell i + 1 at ratio 2: no edge is met.
-fn value_pair(layout: Layout, s: &[f32], t: Bands, i: usize) -> Pair
+// A component's values in the two pixels of cell i + 1 at ratio 2: no phase and no edge is looked at.
+fn value_pair(layout: Layout, s: &[f32], t: ValueInputs, i: usize) -> Pair
     requires { ⌜ (layout .rh ≡ 2) × (i + 3 ≤ layout .cw) × (2 * i + 4 ≤ layout .w) ⌝ }
-    requires { ⌜ BandsInside t (3 * layout .w) (layout .cw) (length (now s)) ⌝ }
+    requires { ⌜ InputsInside t (3 * layout .w) (layout .cw) (length (now s)) ⌝ }
     ensures { λ p. ⌜ p ≡ valuePair layout (now (s .entry)) t i ⌝ }
 {
     let c = pair_at(s, t.cells, i);
@@ -36,10 +37,10 @@ fn value_pair(layout: Layout, s: &[f32], t: Bands, i: usize) -> Pair
     }
 }
 
-// Of the pixels of eight cells, from cell i + 1 on.
-fn value_block(layout: Layout, s: &[f32], t: Bands, i: usize) -> [f32; Lanes::PIXELS]
+// A component's values in the pixels of eight cells, from cell i + 1 on, at ratio 2.
+fn value_block(layout: Layout, s: &[f32], t: ValueInputs, i: usize) -> [f32; Lanes::PIXELS]
     requires { ⌜ (layout .rh ≡ 2) × (i + 10 ≤ layout .cw) × (2 * i + 18 ≤ layout .w) ⌝ }
-    requires { ⌜ BandsInside t (3 * layout .w) (layout .cw) (length (now s)) ⌝ }
+    requires { ⌜ InputsInside t (3 * layout .w) (layout .cw) (length (now s)) ⌝ }
     ensures { λ r. ⌜ ((k : ℕ) → k < 16 → getD r k nan ≡ valueAt layout (now (s .entry)) t (2 + 2 * i + k)) ⌝ }
 {
     let mut block = [0.0f32; Lanes::PIXELS];
@@ -51,9 +52,10 @@ fn value_block(layout: Layout, s: &[f32], t: Bands, i: usize) -> [f32; Lanes::PI
     block
 }
 
-// Inner: a component's values of n cells, from cell 1 on, at ratio 2: blocks, the last of which ends with the cells and overlaps the one before.
-pub fn value_twos(layout: Layout, s: &mut [f32], t: Bands, dst: usize, n: usize)
-    requires { ⌜ Sound layout × BandsInside t (3 * layout .w) (layout .cw) (length (now s)) ⌝ }
+// Inner: a component's values in the pixels of n cells, from cell 1 on, at ratio 2: blocks of eight cells, the last of which ends with the
+// cells and overlaps the one before; fewer than eight pixel by pixel.
+pub fn value_twos(layout: Layout, s: &mut [f32], t: ValueInputs, dst: usize, n: usize)
+    requires { ⌜ Sound layout × InputsInside t (3 * layout .w) (layout .cw) (length (now s)) ⌝ }
     requires { ⌜ (layout .rh ≡ 2) × (n + 2 ≤ layout .cw) × (2 + 2 * n ≤ layout .w) × (dst ≤ layout .w) ⌝ }
     ensures { λ _. ⌜ now (s .exit) ≡ valueRun layout t dst 2 (2 * n) (now (s .entry)) ⌝ }
 {

@@ -5,12 +5,12 @@ ghost use lib.ListN.{length};
 ghost use Rattle.image.specs.Tests.{Sound};
 ghost use Rattle.image.specs.Scratch.{scratchNeed};
 ghost use Rattle.taps.specs.Taps.{phasesOf};
-ghost use Rattle.guided_pixels.specs.Values.{BandsInside, valueAt, valueRun, valueRow};
-use crate::bands::Bands;
-use crate::bands::bands_of;
-use crate::bands::finished_at;
-use crate::bands::limited;
+ghost use Rattle.guided_pixels.specs.Values.{InputsInside, valueAt, valueRun, valueRow};
 use crate::pairs::cell_at;
+use crate::value_inputs::ValueInputs;
+use crate::value_inputs::finished_at;
+use crate::value_inputs::inputs_of;
+use crate::value_inputs::limited;
 use crate::value_runs::value_run;
 use crate::value_twos::value_twos;
 use guided_window::Window;
@@ -18,10 +18,18 @@ use image::Chroma;
 use image::Layout;
 use taps::Phase;
 
-// A component's values in the pixels of cell i: no edge is met.
-fn value_cell(layout: Layout, phases: [Phase; 4], s: &mut [f32], t: Bands, dst: usize, i: usize)
-    requires { ⌜ Sound layout × BandsInside t (3 * layout .w) (layout .cw) (length (now s)) ⌝ }
-    requires { ⌜ (phases ≡ phasesOf (layout .rh)) × (0 < i) × (i + 1 < layout .cw) × (i * layout .rh + layout .rh ≤ layout .w) × (dst ≤ layout .w) ⌝ }
+// A component's values in the pixels of cell i, which has both neighbours: no edge is met.
+fn value_cell(
+    layout: Layout,
+    phases: [Phase; 4],
+    s: &mut [f32],
+    t: ValueInputs,
+    dst: usize,
+    i: usize,
+)
+    requires { ⌜ Sound layout × InputsInside t (3 * layout .w) (layout .cw) (length (now s)) ⌝ }
+    requires { ⌜ (phases ≡ phasesOf (layout .rh)) × (0 < i) × (i + 1 < layout .cw)
+        × (i * layout .rh + layout .rh ≤ layout .w) × (dst ≤ layout .w) ⌝ }
     ensures { λ _. ⌜ now (s .exit) ≡ valueRun layout t dst (i * layout .rh) (layout .rh) (now (s .entry)) ⌝ }
 {
     let c = cell_at(layout, s, t.cells, phases, i);
@@ -40,9 +48,9 @@ fn value_cell(layout: Layout, phases: [Phase; 4], s: &mut [f32], t: Bands, dst: 
     }
 }
 
-// Of n cells, from cell 1 on.
-fn value_each(layout: Layout, s: &mut [f32], t: Bands, dst: usize, n: usize)
-    requires { ⌜ Sound layout × BandsInside t (3 * layout .w) (layout .cw) (length (now s)) ⌝ }
+// A component's values in the pixels of n cells, from cell 1 on, cell by cell at any ratio.
+fn value_each(layout: Layout, s: &mut [f32], t: ValueInputs, dst: usize, n: usize)
+    requires { ⌜ Sound layout × InputsInside t (3 * layout .w) (layout .cw) (length (now s)) ⌝ }
     requires { ⌜ (n + 2 ≤ layout .cw) × (layout .rh + n * layout .rh ≤ layout .w) × (dst ≤ layout .w) ⌝ }
     ensures { λ _. ⌜ now (s .exit) ≡ valueRun layout t dst (layout .rh) (n * layout .rh) (now (s .entry)) ⌝ }
 {
@@ -54,10 +62,10 @@ fn value_each(layout: Layout, s: &mut [f32], t: Bands, dst: usize, n: usize)
     }
 }
 
-// A component's value in column x at ratio 1, where each cell is a pixel: no edge is met.
-fn value_one(layout: Layout, s: &[f32], t: Bands, x: usize) -> f32
+// A component's value in column x at ratio 1, where each cell is a pixel and its fraction is 0: the right edge isn't met.
+fn value_one(layout: Layout, s: &[f32], t: ValueInputs, x: usize) -> f32
     requires { ⌜ (layout .rh ≡ 1) × (x + 1 < layout .cw) × (x < layout .w) ⌝ }
-    requires { ⌜ BandsInside t (3 * layout .w) (layout .cw) (length (now s)) ⌝ }
+    requires { ⌜ InputsInside t (3 * layout .w) (layout .cw) (length (now s)) ⌝ }
     ensures { λ r. ⌜ r ≡ valueAt layout (now (s .entry)) t x ⌝ }
 {
     let cells = t.cells;
@@ -73,9 +81,9 @@ fn value_one(layout: Layout, s: &[f32], t: Bands, x: usize) -> f32
     )
 }
 
-// Of n cells, from cell 1 on, at ratio 1.
-fn value_ones(layout: Layout, s: &mut [f32], t: Bands, dst: usize, n: usize)
-    requires { ⌜ Sound layout × BandsInside t (3 * layout .w) (layout .cw) (length (now s)) ⌝ }
+// A component's values in n cells, from cell 1 on, at ratio 1, where each cell is a pixel.
+fn value_ones(layout: Layout, s: &mut [f32], t: ValueInputs, dst: usize, n: usize)
+    requires { ⌜ Sound layout × InputsInside t (3 * layout .w) (layout .cw) (length (now s)) ⌝ }
     requires { ⌜ (layout .rh ≡ 1) × (n + 2 ≤ layout .cw) × (1 + n ≤ layout .w) × (dst ≤ layout .w) ⌝ }
     ensures { λ _. ⌜ now (s .exit) ≡ valueRun layout t dst 1 n (now (s .entry)) ⌝ }
 {
@@ -87,9 +95,9 @@ fn value_ones(layout: Layout, s: &mut [f32], t: Bands, dst: usize, n: usize)
     }
 }
 
-// Of n cells, from cell 1 on: a loop for each ratio.
-fn value_inner(layout: Layout, s: &mut [f32], t: Bands, dst: usize, n: usize)
-    requires { ⌜ Sound layout × BandsInside t (3 * layout .w) (layout .cw) (length (now s)) ⌝ }
+// A component's values in the pixels of n cells, from cell 1 on: the loops of ratios 1 and 2 are faster than the one of any ratio.
+fn value_inner(layout: Layout, s: &mut [f32], t: ValueInputs, dst: usize, n: usize)
+    requires { ⌜ Sound layout × InputsInside t (3 * layout .w) (layout .cw) (length (now s)) ⌝ }
     requires { ⌜ (n + 2 ≤ layout .cw) × (layout .rh + n * layout .rh ≤ layout .w) × (dst ≤ layout .w) ⌝ }
     ensures { λ _. ⌜ now (s .exit) ≡ valueRun layout t dst (layout .rh) (n * layout .rh) (now (s .entry)) ⌝ }
 {
@@ -104,9 +112,9 @@ fn value_inner(layout: Layout, s: &mut [f32], t: Bands, dst: usize, n: usize)
     value_each(layout, s, t, dst, n);
 }
 
-// Of all cells: the first, the inner ones, and the last with its pixels inside the picture.
-fn value_cells(layout: Layout, s: &mut [f32], t: Bands, dst: usize)
-    requires { ⌜ Sound layout × BandsInside t (3 * layout .w) (layout .cw) (length (now s)) ⌝ }
+// A component's values in all columns: those of the first cell, of the inner cells, and of the last cell inside the picture.
+fn value_cells(layout: Layout, s: &mut [f32], t: ValueInputs, dst: usize)
+    requires { ⌜ Sound layout × InputsInside t (3 * layout .w) (layout .cw) (length (now s)) ⌝ }
     requires { ⌜ dst ≤ layout .w ⌝ }
     ensures { λ _. ⌜ now (s .exit) ≡ valueRun layout t dst 0 (layout .w) (now (s .entry)) ⌝ }
 {
@@ -123,12 +131,12 @@ fn value_cells(layout: Layout, s: &mut [f32], t: Bands, dst: usize)
     value_run(layout, s, t, dst, m, w - m);
 }
 
-// Inner: a component's finished row, from its rows of cells, its extremes of chroma row j, and the detail.
+// Inner: a component's finished row from its rows of cells, its least and greatest samples of chroma row j, and the detail.
 pub fn value_row(layout: Layout, k: Chroma, j: usize, s: &mut [f32])
     requires { ⌜ Sound layout × (scratchNeed layout ≤ length (now s)) ⌝ }
     ensures { λ _. ⌜ now (s .exit) ≡ valueRow layout k j (now (s .entry)) ⌝ }
 {
-    let t = bands_of(layout, k, j);
+    let t = inputs_of(layout, k, j);
     let dst = finished_at(layout, k);
     value_cells(layout, s, t, dst);
 }

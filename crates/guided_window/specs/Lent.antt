@@ -11,19 +11,19 @@ use Rattle.image.specs.declared.chroma.Chroma.{Chroma}
 use Rattle.image.specs.declared.chroma.Chroma.the-variants.{Cb, Cr}
 use Rattle.image.specs.Picture.{Planes, shortPlane}
 
--- what is known of a layout and a chroma plane
+-- what is known of a layout and a chroma plane: the layout passed its tests, and the plane holds all cells
 pub record ChromaCells (l : Layout) (p : Plane) : Type 0 where
   pub sound : Sound l
   pub plane : shortPlane l (l .cw) (l .ch) p ≡ false
 
--- and of a layout and its planes, of which Cr is looked at only where both components are asked for
+-- what is known of a layout and its three planes: each holds its samples, Cr's where both components are asked for
 pub record Lent (l : Layout) (ps : Planes) (ks : Components) : Type 0 where
   pub sound : Sound l
   pub luma : shortPlane l (l .w) (l .h) (ps .y) ≡ false
   pub cb : shortPlane l (l .cw) (l .ch) (ps .cb) ≡ false
   pub cr : ks ≡ Both → shortPlane l (l .cw) (l .ch) (ps .cr) ≡ false
 
--- the components: Cb alone, or both
+-- the components that are asked for, in the order in which they are made
 abbrev pub componentsOf : Components → List Chroma
 componentsOf CbAlone = Cb ∷ []
 componentsOf Both = Cb ∷ Cr ∷ []

@@ -1,4 +1,4 @@
-// Where the row buffers lie in scratch.
+// Where the row buffers of the window lie in scratch.
 ghost use mathlib.Core.Path.{_≡_};
 ghost use Prim.Native.Nat.{_≤_, _<_};
 ghost use Rattle.image.specs.Tests.{Sound};
@@ -9,7 +9,7 @@ use crate::neighbours::prev;
 use image::Chroma;
 use image::Layout;
 
-// Where one row buffer of chroma rows r - 1, r and r + 1 begins, edges repeated.
+// Where one of the row buffers begins for chroma rows r - 1, r and r + 1, edges repeated.
 pub struct Window {
     pub up: usize,
     pub at: usize,
@@ -17,18 +17,20 @@ pub struct Window {
 }
 
 impl Window {
-    // The buffers of a slot, and those of the window: three slots, so that row r lies in slot r mod 3.
+    // The buffers of a slot, which holds one chroma row: three of luma and six of each component.
     pub const SLOT: usize = 15;
 
+    // The buffers of the window: three slots, so that row r lies in slot r mod 3.
     pub const BUFFERS: usize = 45;
 
-    // What stands before the buffers, in rows as wide as the picture: the finished rows of Cb and Cr, then the detail.
+    // The detail's place, in rows as wide as the picture: the finished rows of Cb and Cr stand before it.
     pub const DETAIL: usize = 2;
 
+    // How many rows as wide as the picture stand before the buffers: the two finished rows and the detail.
     pub const FRONT: usize = 3;
 }
 
-// The buffers of a slot that luma has, by number.
+// The buffers of a slot that are luma's, by their number in it.
 pub struct LumaBuffer;
 
 impl LumaBuffer {
@@ -39,7 +41,7 @@ impl LumaBuffer {
     pub const SQUARE_SUM: usize = 2;
 }
 
-// The buffers of a slot that a component has, counted from its first.
+// The buffers of a slot that are a component's, counted from its first, which `first_of` gives.
 pub struct ChromaBuffer;
 
 impl ChromaBuffer {
@@ -56,7 +58,8 @@ impl ChromaBuffer {
     pub const GREATEST: usize = 5;
 }
 
-// Inner: how far apart the row buffers of cw cells begin.
+// Inner: how far apart row buffers of cw cells begin. Rows of 256 cells and more have 48 values between them, so that they don't fall on
+// the same lines of a cache.
 pub fn pitch_of(cw: usize) -> usize
     requires { ⌜ cw ≤ 8192 ⌝ }
     ensures { λ r. ⌜ r ≡ pitch cw ⌝ }
@@ -64,7 +67,7 @@ pub fn pitch_of(cw: usize) -> usize
     if cw < 256 { cw } else { cw + 48 }
 }
 
-// Inner: the number of a component's first row buffer.
+// Inner: the number of a component's first row buffer in a slot: luma's three come first, then Cb's six, then Cr's.
 pub fn first_of(k: Chroma) -> usize
     ensures { λ r. ⌜ (r ≡ firstOf k) × (r ≤ 9) ⌝ }
 {
@@ -74,7 +77,7 @@ pub fn first_of(k: Chroma) -> usize
     }
 }
 
-// Inner: where buffer n of chroma row r begins.
+// Inner: where buffer n of chroma row r begins in scratch: the row lies in slot r mod 3.
 pub fn slot_at(layout: Layout, n: usize, r: usize) -> usize
     requires { ⌜ Sound layout × (n < 15) ⌝ }
     ensures { λ x. ⌜ SlotGiven layout n r x ⌝ }
@@ -82,7 +85,7 @@ pub fn slot_at(layout: Layout, n: usize, r: usize) -> usize
     Window::FRONT * layout.w + (r % 3 * Window::SLOT + n) * pitch_of(layout.cw)
 }
 
-// Inner: buffer n round chroma row j.
+// Inner: where buffer n begins for chroma row j and the rows above and below it, edges repeated.
 pub fn window_at(layout: Layout, n: usize, j: usize) -> Window
     requires { ⌜ Sound layout × (n < 15) × (j < layout .ch) ⌝ }
     ensures { λ t. ⌜ t ≡ windowOf layout n j ⌝ }

@@ -1,4 +1,7 @@
-// Where the row buffers of the guided window lie in scratch, the neighbours of a cell, and a plane's samples as floats.
+// The window of the original's `GuidedRows` (src/jpeg/resample.rs): three chroma rows that scratch holds, and the smallest steps over them.
+//
+// It gives where each row buffer begins, a cell's neighbours with edges repeated, and a plane's samples as floats. The whole of scratch
+// is laid out by guided's specs/Scratch, which `slot_at` follows; guided_across and guided_down fill the window, guided_pixels reads it.
 mod buffers;
 mod neighbours;
 mod samples;

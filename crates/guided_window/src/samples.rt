@@ -1,4 +1,4 @@
-// The samples of a plane as floats.
+// The samples of a plane, by row and column, as whole numbers and as floats.
 ghost use mathlib.Core.Path.{_≡_};
 ghost use mathlib.Core.Bool.{false};
 ghost use Prim.Native.Nat.{_<_};
@@ -25,7 +25,7 @@ pub fn whole_at(
     image::sample(plane, bytes, y * stride + x * bytes)
 }
 
-// Inner: the same as a float.
+// Inner: the sample in column x of row y of a plane of w columns and h rows, as a float. Samples have sixteen bits, so that none is rounded.
 pub fn sample_at(
     layout: Layout,
     plane: &[u8],

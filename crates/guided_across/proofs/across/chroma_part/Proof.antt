@@ -1,3 +1,5 @@
+-- Three rows are written one after another, each as its callee promises; `chroma-steps` takes the three to `chromaPart`.
+-- It wants luma's cells to lie before the component's buffers, since the products read them after two rows were stored: `behind`, by the order of the buffers.
 use Rattle.guided_across.proofs.ReadBack.{chroma-steps}
 use Rattle.guided.proofs.Places.{first-few, slot-order}
 use Rattle.guided_across.specs.Sums.{cellsAt, productsAt, threeRow}
@@ -16,7 +18,7 @@ row : (c : tie.Start) → c .args .j * c .args .stride + c .args .layout .cw * c
 row c = let l = c .args .layout in row-inside (short-holds l (l .cw) (l .ch) (planeOf (c .args .plane .now) (c .args .stride)) (c .pre .0 .plane)) (c .args .j) (omega arith)
 
 -- luma's cells lie before the component's buffers
-behind : (c : tie.After-slots-at) → c .before .before .slot-at .result + c .before .before .before .before .before .args .layout .cw ≤ c .slots-at .result .at
+behind : (c : tie.After-cell-buffers-at) → c .before .before .slot-at .result + c .before .before .before .before .before .args .layout .cw ≤ c .cell-buffers-at .result .at
 behind c =
     let a = c .before .before .before .before .before .args in
     let f = first-few (a .k) in
@@ -29,8 +31,8 @@ slot-at-requires c κs = search needs
 first-of-requires : tie.Need-first-of-requires
 first-of-requires c κs = search needs
 
-slots-at-requires : tie.Need-slots-at-requires
-slots-at-requires c κs = search needs
+cell-buffers-at-requires : tie.Need-cell-buffers-at-requires
+cell-buffers-at-requires c κs = search needs
 
 mul-load-row : tie.Need-mul-load-row
 mul-load-row c = let h = row (c .before .before .before .before .before) in omega arith
@@ -52,10 +54,10 @@ returns c =
     let a = c .before .before .before .before .before .before .before .before .before .before .before .before .before .before .before .before .before .args in
     let l = a .layout in
     let y = c .before .before .before .before .before .before .before .before .before .before .before .before .before .before .slot-at .result in
-    let t = c .before .before .before .before .before .before .before .before .before .before .before .before .slots-at .result in
+    let t = c .before .before .before .before .before .before .before .before .before .before .before .before .cell-buffers-at .result in
     c .before .before .product-sum-row .ensures
     ∙ ap (threeRow (productsAt y (t .at)) (l .cw) (t .products)) (c .before .before .before .before .before .before .sum-row .ensures ∙ ap (threeRow (cellsAt (t .at)) (l .cw) (t .sums)) (c .before .before .before .before .before .before .before .before .before .before .load-row .ensures))
-    ∙ chroma-steps l (planeOf (a .plane .now) (a .stride)) (a .k) (a .j) _ y t (a .s .now) (c .before .before .before .before .before .before .before .before .before .before .before .before .slots-at .ensures) (c .before .before .before .before .before .before .before .before .before .before .before .before .before .first-of .ensures .0) (c .before .before .before .before .before .before .before .before .before .before .before .before .before .before .slot-at .ensures .is) (behind (c .before .before .before .before .before .before .before .before .before .before .before .before)) (omega arith)
+    ∙ chroma-steps l (planeOf (a .plane .now) (a .stride)) (a .k) (a .j) _ y t (a .s .now) (c .before .before .before .before .before .before .before .before .before .before .before .before .cell-buffers-at .ensures) (c .before .before .before .before .before .before .before .before .before .before .before .before .before .first-of .ensures .0) (c .before .before .before .before .before .before .before .before .before .before .before .before .before .before .slot-at .ensures .is) (behind (c .before .before .before .before .before .before .before .before .before .before .before .before)) (omega arith)
 
 pub chroma-part-spec : {M : Type 1} → statement M
 chroma-part-spec =
@@ -63,7 +65,7 @@ chroma-part-spec =
     (tie.spec
     slot-at-requires
     first-of-requires
-    slots-at-requires
+    cell-buffers-at-requires
     mul-load-row
     load-row-requires
     sum-row-requires

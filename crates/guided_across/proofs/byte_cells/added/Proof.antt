@@ -1,3 +1,5 @@
+-- The loop's invariant is `Filled`: each of the first k numbers of v is the sum of those of a and b; `filled-more` is a turn.
+-- The contract's bound, asked for at the turn's own k, keeps the addition inside sixteen bits.
 use mathlib.Core.Path.{_≡_, refl}
 use Prim.Native.Nat.{_+_, _-_, _≤_}
 use native.Mathlib.Omega.{arith}

@@ -1,3 +1,5 @@
+-- The loop's invariant: s is s₀ with the first `done` means, as a `Run` from dst on; `block-more` is a turn of sixteen means.
+-- A block begins at the lesser of `done` and n - 16, so that it leaves no gap, ends within n, and writes again what it overlaps.
 use Prim.Native.Nat.{ℕ, _+_, _-_, _≤_}
 use native.Mathlib.Omega.{arith}
 use borrow.Author.Needs.{needs}

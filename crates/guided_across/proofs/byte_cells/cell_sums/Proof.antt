@@ -1,3 +1,5 @@
+-- Four returns, for one to four rows: `one` to `four` say that the numbers so far are `Sums` of as many rows, each from the one before by `sums-more`.
+-- `sums-all` makes the promise of it where m is that many. That no sum leaves sixteen bits is the bound inside `Sums`, 510 a row.
 use Prim.Native.Nat.{_+_, _*_}
 use native.Mathlib.Omega.{arith}
 use Rattle.guided_across.proofs.ByteBlocks.{Sums, sums-one, sums-more, sums-all}

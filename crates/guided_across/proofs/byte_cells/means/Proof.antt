@@ -1,3 +1,5 @@
+-- The loop's invariant: the first k numbers of v are the means, as a `Run` from place 0 on; `front-more` is a turn, `front-at` reads the sixteen back.
+-- `mean_of` wants a sum of 1,048,560 at most; the contract's 2,040 is asked for at the turn's own cell.
 use mathlib.Core.Path.{_≡_, refl}
 use Prim.Native.Nat.{_-_, _≤_}
 use native.Mathlib.Omega.{arith}

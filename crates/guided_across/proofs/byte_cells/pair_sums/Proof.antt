@@ -1,3 +1,5 @@
+-- The loop's invariant is `Filled`: each of the first k numbers of v is its pair's sum and at most 510, a bound that sums of rows need later.
+-- `filled-more` is a turn; `pair` adds the two bytes that `wide` handed on, with their bounds.
 use mathlib.Core.Path.{_≡_, refl}
 use Prim.Native.Nat.{ℕ, _+_, _-_, _≤_, _<_}
 use native.Mathlib.Omega.{arith}

@@ -1,3 +1,5 @@
+-- The cell's pixels are min(rh, w - i·rh) by min(rv, h - j·rv), as the definition counts them; `cell-is` takes both numbers and the sum to `lumaOf`.
+-- Beside it: the cell begins inside the picture (`begins`), and it has sixteen pixels at most (`few`), where products are compared.
 use Rattle.guided_across.proofs.Areas.{cell-is}
 use Rattle.image.proofs.Layouts.{Begins, begins}
 use native.Mathlib.Nat.{mul-le-mul}

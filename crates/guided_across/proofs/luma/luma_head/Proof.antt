@@ -1,3 +1,5 @@
+-- Four returns: three leave scratch as it was, a run of no cells (`luma-none`), and the last is `byte-cells`: a cell's pairs of bytes are its pixels.
+-- The work is in what `cell_run` asks: w / 2 cells are among the row's cells (`among`), and each of their rows ends within the plane (`row-inside`).
 use mathlib.Core.Path.{_≡_, sym, ap, _∙_}
 use Prim.Native.Nat.{ℕ, _+_, _*_, _/_, _≤_, _<_}
 use native.Mathlib.Omega.{arith}

@@ -1,3 +1,5 @@
+-- One store of three products. `three-is` is over whatever is summed, so that it serves products as it serves cells; `three-one` makes the store a run of one value.
+-- The six reads are inside s since both rows end before dst.
 use Rattle.guided_across.proofs.Threes.{three-is, three-one}
 use Rattle.guided_across.specs.Sums.{productsAt}
 use borrow.Author.Needs.{needs}

@@ -1,3 +1,5 @@
+-- Two returns, for samples of one byte and of two: `inner-are` takes the callee's run of nines to `extremeRun`, cells being one or two bytes apart.
+-- The work is in the bounds: the rows above, at and below j end within the plane (`inside`), and there is no third width (`two`).
 use mathlib.Core.Path.{_≡_, refl, ap, _∙_, sym}
 use Prim.Native.Nat.{ℕ, _+_, _-_, _*_, _≤_, _<_, min}
 use native.Mathlib.Omega.{arith}

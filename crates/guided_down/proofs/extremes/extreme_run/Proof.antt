@@ -1,3 +1,5 @@
+-- The loop's invariant: s is s₀ with the extremes round the first i of the cells from `from` on, as a `Run` from dst + from on; `run-more` is a turn.
+-- Its one step is `whole-is`: `extreme_at` gives the extreme of whole numbers, and the definition asks for that of floats.
 use mathlib.Core.Path.{sym, ap, _∙_}
 use Prim.Native.Nat.{_+_, _-_, _≤_}
 use native.Mathlib.Omega.{arith}

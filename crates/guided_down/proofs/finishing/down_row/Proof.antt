@@ -1,3 +1,5 @@
+-- Three rows are written one after another, each as its callee promises; `down-row-are` takes the three to `downRow` by the buffers' numbers.
+-- Nothing is read back between them: slopes are made first, from sums that lie elsewhere, and the extremes come from the plane.
 use mathlib.Core.Path.{ap, _∙_}
 use mathlib.Core.Bool.{true, false}
 use borrow.Author.Needs.{needs}

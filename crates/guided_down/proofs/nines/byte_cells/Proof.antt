@@ -1,3 +1,5 @@
+-- The loop's invariant: s is s₀ with the extremes round the first i cells, as a `Run` from dst on; `run-more` is a turn by what `byte_nine` promises.
+-- Only the plane is read, and cell i's bytes end i + 3 behind u, m and d, which is linear.
 use mathlib.Core.Path.{ap}
 use Prim.Native.Nat.{_+_, _-_, _≤_}
 use native.Mathlib.Omega.{arith}

@@ -1,3 +1,5 @@
+-- Fewer than sixteen cells are `byte_cells`'s promise. Otherwise the invariant is a `Run` of the first `done` extremes, and `block-more` is a turn of sixteen.
+-- A block begins at the lesser of `done` and n - 16, so that it leaves no gap, ends within n, and writes again what it overlaps.
 use Prim.Native.Nat.{_+_, _-_, _≤_}
 use native.Mathlib.Omega.{arith}
 use borrow.Author.Needs.{needs}

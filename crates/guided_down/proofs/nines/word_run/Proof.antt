@@ -1,3 +1,5 @@
+-- The loop's invariant: s is s₀ with the extremes round the first i cells, as a `Run` from dst on; `run-more` is a turn by what `word_nine` promises.
+-- Samples are two bytes apart, so that cell i's neighbours begin i * 2 bytes further on; a constant factor keeps the bounds linear.
 use mathlib.Core.Path.{ap}
 use Prim.Native.Nat.{_+_, _-_, _*_, _≤_}
 use native.Mathlib.Omega.{arith}

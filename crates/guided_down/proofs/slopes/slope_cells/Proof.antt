@@ -1,3 +1,5 @@
+-- Fewer than eight cells are `slope_run`'s promise. Otherwise the invariant is a `Run` of the first `done` slopes, and `block-more` is a turn of eight.
+-- A block is read while scratch holds slopes already: the row is clear of the sums, so that they are those of the beginning, and what a block overlaps is written alike.
 use Prim.Native.Nat.{_-_, _≤_}
 use native.Mathlib.Omega.{arith}
 use borrow.Author.Needs.{needs}

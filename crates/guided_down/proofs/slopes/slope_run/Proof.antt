@@ -1,3 +1,5 @@
+-- The loop's invariant: s is s₀ with the first i slopes, as a `Run` from dst on, each by the sums that s₀ held.
+-- A turn reads its sums from s and not from s₀: `slope-same` says that they are alike, the row of slopes being clear of them.
 use mathlib.Core.Path.{_∙_}
 use Prim.Native.Nat.{_-_, _≤_}
 use native.Mathlib.Omega.{arith}

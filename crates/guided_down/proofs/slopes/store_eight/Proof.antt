@@ -1,3 +1,5 @@
+-- The loop's invariant: s is s₀ with the first k numbers of v, as a `Run` from `at` on; `run-more` is a turn, `run-end` at eight the promise.
+-- v is an array by value, which no store changes, so that a turn's value is itself (`refl`).
 use mathlib.Core.Path.{refl}
 use Prim.Native.Nat.{_-_, _≤_}
 use lib.Ieee.{nan}

@@ -1,3 +1,5 @@
+-- The loop's invariant: s is s₀ with the first i lerps, as a `Run` from dst on, each of the cells that s₀ held.
+-- A turn reads s and not s₀: both rows of cells end before dst, so that `run-before` says that they are as at the beginning.
 use Rattle.image.specs.Scratch.{cellAt}
 use Rattle.taps.specs.Taps.{lerpOf}
 use Rattle.guided_pixels.specs.Columns.{lerpRun}

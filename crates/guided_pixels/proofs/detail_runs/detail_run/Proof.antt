@@ -1,3 +1,5 @@
+-- The loop's invariant: s is s₀ with the detail of the first i columns from `from` on, as a `Run` from dst + from on; `run-more` is a turn.
+-- A turn lerps the cells of s and not of s₀: `detail-is` asks that they be alike, which they are since the detail ends before them (`run-after`).
 use lib.Ieee.{nan}
 use Prim.Native.Nat.{_+_, _-_, _≤_}
 use Rattle.laws.proofs.Lists.{Run, run-none, run-more, run-end, run-after}

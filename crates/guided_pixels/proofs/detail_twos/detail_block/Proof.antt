@@ -1,3 +1,5 @@
+-- The loop's invariant: the first 2 * b numbers of the block are that many columns' detail, as a `Run` from place 0 on; `run-two` is a turn of two stores.
+-- `pair-turn` counts the pixels of cell i + b + 1 from the block's beginning. Scratch is only read here, so that no store changes what is lerped.
 use lib.Ieee.{nan}
 use native.Mathlib.Omega.{arith}
 use Rattle.guided_pixels.proofs.detail_twos.detail_block.Statement.{statement}

@@ -1,3 +1,5 @@
+-- Fewer than eight cells are `detail_run`'s promise. Otherwise the invariant is a `Run` of `done` cells' detail from column 2 on, and `lanes-more` is a turn.
+-- It wants stores to leave the detail still to come: that looks only at cells from src on (`detail-same`), and the row of detail ends before src.
 use Prim.Native.Nat.{_+_, _-_, _*_, _≤_}
 use native.Mathlib.Omega.{arith}
 use borrow.Author.Needs.{needs}

@@ -1,3 +1,5 @@
+-- The loop's invariant: s is s₀ with the detail of the cell's first k pixels, as a `Run` from dst + x on; `run-more` is a turn.
+-- The cell is lerped before the loop, so that no store is between: `detail-is` is used with s₀'s cells on both sides, and `cell_at` promises place k.
 use Prim.Native.Nat.{_+_, _-_, _≤_, _*_}
 use native.Mathlib.Omega.{arith}
 use Rattle.guided_pixels.proofs.details.detail_cell.Statement.{statement}

@@ -1,3 +1,5 @@
+-- The loop's invariant is `Each`: s is s₀ after the run of the first i cells' columns from cell 1 on; `each-more` is a turn, detail being rows by runs (`detail-runs`).
+-- The one step that isn't linear is that cell i + 1 ends inside the picture: `each-inside`.
 use Prim.Native.Nat.{_-_, _≤_}
 use native.Mathlib.Omega.{arith}
 use Rattle.guided_pixels.proofs.details.detail_each.Statement.{statement}

@@ -1,3 +1,5 @@
+-- The loop's invariant: s is s₀ with the detail of the first i columns from column 1 on, as a `Run` from dst + 1 on; `run-more` is a turn.
+-- `one-is` says that a lerp by 0 is what ratio 1 asks for, 0.0 being its fraction by the bits; `detail-is` carries it from the cells of s to those of s₀.
 use lib.Ieee.{ofBits, ofInt}
 use mathlib.Core.Path.{_∙_}
 use Prim.Native.Nat.{_+_, _-_, _≤_}

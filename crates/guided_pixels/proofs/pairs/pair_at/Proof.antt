@@ -1,3 +1,5 @@
+-- `pair-is` takes the two lerps to `pairOf`. The one step is that 3.0 / 4.0 and 1.0 / 4.0 are the definition's fractions, by the bits of their numbers.
+-- The three reads, of cells i, i + 1 and i + 2, are inside s by the contract.
 use lib.Ieee.{ofBits, ofInt}
 use Rattle.image.specs.Scratch.{cellAt}
 use Rattle.guided_pixels.proofs.Twos.{pair-is}

@@ -6,8 +6,8 @@ use Rattle.guided_pixels.specs.Row.{componentRow}
 use Rattle.guided_pixels.proofs.row.component.Statement.{statement}
 use Rattle.guided_pixels.proofs.row.component.Tie as tie
 
-downs-requires : tie.Need-downs-requires
-downs-requires c κs = search needs
+down-columns-requires : tie.Need-down-columns-requires
+down-columns-requires c κs = search needs
 
 div-value-row : tie.Need-div-value-row
 div-value-row c = search needs
@@ -22,8 +22,8 @@ returns : tie.Need-returns
 unfolding componentRow
 returns c =
     let a = c .before .before .before .before .before .before .before .before .before .before .args in
-    c .before .before .value-row .ensures ∙ ap (valueRow (a .layout) (a .k) (a .y / a .layout .rv)) (c .before .before .before .before .before .before .before .downs .ensures)
+    c .before .before .value-row .ensures ∙ ap (valueRow (a .layout) (a .k) (a .y / a .layout .rv)) (c .before .before .before .before .before .before .before .down-columns .ensures)
 
 pub component-spec : {M : Type 1} → statement M
 component-spec =
-    tie.close (tie.spec downs-requires div-value-row value-row-requires same-length returns)
+    tie.close (tie.spec down-columns-requires div-value-row value-row-requires same-length returns)

@@ -1,3 +1,5 @@
+-- `value-is` takes the two lerped numbers, the detail and the two limits to `valueOf`, in the order in which it is written.
+-- The one bound that isn't linear is that the pixel's own cell, x / rh, is one of the row's: `own-column`.
 use Prim.Native.Nat.{ℕ, _<_, _/_}
 use native.Mathlib.Omega.{arith}
 use borrow.Author.Needs.{needs}

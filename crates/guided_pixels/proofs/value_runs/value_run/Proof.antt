@@ -1,3 +1,5 @@
+-- The loop's invariant: s is s₀ with the values of the first i columns from `from` on, as a `Run` from dst + from on; `run-more` is a turn.
+-- A turn reads s and not s₀: `value-same` says that the value is the same, since a finished row ends before the detail and the cells.
 use borrow.Author.Needs.{needs}
 use mathlib.Core.Path.{_∙_}
 use Prim.Native.Nat.{_+_, _-_, _≤_}

@@ -1,3 +1,5 @@
+-- The loop's invariant: the first 2 * b numbers of the block are that many columns' values, as a `Run` from place 0 on; `run-two` is a turn of two stores.
+-- `pair-turn` counts the pixels of cell i + b + 1 from the block's beginning; `front-at` reads the sixteen back.
 use mathlib.Core.Path.{refl}
 use Prim.Native.Nat.{_+_, _-_, _*_, _≤_}
 use lib.Ieee.{nan}

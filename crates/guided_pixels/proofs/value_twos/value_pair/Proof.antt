@@ -1,3 +1,5 @@
+-- `value-left` and `value-right` say that the two values, by the lerped pairs, are the definition's in columns 2 + 2 * i and the next; `value-pair-is` makes the pair.
+-- The rest is that the four reads, two limits and two columns of detail, lie inside s.
 use Rattle.image.specs.Scratch.{cellAt}
 use Rattle.guided.specs.Scratch.{detailAt}
 use native.Mathlib.Omega.{arith}

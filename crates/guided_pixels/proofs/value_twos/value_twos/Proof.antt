@@ -1,3 +1,5 @@
+-- Fewer than eight cells are `value_run`'s promise. Otherwise the invariant is a `Run` of `done` cells' values from column 2 on, and `lanes-more` is a turn.
+-- It wants stores to leave the values: they look only at what lies from 2 * w on (`value-same`), and a finished row ends before.
 use Prim.Native.Nat.{_+_, _-_, _*_, _≤_}
 use native.Mathlib.Omega.{arith}
 use borrow.Author.Needs.{needs}

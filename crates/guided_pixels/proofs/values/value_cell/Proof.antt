@@ -1,3 +1,5 @@
+-- The loop's invariant: s is s₀ with the values of the cell's first k pixels, as a `Run` from dst + x on, by the lerped arrays and the detail that s₀ held.
+-- A turn reads the detail of s, which lies behind the finished rows (`run-after`); at the end `value-pixel` takes each value to the definition's.
 use mathlib.Core.Path.{_∙_}
 use Prim.Native.Nat.{ℕ, _+_, _-_, _*_, _≤_}
 use native.Mathlib.Omega.{arith}
@@ -10,7 +12,7 @@ use Rattle.image.specs.Scratch.{cellAt}
 use Rattle.guided.specs.Scratch.{detailAt}
 use Rattle.fround.specs.Rounding.{fmax, fmin}
 use borrow.Author.Needs.{needs}
-use Rattle.guided_pixels.proofs.Cells.{value-pixel}
+use Rattle.guided_pixels.proofs.CellValues.{value-pixel}
 use Rattle.guided_pixels.specs.Values.{valueAt, valueRun}
 use Rattle.guided_pixels.proofs.values.value_cell.Tie as tie
 

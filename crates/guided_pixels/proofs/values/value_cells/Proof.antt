@@ -1,3 +1,5 @@
+-- Two returns: a row of one cell is one run, and otherwise three runs (first cell, inner cells, the rest) are one by `runs-whole`.
+-- The one step that isn't linear is that all cells but the last end inside the picture: `room`.
 use mathlib.Core.Path.{ap, _∙_}
 use Prim.Native.Nat.{ℕ, _+_, _-_, _*_, _≤_}
 use native.Mathlib.Omega.{arith}

@@ -1,3 +1,5 @@
+-- The law `value-one` says that at ratio 1 the value by cells x and x + 1 with fraction 0 is the definition's; that 0.0 is its fraction is by the bits.
+-- The rest is that the seven reads lie inside s: two cells, two slopes, the detail and the two limits.
 use lib.Ieee.{ofBits, ofInt}
 use mathlib.Core.Path.{_∙_}
 use Prim.Native.Nat.{ℕ}
@@ -6,7 +8,7 @@ use Rattle.guided_pixels.proofs.values.value_one.Statement.{statement}
 use lib.Ieee.{Float}
 use Rattle.image.specs.Scratch.{cellAt}
 use Rattle.guided.specs.Scratch.{detailAt}
-use Rattle.guided_pixels.proofs.Cells.{value-one}
+use Rattle.guided_pixels.proofs.CellValues.{value-one}
 use Rattle.guided_pixels.specs.Values.{valueAt}
 use Rattle.guided_pixels.proofs.values.value_one.Tie as tie
 

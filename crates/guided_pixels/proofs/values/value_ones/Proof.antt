@@ -1,3 +1,5 @@
+-- The loop's invariant: s is s₀ with the values of the first i columns from column 1 on, as a `Run` from dst + 1 on; `run-more` is a turn.
+-- A turn reads s and not s₀: `value-same` says that the value is the same, since what was stored lies before the detail and the cells.
 use mathlib.Core.Path.{_∙_}
 use Prim.Native.Nat.{_+_, _-_, _≤_}
 use native.Mathlib.Omega.{arith}

@@ -1,8 +1,8 @@
 use Rattle.guided.specs.Scratch.{finishedAt}
 use mathlib.Core.Path.{refl}
 use borrow.Author.Needs.{needs}
-use Rattle.guided_pixels.proofs.bands.finished_at.Statement.{statement}
-use Rattle.guided_pixels.proofs.bands.finished_at.Tie as tie
+use Rattle.guided_pixels.proofs.value_inputs.finished_at.Statement.{statement}
+use Rattle.guided_pixels.proofs.value_inputs.finished_at.Tie as tie
 
 enum-told : tie.Need-enum-told
 enum-told c = search needs

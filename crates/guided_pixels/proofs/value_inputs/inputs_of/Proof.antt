@@ -1,7 +1,7 @@
 use borrow.Author.Needs.{needs}
-use Rattle.guided_pixels.proofs.bands.bands_of.Statement.{statement}
-use Rattle.guided_pixels.proofs.ValueRows.{bands-are}
-use Rattle.guided_pixels.proofs.bands.bands_of.Tie as tie
+use Rattle.guided_pixels.proofs.value_inputs.inputs_of.Statement.{statement}
+use Rattle.guided_pixels.proofs.ValueRows.{inputs-are}
+use Rattle.guided_pixels.proofs.value_inputs.inputs_of.Tie as tie
 
 column-of-requires : tie.Need-column-of-requires
 column-of-requires c κs = search needs
@@ -33,10 +33,10 @@ slot-at-requires-2 c κs = search needs
 returns : tie.Need-returns
 returns c =
     let a = c .before .before .before .before .before .before .args in
-    bands-are (a .layout) (a .k) (a .j) _ _ _ _ _ _ (c .before .before .before .before .before .column-of .ensures .0) (c .before .before .before .before .first-of .ensures .0) (c .before .before .before .column-at .ensures .is) (c .before .before .column-at2 .ensures .is) (c .before .slot-at .ensures .is) (c .slot-at2 .ensures .is)
+    inputs-are (a .layout) (a .k) (a .j) _ _ _ _ _ _ (c .before .before .before .before .before .column-of .ensures .0) (c .before .before .before .before .first-of .ensures .0) (c .before .before .before .column-at .ensures .is) (c .before .before .column-at2 .ensures .is) (c .before .slot-at .ensures .is) (c .slot-at2 .ensures .is)
 
-pub bands-of-spec : {M : Type 1} → statement M
-bands-of-spec =
+pub inputs-of-spec : {M : Type 1} → statement M
+inputs-of-spec =
     tie.close
     (tie.spec
     column-of-requires

@@ -1,10 +1,10 @@
 use Rattle.guided_pixels.specs.Columns.{downColumn}
-use Rattle.guided_pixels.proofs.RowSteps.{downs-are}
+use Rattle.guided_pixels.proofs.RowSteps.{down-columns-are}
 use mathlib.Core.Path.{ap, _∙_}
 use Prim.Native.Nat.{_+_}
 use borrow.Author.Needs.{needs}
-use Rattle.guided_pixels.proofs.row.downs.Statement.{statement}
-use Rattle.guided_pixels.proofs.row.downs.Tie as tie
+use Rattle.guided_pixels.proofs.row.down_columns.Statement.{statement}
+use Rattle.guided_pixels.proofs.row.down_columns.Tie as tie
 
 first-of-requires : tie.Need-first-of-requires
 first-of-requires c κs = search needs
@@ -32,10 +32,10 @@ returns c =
     let a = c .before .before .before .before .before .before .before .before .before .before .before .args in
     let n = c .before .before .before .before .before .before .before .before .before .first-of in
     let m = c .before .before .before .before .before .before .before .before .column-of in
-    c .before .before .down-column2 .ensures ∙ ap (downColumn (a .layout) (n .result + 3) (m .result + 1) (a .y)) (c .before .before .before .before .before .before .down-column .ensures) ∙ downs-are (a .layout) (a .k) (a .y) _ _ (a .s .now) (n .ensures .0) (m .ensures .0)
+    c .before .before .down-column2 .ensures ∙ ap (downColumn (a .layout) (n .result + 3) (m .result + 1) (a .y)) (c .before .before .before .before .before .before .down-column .ensures) ∙ down-columns-are (a .layout) (a .k) (a .y) _ _ (a .s .now) (n .ensures .0) (m .ensures .0)
 
-pub downs-spec : {M : Type 1} → statement M
-downs-spec =
+pub down-columns-spec : {M : Type 1} → statement M
+down-columns-spec =
     tie.close
     (tie.spec
     first-of-requires

@@ -1,23 +1,24 @@
-// Where a component's rows of cells and its finished row lie in scratch, and how a value is kept between two of them.
+// What a component's values are made of: where those rows lie in scratch, where the finished row goes, and how a value is limited.
 ghost use mathlib.Core.Path.{_≡_};
 ghost use Prim.Native.Nat.{_≤_};
 ghost use Rattle.image.specs.Tests.{Sound};
 ghost use Rattle.fround.specs.Rounding.{fmin, fmax};
 ghost use Rattle.guided.specs.Scratch.{finishedAt, columnOf};
-ghost use Rattle.guided_pixels.specs.Values.{bandsOf};
+ghost use Rattle.guided_pixels.specs.Values.{inputsOf};
 use guided_window::ChromaBuffer;
 use image::Chroma;
 use image::Layout;
 
-// Where a component's two rows of cells of a picture row begin, and its extremes of a chroma row.
-pub struct Bands {
+// Where the rows begin that a component's values are made of: its cells and slopes, lerped down for a picture row, and the least and
+// greatest samples of a chroma row.
+pub struct ValueInputs {
     pub cells: usize,
     pub slopes: usize,
     pub least: usize,
     pub greatest: usize,
 }
 
-// Inner: the number of a component's first row of cells.
+// Inner: the number of a component's first row of cells among those of a picture row: luma has number 0, a component two.
 pub fn column_of(k: Chroma) -> usize
     ensures { λ r. ⌜ (r ≡ columnOf k) × (r ≤ 3) ⌝ }
 {
@@ -27,7 +28,7 @@ pub fn column_of(k: Chroma) -> usize
     }
 }
 
-// Inner: where a component's finished row begins.
+// Inner: where a component's finished row begins in scratch: Cb's at its beginning, Cr's behind it.
 pub fn finished_at(layout: Layout, k: Chroma) -> usize
     ensures { λ r. ⌜ r ≡ finishedAt layout k ⌝ }
 {
@@ -37,14 +38,14 @@ pub fn finished_at(layout: Layout, k: Chroma) -> usize
     }
 }
 
-// Inner: where they begin, the extremes being those of chroma row j.
-pub fn bands_of(layout: Layout, k: Chroma, j: usize) -> Bands
+// Inner: where the rows begin that a component's values in the cells of chroma row j are made of.
+pub fn inputs_of(layout: Layout, k: Chroma, j: usize) -> ValueInputs
     requires { ⌜ Sound layout ⌝ }
-    ensures { λ t. ⌜ t ≡ bandsOf layout k j ⌝ }
+    ensures { λ t. ⌜ t ≡ inputsOf layout k j ⌝ }
 {
     let m = column_of(k);
     let n = guided_window::first_of(k);
-    Bands {
+    ValueInputs {
         cells: crate::columns::column_at(layout, m),
         slopes: crate::columns::column_at(layout, m + 1),
         least: guided_window::slot_at(layout, n + ChromaBuffer::LEAST, j),
@@ -52,7 +53,7 @@ pub fn bands_of(layout: Layout, k: Chroma, j: usize) -> Bands
     }
 }
 
-// Inner: a value raised to the least and lowered to the greatest.
+// Inner: a value "raised to the least and lowered to the greatest", in this order.
 pub fn limited(v: f32, least: f32, greatest: f32) -> f32
     ensures { λ r. ⌜ r ≡ fmin (fmax v least) greatest ⌝ }
 {

@@ -1,8 +1,8 @@
 use mathlib.Core.Path.{refl, _∙_}
 use borrow.Author.Needs.{needs}
-use Rattle.guided_pixels.proofs.bands.limited.Statement.{statement}
+use Rattle.guided_pixels.proofs.value_inputs.limited.Statement.{statement}
 use Rattle.laws.proofs.Differences.{limited}
-use Rattle.guided_pixels.proofs.bands.limited.Tie as tie
+use Rattle.guided_pixels.proofs.value_inputs.limited.Tie as tie
 
 fmax-requires : tie.Need-fmax-requires
 fmax-requires c κs = search needs

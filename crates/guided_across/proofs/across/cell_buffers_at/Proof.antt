@@ -2,8 +2,8 @@ use Rattle.guided.proofs.Places.{slot-order}
 use Prim.Native.Nat.{_+_}
 use native.Mathlib.Omega.{arith}
 use borrow.Author.Needs.{needs}
-use Rattle.guided_across.proofs.across.slots_at.Statement.{statement}
-use Rattle.guided_across.proofs.across.slots_at.Tie as tie
+use Rattle.guided_across.proofs.across.cell_buffers_at.Statement.{statement}
+use Rattle.guided_across.proofs.across.cell_buffers_at.Tie as tie
 
 slot-at-requires : tie.Need-slot-at-requires
 slot-at-requires c κs = search needs
@@ -27,8 +27,8 @@ returns c =
     let q = slot-order (a .layout) (a .n + 1) (a .n + 2) (a .j) (omega arith) in
     record { at = c .before .before .slot-at .ensures .is; sums = c .before .slot-at2 .ensures .is; products = c .slot-at3 .ensures .is; sums-behind = omega arith; products-behind = omega arith; fits = c .slot-at3 .ensures .fits }
 
-pub slots-at-spec : {M : Type 1} → statement M
-slots-at-spec =
+pub cell-buffers-at-spec : {M : Type 1} → statement M
+cell-buffers-at-spec =
     tie.close
     (tie.spec
     slot-at-requires
