@@ -5,7 +5,7 @@ use lib.IntN.{pos, negsuc}
 use Rattle.laws.specs.Differences.{floorDiv, limit, within}
 use Rattle.laws.specs.Refusals.{first}
 use Rattle.kernels.specs.declared.pixel.Pixel.the-variants.{Rgb, Refused}
-use Rattle.kernels.specs.T871.{rnd}
+use Rattle.kernels.specs.HalvesUp.{rnd}
 use Rattle.kernels.specs.Kernels.{centred, redOffset, greenOffset, blueOffset, exact255, offCentre, exactAt, fixedRed, fixedGreenCb, fixedGreenCr, fixedBlue, fixed255}
 use Rattle.kernels.specs.Pixels.{exactColour, exactTests, fixedTests, exactPixel, fixedPixel}
 

@@ -9,7 +9,7 @@ use lib.Dec.{lit<}
 use lib.IntN.{ℤ, pos, _+ℤ_}
 use Rattle.laws.specs.Differences.{Diff, limit}
 use Rattle.laws.proofs.Differences.{of-pos, move, plus, neg, minus, times, floored, limited, limited-floor, within-limits, unique, as-sum, from-sum}
-use Rattle.kernels.specs.T871.{rnd}
+use Rattle.kernels.specs.HalvesUp.{rnd}
 use Rattle.kernels.specs.Kernels.{centred, redOffset, greenOffset, blueOffset, exact255, offCentre, exactAt}
 use Rattle.kernels.specs.Forms.{chromaOffset, plusChroma, Biased, Suits, raised, chromaAt}
 
@@ -95,11 +95,11 @@ green-255 y b r hb hr = add-limited y (green-biased b r _ hb hr refl)
 
 -- ---- any maxval d: no bias, since a sum below 0 is limited to 0
 
-off-centre : (d c : ℕ) {h : ℕ} → h ≡ 256 * ((d + 1) / 2) → Diff (offCentre d c) c h
+pub off-centre : (d c : ℕ) {h : ℕ} → h ≡ 256 * ((d + 1) / 2) → Diff (offCentre d c) c h
 unfolding offCentre
 off-centre d c e = move _ _ (minus (of-pos c) (of-pos (256 * ((d + 1) / 2)))) (omega arith)
 
-limited-rnd : {z : ℤ} {a b : ℕ} (d n m q : ℕ) → q ≡ 2 * d → Diff z a b → 2 * a + d + m ≡ n + 2 * b → limit 255 (rnd z d) ≡ min ((n - m) / q) 255
+pub limited-rnd : {z : ℤ} {a b : ℕ} (d n m q : ℕ) → q ≡ 2 * d → Diff z a b → 2 * a + d + m ≡ n + 2 * b → limit 255 (rnd z d) ≡ min ((n - m) / q) 255
 unfolding rnd
 limited-rnd {a = a} {b = b} d n m q s h e = rw s (limited-floor 255 (2 * d) (move n m (plus (times 2 h) (of-pos d)) (omega arith)))
 

@@ -5,7 +5,7 @@ use Prim.Native.Nat.{ℕ, _+_, _-_, _*_, _<_, _≤_}
 use lib.IntN.{ℤ, pos, _+ℤ_, _*ℤ_}
 use Rattle.laws.specs.Differences.{floorDiv, limit}
 use Rattle.kernels.specs.declared.bytes.Rgb.{Rgb}
-use Rattle.kernels.specs.T871.{rnd}
+use Rattle.kernels.specs.HalvesUp.{rnd}
 use Rattle.kernels.specs.Kernels.{Colour, centred, offCentre, less128}
 
 -- three bytes as a colour

@@ -2,7 +2,7 @@
 use Prim.Native.Nat.{ℕ, _+_, _*_, _/_}
 use lib.IntN.{ℤ, pos, negℤ, _+ℤ_, _-ℤ_, _*ℤ_}
 use Rattle.laws.specs.Differences.{floorDiv, limit, within}
-use Rattle.kernels.specs.T871.{rnd}
+use Rattle.kernels.specs.HalvesUp.{rnd}
 
 -- a colour: red, green, blue
 pub record Colour : Type 0 where

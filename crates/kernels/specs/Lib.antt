@@ -1,4 +1,5 @@
-pub mod T871
+pub mod HalvesUp
 pub mod Kernels
+pub mod T871
 pub mod Pixels
 pub mod Forms

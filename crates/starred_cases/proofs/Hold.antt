@@ -10,7 +10,7 @@ use Rattle.upsample.specs.Triangular.{triangularSample}
 use Rattle.taps.specs.Taps.{spotAt, spotOf, tapOf, phaseOf}
 use Rattle.linear.specs.Linear.{linearSample, linearDown}
 use Rattle.taps.specs.Taps.{phasesOf, phaseAt}
-use Rattle.kernels.specs.T871.{rnd}
+use Rattle.kernels.specs.HalvesUp.{rnd}
 use Rattle.kernels.specs.Kernels.{centred, redOffset, greenOffset, blueOffset, exact255, offCentre, exactAt, fixedRed, fixedGreenCb, fixedGreenCr, fixedBlue, fixed255}
 use Rattle.kernels.specs.Pixels.{exactColour}
 use Rattle.starred_cases.specs.Starred.{starred, AllHold, none, also, Holds}
