@@ -16,7 +16,8 @@ use Rattle.fround.specs.Rounding.{roundClamped}
 use Rattle.image.specs.Scratch.{cellAt}
 use Rattle.kernels.specs.Kernels.{exact255, exactAt, fixed255}
 use Rattle.kernels.specs.Pixels.{exactColour}
-use Rattle.colour_rows.specs.Colours.{limit256, chroma256, wholeChroma, colourBy, rowColour}
+use Rattle.colour_rows.specs.Colours.{limit256, chroma256, wholeChroma, colourBy}
+use Rattle.colour_rows.specs.Inner.Colours.{rowColour}
 use Rattle.kernels.specs.declared.kernel.YcbcrKernel.{YcbcrKernel}
 use Rattle.kernels.specs.declared.kernel.YcbcrKernel.the-variants.{Exact, FixedPoint16}
 

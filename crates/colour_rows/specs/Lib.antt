@@ -1,3 +1,2 @@
 pub mod Colours
-pub mod Lent
-pub mod Gathered
+pub mod Inner

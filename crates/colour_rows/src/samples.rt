@@ -5,10 +5,11 @@ ghost use lib.ListN.{length, getD};
 ghost use lib.Ieee.{nan};
 ghost use Rattle.laws.specs.Floats.{f32, _⊗_};
 ghost use Rattle.image.specs.Samples.{sampleOf, sampleAt, planeOf};
-ghost use Rattle.fround.specs.Rounding.{roundClamped, Rounded};
+ghost use Rattle.fround.specs.Rounding.{roundClamped};
+ghost use Rattle.fround.specs.Inner.Rounding.{Rounded};
 ghost use Rattle.image.specs.Scratch.{cellAt};
-ghost use Rattle.kernel_blocks.specs.Floating.{Centred};
-ghost use Rattle.colour_rows.specs.Gathered.{LumaRow, Sixteen};
+ghost use Rattle.kernel_blocks.specs.Inner.Floating.{Centred};
+ghost use Rattle.colour_rows.specs.Inner.Gathered.{LumaRow, Sixteen};
 use image::Layout;
 use kernel_blocks::Block;
 

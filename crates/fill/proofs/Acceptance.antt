@@ -13,7 +13,7 @@ use Rattle.image.proofs.Layouts.{neither, sound}
 use Rattle.image.specs.Scratch.{scratchNeed}
 use Rattle.fill.specs.Tests.{FillCall, isFixed, fillTests}
 use Rattle.fill.proofs.Later.{sized, laterTests}
-use Rattle.fill.specs.Steps.{FillLent}
+use Rattle.fill.specs.Inner.Steps.{FillLent}
 
 pub ready : (c : FillCall) → first (fillTests c) ≡ Accepted → FillLent (c .layout) (c .planes) (c .size) (length (c .scratch)) (length (c .out))
 unfolding fillTests badPlanes

@@ -16,11 +16,11 @@ use Rattle.laws.proofs.Refusals.{accepted-is}
 use Rattle.laws.proofs.Rows.{row-fits}
 use Rattle.image.specs.Picture.{pictureOf}
 use Rattle.kernels.specs.Kernels.{Colour}
-use Rattle.kernel_blocks.specs.Stores.{channel}
+use Rattle.kernel_blocks.specs.Inner.Stores.{channel}
 use Rattle.kernel_blocks.proofs.Puts.{length-pixels, pixels-other, before, after, pixels-channel}
 use Rattle.fill.specs.Tests.{FillCall}
 use Rattle.fill.specs.Fill.{FillGiven, fillColour, pixelRows}
-use Rattle.fill.specs.Steps.{FillLent}
+use Rattle.fill.specs.Inner.Steps.{FillLent}
 use Rattle.fill.proofs.Acceptance.{ready}
 
 module _ (w size : ℕ) (f : ℕ → ℕ → Colour) (a : ℕ) (out : List ℕ) where

@@ -11,13 +11,14 @@ use lib.ListN.{length}
 use lib.Ieee.{Float, nan}
 use Rattle.laws.proofs.Lists.{put-before}
 use Rattle.image.specs.declared.layout.Layout.{Layout}
-use Rattle.image.specs.Tests.{Sound}
+use Rattle.image.specs.Inner.Tests.{Sound}
 use Rattle.image.specs.Samples.{sampleAt}
 use Rattle.image.specs.declared.chroma.Chroma.{Chroma}
 use Rattle.image.specs.declared.chroma.Chroma.the-variants.{Cb, Cr}
 use Rattle.image.specs.Picture.{Planes, chromaPlane, inside, pictureOf}
 use Rattle.image.proofs.Pictures.{inside-is}
-use Rattle.taps.specs.Taps.{tapOf, TapGiven}
+use Rattle.taps.specs.Taps.{tapOf}
+use Rattle.taps.specs.Inner.Taps.{TapGiven}
 use Rattle.linear.specs.Linear.{linearDown, linearSample, linearRow}
 use Rattle.image.specs.Scratch.{scratchNeed, cellAt}
 use Rattle.taps.proofs.Spots.{tap-given}
@@ -29,7 +30,7 @@ use Rattle.guided_rows.proofs.GuidedRows.{length-step, rows-finished}
 use Rattle.fill.specs.declared.options.ChromaUpsampling.{ChromaUpsampling}
 use Rattle.fill.specs.declared.options.ChromaUpsampling.the-variants.{Linear, LumaGuided}
 use Rattle.fill.specs.Fill.{chromaBy, linearPair, linearRows, fillScratch}
-use Rattle.fill.specs.Steps.{fillStep}
+use Rattle.fill.specs.Inner.Steps.{fillStep}
 
 -- ---- linear: a sample's cells lie inside the plane, so that the picture gives the same as the plane
 

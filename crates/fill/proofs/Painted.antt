@@ -11,7 +11,7 @@ use lib.ListN.{length}
 use lib.Ieee.{Float}
 use Rattle.laws.proofs.Rows.{row-fits}
 use Rattle.image.specs.declared.layout.Layout.{Layout}
-use Rattle.image.specs.Tests.{Sound}
+use Rattle.image.specs.Inner.Tests.{Sound}
 use Rattle.image.specs.Samples.{sampleAt}
 use Rattle.image.specs.declared.chroma.Chroma.the-variants.{Cb, Cr}
 use Rattle.image.specs.Picture.{Planes, pictureOf}
@@ -22,10 +22,10 @@ use Rattle.kernels.specs.Kernels.{Colour}
 use Rattle.kernel_blocks.specs.Stores.{pixels}
 use Rattle.kernel_blocks.proofs.Puts.{length-pixels, pixels-same}
 use Rattle.kernels.specs.declared.kernel.YcbcrKernel.{YcbcrKernel}
-use Rattle.colour_rows.specs.Colours.{rowColour, colourRow}
+use Rattle.colour_rows.specs.Inner.Colours.{rowColour, colourRow}
 use Rattle.fill.specs.declared.options.ChromaUpsampling.{ChromaUpsampling}
 use Rattle.fill.specs.Fill.{fillColour, pixelRows}
-use Rattle.fill.specs.Steps.{fillStep, FillLent}
+use Rattle.fill.specs.Inner.Steps.{fillStep, FillLent}
 use Rattle.fill.proofs.Chroma.{Scratched, chroma-is}
 
 -- a row of out is no product that wraps, and fits out: it has at most 8,192·4 bytes, and begins at no more than 8,192 times that

@@ -1,3 +1,3 @@
 pub mod Fill
-pub mod Steps
 pub mod Tests
+pub mod Inner

@@ -17,7 +17,8 @@ use Rattle.laws.specs.Rounding.{halfUp}
 use Rattle.laws.proofs.Halves.{up-whole, up-mono}
 use Rattle.laws.proofs.Order.{lt-le, le-self, not-nan-left, not-nan-right, le-cross, le-negative}
 use Rattle.laws.proofs.Values.{whole-value}
-use Rattle.fround.specs.Rounding.{fmin, fmax, roundClamped, sameFloat, Rounded}
+use Rattle.fround.specs.Rounding.{fmin, fmax, roundClamped, sameFloat}
+use Rattle.fround.specs.Inner.Rounding.{Rounded}
 
 min-left : (a b : ℕ) → min a b ≤ a
 min-left a b = omega arith

@@ -15,7 +15,8 @@ use Rattle.laws.specs.Floats.{f32}
 use Rattle.laws.specs.Rounding.{halfUp}
 use Rattle.laws.proofs.Halves.{up-le, up-ge, up-whole}
 use Rattle.laws.proofs.Values.{whole-value}
-use Rattle.fround.specs.Rounding.{origin, fmax, clamped, roundClamped}
+use Rattle.fround.specs.Rounding.{fmax, roundClamped}
+use Rattle.fround.specs.Inner.Rounding.{origin, clamped}
 
 min-l : (a b : ℕ) → a ≤ b → min a b ≡ a
 min-l a b h = omega arith

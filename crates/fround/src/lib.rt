@@ -7,7 +7,8 @@ ghost use mathlib.Core.Path.{_≡_};
 ghost use Prim.Native.Nat.{_≤_, min};
 ghost use lib.Ieee.{add, binary32};
 ghost use Rattle.laws.specs.Floats.{f32, _⊖_, _⊗_};
-ghost use Rattle.fround.specs.Rounding.{fmin, fmax, clamped, roundClamped, sameFloat, Rounded};
+ghost use Rattle.fround.specs.Rounding.{fmin, fmax, roundClamped, sameFloat};
+ghost use Rattle.fround.specs.Inner.Rounding.{clamped, Rounded};
 
 // The constants of the roundings.
 pub struct Rounding;

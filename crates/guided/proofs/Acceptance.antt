@@ -13,7 +13,8 @@ use borrow.Author.Tests.{ltb-false, leb-false, eqb-true, not-false}
 use Rattle.laws.specs.declared.answers.Answer.{Answer}
 use Rattle.laws.specs.Refusals.{Test, first, accepted}
 use Rattle.laws.proofs.Refusals.{Failed, accepted-failed, accepted-is, failed-both}
-use Rattle.image.specs.Tests.{layoutTests, Sound}
+use Rattle.image.specs.Tests.{layoutTests}
+use Rattle.image.specs.Inner.Tests.{Sound}
 use Rattle.image.specs.Picture.{badPlanes}
 use Rattle.image.proofs.Layouts.{neither, sound, sound-answer}
 use Rattle.image.specs.Scratch.{scratchNeed}

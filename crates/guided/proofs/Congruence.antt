@@ -7,7 +7,7 @@ use native.Mathlib.Omega.{arith}
 use lib.Ieee.{Float}
 use Rattle.laws.specs.Floats.{_⊕_}
 use Rattle.image.specs.declared.layout.Layout.{Layout}
-use Rattle.image.specs.Tests.{Sound}
+use Rattle.image.specs.Inner.Tests.{Sound}
 use Rattle.image.specs.declared.chroma.Chroma.{Chroma}
 use Rattle.taps.specs.Taps.{tapOf}
 use Rattle.guided.specs.Guided.{three, Across, LumaSum, SquareSum, CellSum, ProductSum, mean, slopeOf, downTo, acrossTo, detailOf, valueOf}

@@ -7,7 +7,7 @@ use native.Mathlib.Nat.{mul-add-div-right, div-eq-of-lt, add-zero}
 use native.Mathlib.Omega.{arith}
 use lib.Ieee.{Float}
 use Rattle.laws.specs.Floats.{f32, _⊕_, _⊗_}
-use Rattle.image.specs.Tests.{Sound}
+use Rattle.image.specs.Inner.Tests.{Sound}
 use Rattle.image.specs.declared.chroma.Chroma.{Chroma}
 use Rattle.image.specs.Picture.{Picture}
 use Rattle.fround.specs.Rounding.{fmin, fmax}

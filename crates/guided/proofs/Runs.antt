@@ -14,7 +14,7 @@ use Rattle.laws.specs.Refusals.{accepted}
 use Rattle.laws.specs.Lists.{put}
 use Rattle.laws.proofs.Lists.{take-put, table-same}
 use Rattle.image.specs.declared.layout.Layout.{Layout}
-use Rattle.image.specs.Tests.{Sound}
+use Rattle.image.specs.Inner.Tests.{Sound}
 use Rattle.image.specs.Samples.{sampleAt}
 use Rattle.image.specs.declared.chroma.Chroma.{Chroma}
 use Rattle.image.specs.declared.chroma.Chroma.the-variants.{Cb, Cr}

@@ -7,7 +7,7 @@ use native.Mathlib.Nat.{div-one, mul-le-mul-right}
 use native.Mathlib.Omega.{arith}
 use lib.Ieee.Nearest.{div-mono}
 use Rattle.image.specs.declared.layout.Layout.{Layout}
-use Rattle.image.specs.Tests.{Sound}
+use Rattle.image.specs.Inner.Tests.{Sound}
 use Rattle.image.proofs.Quotients.{cell-inside}
 use Rattle.taps.specs.Taps.{tapOf}
 use Rattle.taps.proofs.Spots.{spot-around, spot-beside, spot-inside, spot-ordered}

@@ -15,8 +15,8 @@ use Rattle.image.specs.Picture.{inside}
 use Rattle.image.proofs.Planes.{short-holds, sample-inside}
 use Rattle.image.proofs.Pictures.{inside-is}
 use Rattle.guided.specs.Guided.{sumTo, lumaOf}
-use Rattle.guided_across.specs.Luma.{LumaPixels, rowSum, cellSum, lumaRun, lumaRow}
-use Rattle.guided_across.specs.ByteCells.{cellMean, cellRun}
+use Rattle.guided_across.specs.Inner.Luma.{LumaPixels, rowSum, cellSum, lumaRun, lumaRow}
+use Rattle.guided_across.specs.Inner.ByteCells.{cellMean, cellRun}
 use Rattle.guided_across.proofs.SumsTo.{sum-same}
 use Rattle.laws.proofs.Counts.{plus-none, none-plus, part-rest}
 

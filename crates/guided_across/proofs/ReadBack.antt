@@ -20,12 +20,12 @@ use Rattle.image.proofs.Pictures.{inside-is}
 use Rattle.image.specs.Scratch.{scratchNeed, cellAt}
 use Rattle.guided.specs.Guided.{three, lumaOf, cellLuma, cellOf, acrossVal}
 use Rattle.guided.specs.Scratch.{slotAt, firstOf, chromaParts, parts, acrossOver, horizontal}
-use Rattle.guided_across.specs.Sums.{loadRun, cellsAt, productsAt, threeRow}
-use Rattle.guided_across.specs.Luma.{lumaRow}
+use Rattle.guided_across.specs.Inner.Sums.{loadRun, cellsAt, productsAt, threeRow}
+use Rattle.guided_across.specs.Inner.Luma.{lumaRow}
 use Rattle.guided_across.specs.declared.across.CellBuffers.{CellBuffers}
-use Rattle.guided_across.specs.Parts.{CellBuffersGiven, statRows, lumaPart, chromaPart}
+use Rattle.guided_across.specs.Inner.Parts.{CellBuffersGiven, statRows, lumaPart, chromaPart}
 use Rattle.image.specs.declared.chroma.Components.the-variants.{CbAlone, Both}
-use Rattle.guided_window.specs.Lent.{componentsOf}
+use Rattle.guided_window.specs.Inner.Lent.{componentsOf}
 use Rattle.guided_across.proofs.Threes.{three-same}
 use Rattle.guided_across.proofs.Areas.{luma-inside}
 use Rattle.guided.proofs.Places.{slot-fits, slot-order}

@@ -10,7 +10,7 @@ use Rattle.laws.specs.Floats.{_⊕_}
 use Rattle.laws.specs.Lists.{put}
 use Rattle.laws.proofs.Lists.{put-same, put-before, put-chain, Run, run-more, run-before}
 use Rattle.guided.specs.Guided.{three}
-use Rattle.guided_across.specs.Sums.{cellsAt, productsAt, threeRun, threeRow}
+use Rattle.guided_across.specs.Inner.Sums.{cellsAt, productsAt, threeRun, threeRow}
 use Rattle.laws.proofs.Counts.{plus-none, none-plus, plus-plus}
 
 -- a value by its own three cells

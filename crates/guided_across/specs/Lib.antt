@@ -1,4 +1,1 @@
-pub mod Parts
-pub mod ByteCells
-pub mod Sums
-pub mod Luma
+pub mod Inner

@@ -2,14 +2,14 @@
 ghost use mathlib.Core.Path.{_≡_};
 ghost use Prim.Native.Nat.{_≤_, _<_};
 ghost use lib.ListN.{length};
-ghost use Rattle.image.specs.Tests.{Sound};
+ghost use Rattle.image.specs.Inner.Tests.{Sound};
 ghost use Rattle.image.specs.Samples.{sampleAt, planeOf};
 ghost use Rattle.image.specs.Picture.{Planes, pictureOf, planesOf};
 ghost use Rattle.image.specs.Scratch.{scratchNeed};
 ghost use Rattle.guided.specs.Scratch.{horizontal};
-ghost use Rattle.guided_across.specs.Luma.{LumaPixels};
-ghost use Rattle.guided_window.specs.Lent.{ChromaCells, Lent, componentsOf};
-ghost use Rattle.guided_across.specs.Parts.{CellBuffersGiven, lumaPart, chromaPart};
+ghost use Rattle.guided_across.specs.Inner.Luma.{LumaPixels};
+ghost use Rattle.guided_window.specs.Inner.Lent.{ChromaCells, Lent, componentsOf};
+ghost use Rattle.guided_across.specs.Inner.Parts.{CellBuffersGiven, lumaPart, chromaPart};
 use crate::luma::luma_row;
 use crate::sums::load_row;
 use crate::sums::product_sum_row;

@@ -4,7 +4,7 @@ ghost use Prim.Native.Nat.{ℕ, _+_, _*_, _≤_, _<_};
 ghost use lib.Ieee.{nan};
 ghost use lib.ListN.{length, getD};
 ghost use Rattle.laws.specs.Floats.{f32, _⊘_};
-ghost use Rattle.guided_across.specs.ByteCells.{pairSum, pairsSum, cellRun};
+ghost use Rattle.guided_across.specs.Inner.ByteCells.{pairSum, pairsSum, cellRun};
 use lanes::Lanes;
 use lanes::put_block;
 

@@ -4,7 +4,7 @@ ghost use Prim.Native.Nat.{_+_, _*_, _≤_, _<_};
 ghost use lib.ListN.{length};
 ghost use Rattle.image.specs.Samples.{sampleAt, planeOf};
 ghost use Rattle.guided.specs.Guided.{lumaOf};
-ghost use Rattle.guided_across.specs.Luma.{LumaPixels, rowSum, cellSum, lumaRun, lumaRow};
+ghost use Rattle.guided_across.specs.Inner.Luma.{LumaPixels, rowSum, cellSum, lumaRun, lumaRow};
 use crate::byte_cells::cell_run;
 use crate::byte_cells::mean_of;
 use image::Layout;

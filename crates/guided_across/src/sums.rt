@@ -5,7 +5,7 @@ ghost use mathlib.Core.Path.{_≡_};
 ghost use Prim.Native.Nat.{_+_, _-_, _*_, _≤_, _<_};
 ghost use lib.ListN.{length};
 ghost use Rattle.laws.specs.Floats.{_⊕_};
-ghost use Rattle.guided_across.specs.Sums.{loadRun, cellsAt, productsAt, threeRun, threeRow};
+ghost use Rattle.guided_across.specs.Inner.Sums.{loadRun, cellsAt, productsAt, threeRun, threeRow};
 use guided_window::next;
 use guided_window::prev;
 

@@ -4,8 +4,8 @@ use native.Mathlib.Omega.{arith}
 use Rattle.image.specs.declared.layout.Layout.{Layout}
 use Rattle.image.specs.Scratch.{scratchNeed}
 use Rattle.guided.specs.Scratch.{slotAt}
-use Rattle.guided_window.specs.Buffers.{windowOf}
-use Rattle.guided_down.specs.Slopes.{Apart, Inside, ClearOf}
+use Rattle.guided_window.specs.Inner.Buffers.{windowOf}
+use Rattle.guided_down.specs.Inner.Slopes.{Apart, Inside, ClearOf}
 use Rattle.guided.proofs.Places.{slot-fits, slots-disjoint}
 
 -- buffers of different numbers have no cell in common, in whichever rows

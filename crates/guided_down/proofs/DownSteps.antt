@@ -17,9 +17,9 @@ use Rattle.fround.specs.Rounding.{fmin, fmax}
 use Rattle.guided.specs.Guided.{extremeOf, extreme}
 use Rattle.guided.specs.Scratch.{slotAt, firstOf, Slope, Least, Greatest, numDown, downParts, downOf, downOver, finish}
 use Rattle.guided_across.proofs.Threes.{three-same}
-use Rattle.guided_down.specs.Extremes.{extremeRow}
-use Rattle.guided_down.specs.Slopes.{slopeRow}
-use Rattle.guided_down.specs.Down.{downRow}
+use Rattle.guided_down.specs.Inner.Extremes.{extremeRow}
+use Rattle.guided_down.specs.Inner.Slopes.{slopeRow}
+use Rattle.guided_down.specs.Inner.Down.{downRow}
 
 -- what is made down, by where it goes
 pub down-row-are : (l : Layout) (p : Plane) (k : Chroma) (j n a b : ℕ) (s : List Float) → n ≡ firstOf k → a ≡ slotAt l (n + 4) j → b ≡ slotAt l (n + 5) j → extremeRow l p true j b (extremeRow l p false j a (slopeRow l k j s)) ≡ downRow l p k j s

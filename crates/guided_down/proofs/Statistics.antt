@@ -12,13 +12,13 @@ use Rattle.laws.proofs.Lists.{Run, run-before, run-after, run-over, put-same}
 use Rattle.image.specs.Scratch.{cellAt, scratchNeed}
 use Rattle.guided_window.specs.declared.buffers.Window.{Window}
 use Rattle.guided_down.specs.declared.slopes.Stats.{Stats}
-use Rattle.guided_down.specs.Slopes.{slopeBy, meanAt, slopeAt, slopeRun, Inside, AllInside, Apart, ClearOf, Clear, statsOf, slopeRow}
+use Rattle.guided_down.specs.Inner.Slopes.{slopeBy, meanAt, slopeAt, slopeRun, Inside, AllInside, Apart, ClearOf, Clear, statsOf, slopeRow}
 use lib.Dec.{lit<}
 use Rattle.image.specs.declared.layout.Layout.{Layout}
 use Rattle.image.specs.declared.chroma.Chroma.{Chroma}
 use Rattle.guided.specs.Guided.{three, mean, slopeOf, epsilon}
 use Rattle.guided.specs.Scratch.{slotAt, firstOf, Slope, numDown, readAcross}
-use Rattle.guided_window.specs.Buffers.{windowOf}
+use Rattle.guided_window.specs.Inner.Buffers.{windowOf}
 use Rattle.guided.proofs.Places.{first-few, slot-fits}
 use Rattle.guided_down.proofs.Buffers.{window-inside, window-clear}
 

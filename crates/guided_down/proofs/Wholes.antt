@@ -16,8 +16,8 @@ use Rattle.image.proofs.Pictures.{sample-small}
 use Rattle.guided.specs.Guided.{extremeOf}
 use Rattle.guided.specs.Events.{threeN}
 use Rattle.guided.proofs.Extremes.{least-of, greatest-of}
-use Rattle.guided_down.specs.Extremes.{opOf, extremeRun, extremeRow, wholeExtreme}
-use Rattle.guided_down.specs.Nines.{wholeOp, threeFrom, nineFrom}
+use Rattle.guided_down.specs.Inner.Extremes.{opOf, extremeRun, extremeRow, wholeExtreme}
+use Rattle.guided_down.specs.Inner.Nines.{wholeOp, threeFrom, nineFrom}
 use Rattle.laws.proofs.Counts.{plus-plus}
 
 -- the nine samples round a cell, as floats and as numbers

@@ -1,4 +1,1 @@
-pub mod Down
-pub mod Nines
-pub mod Extremes
-pub mod Slopes
+pub mod Inner

@@ -7,7 +7,7 @@ ghost use Prim.Native.Nat.{ℕ, _+_, _*_, _≤_, _<_};
 ghost use lib.ListN.{length, getD};
 ghost use Rattle.laws.specs.Floats.{f32};
 ghost use Rattle.laws.specs.Lists.{put};
-ghost use Rattle.guided_down.specs.Nines.{wholeOp, threeFrom, nineFrom};
+ghost use Rattle.guided_down.specs.Inner.Nines.{wholeOp, threeFrom, nineFrom};
 
 // The cells of a chroma row, as these loops take them.
 pub struct Cells;

@@ -11,18 +11,18 @@ use Rattle.laws.specs.Lists.{put}
 use Rattle.laws.proofs.Lists.{put-same}
 use Rattle.laws.proofs.Counts.{none-plus, plus-none}
 use Rattle.image.specs.declared.layout.Layout.{Layout}
-use Rattle.image.specs.Tests.{Sound}
+use Rattle.image.specs.Inner.Tests.{Sound}
 use Rattle.image.specs.Samples.{Plane, sampleAt}
 use Rattle.image.specs.Scratch.{cellAt, scratchNeed}
 use Rattle.guided.specs.Guided.{acrossTo, detailOf}
 use Rattle.guided.specs.Scratch.{detailAt, columnAt}
 use Rattle.guided.proofs.Places.{column-behind}
 use Rattle.guided_pixels.specs.declared.pairs.Pair.{Pair}
-use Rattle.guided_pixels.specs.Columns.{ColumnGiven}
+use Rattle.guided_pixels.specs.Inner.Columns.{ColumnGiven}
 use Rattle.guided_pixels.proofs.Lerps.{across-same}
 use Rattle.guided_pixels.proofs.Phases.{Runs}
 use Rattle.guided_pixels.proofs.Twos.{row-chain}
-use Rattle.guided_pixels.specs.Pixels.{detailRun, detailLine, detailIn, detailPair}
+use Rattle.guided_pixels.specs.Inner.Pixels.{detailRun, detailLine, detailIn, detailPair}
 
 -- the detail of a pixel, from a row of cells like the one asked for
 pub detail-is : (l : Layout) → Sound l → (g h : ℕ → Float) (x : ℕ) (luma a u : Float) → x < l .w → ((k : ℕ) → k < l .cw → g k ≡ h k) → a ≡ luma → u ≡ acrossTo l g x → a ⊖ u ≡ detailOf l h luma x

@@ -12,7 +12,7 @@ use Rattle.image.specs.Scratch.{cellAt, scratchNeed}
 use Rattle.guided.specs.Guided.{downTo}
 use Rattle.guided.specs.Scratch.{slotAt, columnAt}
 use Rattle.guided.proofs.Places.{slot-column}
-use Rattle.guided_pixels.specs.Columns.{lerpRun, ColumnGiven, downColumn}
+use Rattle.guided_pixels.specs.Inner.Columns.{lerpRun, ColumnGiven, downColumn}
 
 -- by the row's tap, from the places of its two rows
 pub column-is : (l : Layout) (n m y : ℕ) (t : Tap) (a b dst : ℕ) (s : List Float) → t ≡ tapOf (l .rv) (l .ch) y → a ≡ slotAt l n (t .i0) → b ≡ slotAt l n (t .i1) → dst ≡ columnAt l m

@@ -4,13 +4,13 @@ use Prim.Native.Nat.{ℕ, _+_, _-_, _/_, _%_, _<_, min}
 use native.Mathlib.Omega.{arith}
 use lib.Ieee.{Float}
 use Rattle.image.specs.declared.layout.Layout.{Layout}
-use Rattle.image.specs.Tests.{Sound}
+use Rattle.image.specs.Inner.Tests.{Sound}
 use Rattle.image.specs.Samples.{Plane}
 use Rattle.taps.specs.declared.phases.Phase.{Phase}
 use Rattle.taps.specs.Taps.{phaseOf}
 use Rattle.guided.specs.Guided.{acrossTo}
 use Rattle.guided.proofs.Taken.{own-column}
-use Rattle.guided_pixels.specs.Across.{phased}
+use Rattle.guided_pixels.specs.Inner.Across.{phased}
 
 -- rows that are alike in their n cells are lerped alike
 pub phased-same : (g h : ℕ → Float) (n : ℕ) (p : Phase) (i : ℕ) → i < n → ((k : ℕ) → k < n → g k ≡ h k) → phased g n p i ≡ phased h n p i

@@ -13,14 +13,14 @@ use lib.Ieee.{Float, nan, div, ofInt}
 use Rattle.laws.specs.Floats.{f32}
 use Rattle.laws.proofs.Rows.{next-row, row-fits}
 use Rattle.image.specs.declared.layout.Layout.{Layout}
-use Rattle.image.specs.Tests.{Sound}
+use Rattle.image.specs.Inner.Tests.{Sound}
 use Rattle.taps.specs.declared.phases.Phase.{Phase}
 use Rattle.taps.specs.Taps.{lerpOf, phaseOf}
 use Rattle.guided.specs.Guided.{acrossTo}
 use Rattle.taps.specs.Taps.{phaseAt, phasesOf}
 use Rattle.image.proofs.Layouts.{begins}
 use Rattle.laws.proofs.Counts.{none-plus, part-rest}
-use Rattle.guided_pixels.specs.Across.{phased}
+use Rattle.guided_pixels.specs.Inner.Across.{phased}
 
 -- ---- a cell that has both neighbours
 

@@ -14,10 +14,10 @@ use Rattle.image.proofs.Pictures.{inside-is}
 use Rattle.image.specs.Scratch.{cellAt}
 use Rattle.guided.specs.Guided.{detailOf}
 use Rattle.guided.specs.Scratch.{firstOf, columnAt, columnOf, detailAt, readAcross, readDown, lumaColumn, detailRow, componentColumns, finishedRow, componentsOver}
-use Rattle.guided_pixels.specs.Columns.{downColumn}
-use Rattle.guided_pixels.specs.Pixels.{detailLine}
-use Rattle.guided_pixels.specs.Row.{downColumns, componentRow, windowRow}
-use Rattle.guided_pixels.specs.Values.{inputsOf, valueAt, valueRow}
+use Rattle.guided_pixels.specs.Inner.Columns.{downColumn}
+use Rattle.guided_pixels.specs.Inner.Pixels.{detailLine}
+use Rattle.guided_pixels.specs.Inner.Row.{downColumns, componentRow, windowRow}
+use Rattle.guided_pixels.specs.Inner.Values.{inputsOf, valueAt, valueRow}
 use Rattle.laws.proofs.Counts.{plus-none}
 
 -- a component's rows lerped down, by the numbers of its first rows

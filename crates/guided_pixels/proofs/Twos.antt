@@ -9,12 +9,12 @@ use lib.Ieee.{Float, nan}
 use Rattle.laws.specs.Lists.{put}
 use Rattle.laws.proofs.Lists.{put-same, put-after, put-chain, Run, run-at, run-after, run-over}
 use Rattle.image.specs.declared.layout.Layout.{Layout}
-use Rattle.image.specs.Tests.{Sound}
+use Rattle.image.specs.Inner.Tests.{Sound}
 use Rattle.image.specs.Samples.{Plane}
 use Rattle.taps.specs.Taps.{lerpOf, fractionOf, phaseOf}
 use Rattle.guided.specs.Guided.{acrossTo}
 use Rattle.guided_pixels.specs.declared.pairs.Pair.{Pair}
-use Rattle.guided_pixels.specs.Across.{pairOf}
+use Rattle.guided_pixels.specs.Inner.Across.{pairOf}
 use Rattle.guided_pixels.proofs.Phases.{Runs}
 use Rattle.laws.proofs.Counts.{plus-plus}
 

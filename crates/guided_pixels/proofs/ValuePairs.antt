@@ -6,14 +6,14 @@ use native.Mathlib.Omega.{arith}
 use lib.Ieee.{Float}
 use Rattle.laws.specs.Floats.{_⊕_, _⊗_}
 use Rattle.image.specs.declared.layout.Layout.{Layout}
-use Rattle.image.specs.Tests.{Sound}
+use Rattle.image.specs.Inner.Tests.{Sound}
 use Rattle.guided.specs.Guided.{valueOf}
 use Rattle.guided_pixels.specs.declared.value_inputs.ValueInputs.{ValueInputs}
 use Rattle.guided_pixels.specs.declared.pairs.Pair.{Pair}
 use Rattle.fround.specs.Rounding.{fmin, fmax}
-use Rattle.guided_pixels.specs.Across.{pairOf}
+use Rattle.guided_pixels.specs.Inner.Across.{pairOf}
 use Rattle.guided_pixels.proofs.Twos.{pair-left, pair-right, row-chain}
-use Rattle.guided_pixels.specs.Values.{InputsInside, valueAt, valuePair, valueRun}
+use Rattle.guided_pixels.specs.Inner.Values.{InputsInside, valueAt, valuePair, valueRun}
 use Rattle.guided_pixels.proofs.ValueRows.{value-same}
 use Rattle.guided_pixels.proofs.Phases.{Runs}
 use Rattle.laws.specs.Lists.{put}

@@ -11,7 +11,7 @@ use Rattle.laws.specs.Floats.{_⊕_, _⊗_}
 use Rattle.laws.specs.Lists.{put}
 use Rattle.laws.proofs.Lists.{put-same}
 use Rattle.image.specs.declared.layout.Layout.{Layout}
-use Rattle.image.specs.Tests.{Sound}
+use Rattle.image.specs.Inner.Tests.{Sound}
 use Rattle.image.specs.declared.chroma.Chroma.{Chroma}
 use Rattle.image.specs.declared.chroma.Chroma.the-variants.{Cb, Cr}
 use Rattle.fround.specs.Rounding.{fmin, fmax}
@@ -22,7 +22,7 @@ use Rattle.guided.proofs.Places.{first-few, slot-behind, slot-fits, column-behi
 use Rattle.guided_pixels.specs.declared.value_inputs.ValueInputs.{ValueInputs}
 use Rattle.guided_pixels.proofs.Lerps.{across-same}
 use Rattle.laws.proofs.Counts.{none-plus, plus-none}
-use Rattle.guided_pixels.specs.Values.{CellsInside, InputsInside, inputsOf, valueAt, valueRow, valueRun}
+use Rattle.guided_pixels.specs.Inner.Values.{CellsInside, InputsInside, inputsOf, valueAt, valueRow, valueRun}
 
 -- a value from its parts
 pub value-is : (l : Layout) (gc ga lo hi : ℕ → Float) (d : Float) (x : ℕ) (u v r : Float) → u ≡ acrossTo l gc x → v ≡ acrossTo l ga x → r ≡ fmin (fmax (u ⊕ v ⊗ d) (lo (x / l .rh))) (hi (x / l .rh)) → r ≡ valueOf l gc ga lo hi d x

@@ -1,5 +1,1 @@
-pub mod Columns
-pub mod Across
-pub mod Pixels
-pub mod Row
-pub mod Values
+pub mod Inner

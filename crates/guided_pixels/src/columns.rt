@@ -2,9 +2,9 @@
 ghost use mathlib.Core.Path.{_≡_};
 ghost use Prim.Native.Nat.{_+_, _≤_, _<_};
 ghost use lib.ListN.{length};
-ghost use Rattle.image.specs.Tests.{Sound};
+ghost use Rattle.image.specs.Inner.Tests.{Sound};
 ghost use Rattle.image.specs.Scratch.{scratchNeed};
-ghost use Rattle.guided_pixels.specs.Columns.{lerpRun, ColumnGiven, downColumn};
+ghost use Rattle.guided_pixels.specs.Inner.Columns.{lerpRun, ColumnGiven, downColumn};
 use guided_window::Window;
 use image::Layout;
 

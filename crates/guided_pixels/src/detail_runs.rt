@@ -2,8 +2,8 @@
 ghost use mathlib.Core.Path.{_≡_};
 ghost use Prim.Native.Nat.{_+_, _≤_, _<_};
 ghost use lib.ListN.{length};
-ghost use Rattle.guided_across.specs.Luma.{LumaPixels};
-ghost use Rattle.guided_pixels.specs.Pixels.{detailRun};
+ghost use Rattle.guided_across.specs.Inner.Luma.{LumaPixels};
+ghost use Rattle.guided_pixels.specs.Inner.Pixels.{detailRun};
 ghost use Rattle.image.specs.Samples.{planeOf};
 use crate::pairs::across_pixel;
 use guided_window::sample_at;

@@ -4,11 +4,11 @@ ghost use mathlib.Core.Bool.{cond};
 ghost use Prim.Native.Nat.{ℕ, _+_, _-_, _*_, _≤_, _<_};
 ghost use lib.Ieee.{nan};
 ghost use lib.ListN.{length, getD};
-ghost use Rattle.image.specs.Tests.{Sound};
+ghost use Rattle.image.specs.Inner.Tests.{Sound};
 ghost use Rattle.image.specs.Scratch.{cellAt};
 ghost use Rattle.guided.specs.Guided.{acrossTo};
 ghost use Rattle.taps.specs.Taps.{phasesOf};
-ghost use Rattle.guided_pixels.specs.Across.{phased, pairOf};
+ghost use Rattle.guided_pixels.specs.Inner.Across.{phased, pairOf};
 use image::Layout;
 use taps::Phase;
 

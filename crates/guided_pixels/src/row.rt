@@ -2,13 +2,13 @@
 ghost use mathlib.Core.Path.{_≡_};
 ghost use Prim.Native.Nat.{_≤_, _<_};
 ghost use lib.ListN.{length};
-ghost use Rattle.image.specs.Tests.{Sound};
+ghost use Rattle.image.specs.Inner.Tests.{Sound};
 ghost use Rattle.image.specs.Samples.{Plane, planeOf};
 ghost use Rattle.image.specs.Picture.{Planes, pictureOf};
 ghost use Rattle.image.specs.Scratch.{scratchNeed};
-ghost use Rattle.guided_across.specs.Luma.{LumaPixels};
-ghost use Rattle.guided_window.specs.Lent.{componentsOf};
-ghost use Rattle.guided_pixels.specs.Row.{downColumns, componentRow, windowRow};
+ghost use Rattle.guided_across.specs.Inner.Luma.{LumaPixels};
+ghost use Rattle.guided_window.specs.Inner.Lent.{componentsOf};
+ghost use Rattle.guided_pixels.specs.Inner.Row.{downColumns, componentRow, windowRow};
 use crate::columns::down_column;
 use crate::details::detail_row;
 use crate::value_inputs::column_of;

@@ -1,10 +1,10 @@
 // What a component's values are made of: where those rows lie in scratch, where the finished row goes, and how a value is limited.
 ghost use mathlib.Core.Path.{_≡_};
 ghost use Prim.Native.Nat.{_≤_};
-ghost use Rattle.image.specs.Tests.{Sound};
+ghost use Rattle.image.specs.Inner.Tests.{Sound};
 ghost use Rattle.fround.specs.Rounding.{fmin, fmax};
 ghost use Rattle.guided.specs.Scratch.{finishedAt, columnOf};
-ghost use Rattle.guided_pixels.specs.Values.{inputsOf};
+ghost use Rattle.guided_pixels.specs.Inner.Values.{inputsOf};
 use guided_window::ChromaBuffer;
 use image::Chroma;
 use image::Layout;

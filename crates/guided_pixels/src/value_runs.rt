@@ -2,8 +2,8 @@
 ghost use mathlib.Core.Path.{_≡_};
 ghost use Prim.Native.Nat.{_+_, _*_, _≤_, _<_};
 ghost use lib.ListN.{length};
-ghost use Rattle.image.specs.Tests.{Sound};
-ghost use Rattle.guided_pixels.specs.Values.{InputsInside, valueAt, valueRun};
+ghost use Rattle.image.specs.Inner.Tests.{Sound};
+ghost use Rattle.guided_pixels.specs.Inner.Values.{InputsInside, valueAt, valueRun};
 use crate::pairs::across_pixel;
 use crate::value_inputs::ValueInputs;
 use crate::value_inputs::limited;

@@ -2,10 +2,10 @@
 ghost use mathlib.Core.Path.{_≡_};
 ghost use Prim.Native.Nat.{_+_, _*_, _≤_, _<_};
 ghost use lib.ListN.{length};
-ghost use Rattle.image.specs.Tests.{Sound};
+ghost use Rattle.image.specs.Inner.Tests.{Sound};
 ghost use Rattle.image.specs.Scratch.{scratchNeed};
 ghost use Rattle.taps.specs.Taps.{phasesOf};
-ghost use Rattle.guided_pixels.specs.Values.{InputsInside, valueAt, valueRun, valueRow};
+ghost use Rattle.guided_pixels.specs.Inner.Values.{InputsInside, valueAt, valueRun, valueRow};
 use crate::pairs::cell_at;
 use crate::value_inputs::ValueInputs;
 use crate::value_inputs::finished_at;

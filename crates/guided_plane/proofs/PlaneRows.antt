@@ -16,17 +16,18 @@ use Rattle.laws.proofs.Lists.{put-same}
 use Rattle.laws.proofs.Refusals.{accepted-failed, failed-both}
 use Rattle.image.specs.declared.chroma.Components.the-variants.{CbAlone}
 use Rattle.image.specs.declared.layout.Layout.{Layout}
-use Rattle.image.specs.Tests.{layoutTests, Sound}
+use Rattle.image.specs.Tests.{layoutTests}
+use Rattle.image.specs.Inner.Tests.{Sound}
 use Rattle.image.specs.Samples.{Plane}
 use Rattle.image.specs.declared.chroma.Chroma.the-variants.{Cb}
 use Rattle.image.specs.Picture.{Picture, shortPlane}
 use Rattle.image.proofs.Layouts.{neither, sound}
 use Rattle.fround.specs.Rounding.{roundClamped}
 use Rattle.image.specs.Scratch.{scratchNeed}
-use Rattle.linear.specs.Stores.{storeRun}
+use Rattle.linear.specs.Inner.Stores.{storeRun}
 use Rattle.guided.specs.Guided.{guidedSample}
 use Rattle.guided.specs.Scratch.{finishedAt}
-use Rattle.guided_window.specs.Lent.{Lent}
+use Rattle.guided_window.specs.Inner.Lent.{Lent}
 use Rattle.guided_plane.specs.Plane.{planesWith, shortPair, guidedTests}
 use Rattle.guided_rows.proofs.GuidedRows.{Advanced, advanced-row}
 use Rattle.guided.proofs.Runs.{after}

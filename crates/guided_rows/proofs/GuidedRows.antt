@@ -9,7 +9,7 @@ use native.Mathlib.Numerals.{add-one}
 use native.Mathlib.Omega.{arith}
 use lib.ListN.{length}
 use lib.Ieee.{Float}
-use Rattle.image.specs.Tests.{Sound}
+use Rattle.image.specs.Inner.Tests.{Sound}
 use Rattle.image.specs.declared.chroma.Chroma.{Chroma}
 use Rattle.image.specs.Picture.{Picture}
 use Rattle.image.specs.Scratch.{scratchNeed, cellAt}

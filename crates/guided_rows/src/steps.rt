@@ -2,12 +2,12 @@
 ghost use mathlib.Core.Path.{_≡_};
 ghost use Prim.Native.Nat.{_+_, _-_, _≤_, _<_, max};
 ghost use lib.ListN.{length};
-ghost use Rattle.image.specs.Tests.{Sound};
+ghost use Rattle.image.specs.Inner.Tests.{Sound};
 ghost use Rattle.image.specs.Picture.{pictureOf, planesOf};
 ghost use Rattle.image.specs.Scratch.{scratchNeed};
 ghost use Rattle.guided.specs.Calls.{doneF};
 ghost use Rattle.guided.specs.Scratch.{acrossRows, catchUp, rowSteps};
-ghost use Rattle.guided_window.specs.Lent.{Lent, componentsOf};
+ghost use Rattle.guided_window.specs.Inner.Lent.{Lent, componentsOf};
 ghost use Rattle.guided_rows.specs.CatchingUp.{beforeH, beforeF, guidedStep};
 use guided_down::finish;
 use guided_pixels::guided_row;

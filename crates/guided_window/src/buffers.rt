@@ -1,9 +1,9 @@
 // Where the row buffers of the window lie in scratch.
 ghost use mathlib.Core.Path.{_≡_};
 ghost use Prim.Native.Nat.{_≤_, _<_};
-ghost use Rattle.image.specs.Tests.{Sound};
+ghost use Rattle.image.specs.Inner.Tests.{Sound};
 ghost use Rattle.guided.specs.Scratch.{pitch, firstOf};
-ghost use Rattle.guided_window.specs.Buffers.{SlotGiven, windowOf};
+ghost use Rattle.guided_window.specs.Inner.Buffers.{SlotGiven, windowOf};
 use crate::neighbours::next;
 use crate::neighbours::prev;
 use image::Chroma;

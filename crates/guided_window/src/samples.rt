@@ -3,7 +3,7 @@ ghost use mathlib.Core.Path.{_≡_};
 ghost use mathlib.Core.Bool.{false};
 ghost use Prim.Native.Nat.{_<_};
 ghost use Rattle.laws.specs.Floats.{f32};
-ghost use Rattle.image.specs.Tests.{Sound};
+ghost use Rattle.image.specs.Inner.Tests.{Sound};
 ghost use Rattle.image.specs.Samples.{Plane, sampleAt, planeOf};
 ghost use Rattle.image.specs.Picture.{shortPlane};
 use image::Layout;

@@ -11,7 +11,8 @@ use Rattle.laws.specs.Refusals.{first, accepted}
 use Rattle.laws.proofs.Refusals.{Failed, accepted-failed, accepted-is}
 use Rattle.image.specs.declared.layout.Layout.{Layout}
 use Rattle.laws.specs.Numbers.{outsideOf}
-use Rattle.image.specs.Tests.{mostOf, divCeil, badSize, badRatio, badSamples, badChroma, layoutTests, Sound}
+use Rattle.image.specs.Tests.{mostOf, divCeil, badSize, badRatio, badSamples, badChroma, layoutTests}
+use Rattle.image.specs.Inner.Tests.{Sound}
 use Rattle.image.proofs.Quotients.{ceil-covers, ceil-most, ceil-some}
 
 -- neither of two tests applies

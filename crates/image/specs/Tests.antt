@@ -1,8 +1,7 @@
 -- The tests behind refusals 2, 3, 4, 5 and 7, in the order and words of document 01's table. Definitions only.
-use mathlib.Core.Path.{_≡_}
 use mathlib.Core.Bool.{Bool, true, false, _&&_, _||_, not, cond}
 use mathlib.Core.List.{List, [], _∷_}
-use Prim.Native.Nat.{ℕ, _+_, _-_, _*_, _/_, _≤_, _<_}
+use Prim.Native.Nat.{ℕ, _+_, _-_, _*_, _/_}
 use lib.Dec.{ltb, eqb}
 use Rattle.laws.specs.Refusals.{Test}
 use Rattle.laws.specs.Numbers.{outsideOf}
@@ -35,29 +34,6 @@ badChroma l = not (eqb (l .cw) (divCeil (l .w) (l .rh))) || not (eqb (l .ch) (di
 -- the tests that open, the planes and fill begin with
 unfoldable pub layoutTests : Bool → Layout → List Test
 layoutTests fixed l = (badSize l, 2) ∷ (badRatio l, 3) ∷ (badSamples fixed l, 4) ∷ (badChroma l, 5) ∷ []
-
--- what a layout is that passes them; the last six follow, and spare callers the laws of quotients
-pub record Sound (l : Layout) : Type 0 where
-  pub w-some : 0 < l .w
-  pub w-most : l .w ≤ 8192
-  pub h-some : 0 < l .h
-  pub h-most : l .h ≤ 8192
-  pub rh-some : 0 < l .rh
-  pub rh-most : l .rh ≤ 4
-  pub rv-some : 0 < l .rv
-  pub rv-most : l .rv ≤ 4
-  pub bytes-some : 1 ≤ l .«sample_bytes»
-  pub bytes-most : l .«sample_bytes» ≤ 2
-  pub maxval-some : 0 < l .maxval
-  pub maxval-most : l .maxval ≤ 65535
-  pub cw-is : l .cw ≡ divCeil (l .w) (l .rh)
-  pub ch-is : l .ch ≡ divCeil (l .h) (l .rv)
-  pub cw-some : 0 < l .cw
-  pub cw-most : l .cw ≤ l .w
-  pub ch-some : 0 < l .ch
-  pub ch-most : l .ch ≤ l .h
-  pub cells : l .w ≤ l .cw * l .rh
-  pub lines : l .h ≤ l .ch * l .rv
 
 -- 7: "a plane's stride below its row, or data ending before its last row's end": h rows of w samples, in `len` bytes
 unfoldable pub badPlane : ℕ → ℕ → ℕ → ℕ → ℕ → Bool

@@ -1,6 +1,6 @@
 // What the calls over a picture are lent: how much scratch they ask for, and the test of its three planes.
 ghost use mathlib.Core.Path.{_≡_};
-ghost use Rattle.image.specs.Tests.{Sound};
+ghost use Rattle.image.specs.Inner.Tests.{Sound};
 ghost use Rattle.image.specs.Picture.{badPlanes, planesOf};
 ghost use Rattle.image.specs.Scratch.{scratchNeed};
 use crate::layout::Layout;

@@ -6,10 +6,10 @@ use lib.ListN.{getD}
 use lib.Ieee.{Float, nan}
 use Rattle.kernels.specs.declared.bytes.Rgb.{Rgb}
 use Rattle.kernels.specs.Kernels.{exact255}
-use Rattle.kernel_blocks.specs.Floating.{Centred}
-use Rattle.kernel_blocks.specs.Blocks.{BlockOf}
-use Rattle.kernels.specs.Forms.{colourOf}
-use Rattle.kernel_blocks.specs.Stores.{blockPixel}
+use Rattle.kernel_blocks.specs.Inner.Floating.{Centred}
+use Rattle.kernel_blocks.specs.Inner.Blocks.{BlockOf}
+use Rattle.kernels.specs.Inner.Forms.{colourOf}
+use Rattle.kernel_blocks.specs.Inner.Stores.{blockPixel}
 
 module _ {rows : List (List ℕ)} {y : List ℕ} {cb cr : List Float} (o : BlockOf rows y cb cr) (k : ℕ) (h : k < 16) {b r : ℕ} (u : Centred (getD cb k nan) b) (v : Centred (getD cr k nan) r) where
   -- pixel k of a block is the exact kernel's

@@ -16,7 +16,7 @@ use Rattle.laws.proofs.Values.{whole-value, value-no-nan}
 use Rattle.laws.proofs.Operators.{add-up, add-down, sub-up, sub-down, mul-by}
 use Rattle.laws.proofs.Nearness.{mild-step}
 use Rattle.laws.proofs.Grids.{grid-bits}
-use Rattle.kernel_blocks.specs.Floating.{Centred}
+use Rattle.kernel_blocks.specs.Inner.Floating.{Centred}
 
 record Value (x : Float) (c : ℕ) : Type 0 where
   s : Bool

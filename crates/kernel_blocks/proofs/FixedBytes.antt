@@ -4,7 +4,7 @@ use Prim.Native.Nat.{ℕ, _+_, _*_, _-_, _/_, _≤_, min}
 use native.Mathlib.Omega.{arith}
 use lib.Dec.{lit<}
 use Rattle.kernels.specs.Kernels.{fixed255}
-use Rattle.kernels.specs.Forms.{plusFixed}
+use Rattle.kernels.specs.Inner.Forms.{plusFixed}
 use Rattle.kernels.proofs.FixedPoint.{plus-fixed, fixed-green}
 
 pub red-byte : (y c : ℕ) → min (y + (c + (26345 * c + 2944) / 65536) - 179) 255 ≡ plusFixed 91881 y c

@@ -12,7 +12,7 @@ use Rattle.laws.specs.Floats.{_⊕_, _⊖_, _⊗_, NearFraction}
 use Rattle.laws.proofs.Nearness.{mild-step, near-chain, value-near, add-near}
 use Rattle.kernels.specs.Kernels.{centred, greenOffset}
 use Rattle.kernels.proofs.Channels.{green-biased}
-use Rattle.kernel_blocks.specs.Floating.{Centred, OnGrid, middle, greenTaken, margin, lessMargin, Margin, added, taken, greenBits, Sure}
+use Rattle.kernel_blocks.specs.Inner.Floating.{Centred, OnGrid, middle, greenTaken, margin, lessMargin, Margin, added, taken, greenBits, Sure}
 use Rattle.kernel_blocks.proofs.GridBits.{Counts, Bits, minus-bits}
 use Rattle.kernel_blocks.proofs.Chromas.{scaled}
 use Rattle.kernel_blocks.proofs.Lumas.{on-grid-from}

@@ -18,7 +18,7 @@ use Rattle.laws.proofs.Values.{value-no-nan}
 use Rattle.laws.proofs.Operators.{add-up, add-down}
 use Rattle.laws.proofs.Nearness.{neg-near}
 use Rattle.laws.proofs.Grids.{on-grid, grid-bits}
-use Rattle.kernel_blocks.specs.Floating.{middle}
+use Rattle.kernel_blocks.specs.Inner.Floating.{middle}
 
 -- r counts a multiple of 256 that (a - b) / c is within 128 + e / 256 of
 pub record Counts (r a b c e : ℕ) : Type 0 where

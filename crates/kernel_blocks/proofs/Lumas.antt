@@ -6,10 +6,11 @@ use lib.IntN.{ℤ, pos, _+ℤ_, _-ℤ_}
 use mir.Syntax.{w32}
 use mir.Val.{toZ, ofZ}
 use mir.ValLaws.{toZ-ofZ}
-use Rattle.laws.specs.Differences.{Diff, limit}
+use Rattle.laws.specs.Differences.{limit}
+use Rattle.laws.specs.Inner.Differences.{Diff}
 use Rattle.laws.proofs.Differences.{of-pos, move, plus, minus, unique, as-sum, from-sum}
-use Rattle.kernels.specs.Forms.{Biased}
-use Rattle.kernel_blocks.specs.Floating.{OnGrid, Lowered, Luma}
+use Rattle.kernels.specs.Inner.Forms.{Biased}
+use Rattle.kernel_blocks.specs.Inner.Floating.{OnGrid, Lowered, Luma}
 use Rattle.kernel_blocks.proofs.Signed.{holds}
 
 pub lowered-diff : {z : ℤ} {l : ℕ} → Lowered z l → Diff z l 1329594368

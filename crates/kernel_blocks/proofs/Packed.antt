@@ -6,9 +6,10 @@ use native.Mathlib.Omega.{arith}
 use lib.Bits.{bitAnd, and-mask}
 use lib.ListN.{getD, set}
 use lib.Seq.{set-getD}
-use Rattle.kernels.specs.Kernels.{Colour, rgb}
+use Rattle.kernels.specs.Kernels.{Colour}
+use Rattle.kernels.specs.Inner.Kernels.{rgb}
 use Rattle.kernel_blocks.specs.Stores.{pixel, pixels}
-use Rattle.kernel_blocks.specs.Words.{Word}
+use Rattle.kernel_blocks.specs.Inner.Words.{Word}
 use Rattle.kernel_blocks.proofs.Puts.{pixels-more, fourth}
 
 -- the three colour bytes cleared

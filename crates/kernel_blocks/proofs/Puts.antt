@@ -11,7 +11,8 @@ use native.Mathlib.Omega.{arith}
 use lib.ListN.{length, getD, set, length-set}
 use lib.Seq.{getD-set-same, getD-set-other}
 use Rattle.kernels.specs.Kernels.{Colour}
-use Rattle.kernel_blocks.specs.Stores.{pixel, pixels, channel}
+use Rattle.kernel_blocks.specs.Stores.{pixel, pixels}
+use Rattle.kernel_blocks.specs.Inner.Stores.{channel}
 
 -- ---- one pixel
 

@@ -16,9 +16,9 @@ use borrow.Author.Tests.{ltb-false}
 use Rattle.laws.specs.Floats.{f32, _⊕_, _⊖_, _⊗_, Close, NearFraction}
 use Rattle.laws.proofs.Nearness.{mild-step, near-chain, value-near, add-near}
 use Rattle.kernels.specs.Kernels.{centred}
-use Rattle.kernels.specs.Forms.{chromaOffset, Suits, raised}
+use Rattle.kernels.specs.Inner.Forms.{chromaOffset, Suits, raised}
 use Rattle.kernels.proofs.Channels.{red-suits, blue-suits, chroma-biased}
-use Rattle.kernel_blocks.specs.Floating.{Centred, OnGrid, Multiplier, red1402, blue1772, noTie, blueTie, forRed, forBlue, middle}
+use Rattle.kernel_blocks.specs.Inner.Floating.{Centred, OnGrid, Multiplier, red1402, blue1772, noTie, blueTie, forRed, forBlue, middle}
 use Rattle.kernel_blocks.proofs.GridBits.{Counts, Bits, plus-bits}
 use Rattle.kernel_blocks.proofs.Chromas.{scaled}
 use Rattle.kernel_blocks.proofs.Lumas.{on-grid-from}

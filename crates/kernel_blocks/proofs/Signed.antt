@@ -7,7 +7,7 @@ use lib.Signed.{mag}
 use mir.Syntax.{w32}
 use mir.Val.{toZ}
 use mir.ValLaws.{toZ-pos}
-use Rattle.laws.specs.Differences.{Diff}
+use Rattle.laws.specs.Inner.Differences.{Diff}
 use Rattle.laws.proofs.Differences.{of-pos, move, minus}
 
 pub read : (n : ℕ) → n ≤ 2147483647 → Diff (toZ w32 n) n 0

@@ -8,7 +8,8 @@ use native.Mathlib.Omega.{arith}
 use lib.ListN.{length, getD}
 use lib.Seq.{set-getD}
 use Rattle.kernels.specs.Kernels.{Colour}
-use Rattle.kernel_blocks.specs.Stores.{pixel, pixels, channel}
+use Rattle.kernel_blocks.specs.Stores.{pixel, pixels}
+use Rattle.kernel_blocks.specs.Inner.Stores.{channel}
 use Rattle.kernel_blocks.proofs.Puts.{length-pixel, length-pixels, pixels-none, pixels-more, pixels-add, pixels-same, pixels-channel}
 
 -- ---- pixels stored a second time

@@ -1,4 +1,2 @@
 pub mod Stores
-pub mod Floating
-pub mod Blocks
-pub mod Words
+pub mod Inner

@@ -3,8 +3,8 @@
 ghost use mathlib.Core.Path.{_≡_};
 ghost use Prim.Native.Nat.{ℕ, _≤_};
 ghost use Rattle.kernels.specs.Kernels.{centred, greenOffset};
-ghost use Rattle.kernels.specs.Forms.{chromaOffset, Biased};
-ghost use Rattle.kernel_blocks.specs.Floating.{Centred, Chroma, Multiplier, IsMultiplier, OnGrid, Margin, greenBits, Sure};
+ghost use Rattle.kernels.specs.Inner.Forms.{chromaOffset, Biased};
+ghost use Rattle.kernel_blocks.specs.Inner.Floating.{Centred, Chroma, Multiplier, IsMultiplier, OnGrid, Margin, greenBits, Sure};
 use kernels::Bias;
 
 // Inner: the grid of floats far up, which are 256 apart. Chroma is in 256ths, so that a sum there is rounded to a whole offset.

@@ -6,8 +6,8 @@ ghost use mathlib.Core.Path.{_≡_};
 ghost use Prim.Native.Nat.{ℕ, _+_, _-_, _<_, _≤_, min};
 ghost use lib.ListN.{getD};
 ghost use Rattle.kernels.specs.Kernels.{fixed255};
-ghost use Rattle.kernels.specs.Forms.{plusFixed};
-ghost use Rattle.kernel_blocks.specs.Stores.{blockPixel};
+ghost use Rattle.kernels.specs.Inner.Forms.{plusFixed};
+ghost use Rattle.kernel_blocks.specs.Inner.Stores.{blockPixel};
 use crate::stores::Block;
 
 // The smaller of two numbers, as a function: a channel then has no branches that meet, which the prover would have to join.

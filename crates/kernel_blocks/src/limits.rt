@@ -3,7 +3,7 @@ ghost use mathlib.Core.Path.{_≡_};
 ghost use Prim.Native.Nat.{_≤_};
 ghost use lib.IntN.{pos, _+ℤ_};
 ghost use Rattle.laws.specs.Differences.{limit};
-ghost use Rattle.kernel_blocks.specs.Floating.{Luma};
+ghost use Rattle.kernel_blocks.specs.Inner.Floating.{Luma};
 
 // A number limited to 0..=255. It is signed and its upper limit comes first, so that sixteen of them compile to packs that limit.
 fn limit_byte(z: i32) -> u8

@@ -2,8 +2,9 @@
 ghost use mathlib.Core.Path.{_≡_};
 ghost use Prim.Native.Nat.{_+_, _*_, _≤_};
 ghost use lib.ListN.{length};
-ghost use Rattle.kernel_blocks.specs.Stores.{pixel, pixels, blockPixel};
-ghost use Rattle.kernels.specs.Kernels.{rgb};
+ghost use Rattle.kernel_blocks.specs.Stores.{pixel, pixels};
+ghost use Rattle.kernel_blocks.specs.Inner.Stores.{blockPixel};
+ghost use Rattle.kernels.specs.Inner.Kernels.{rgb};
 
 // How many pixels a block has: document 01's block length, named with the thing that it belongs to.
 pub struct Block;

@@ -2,9 +2,10 @@
 ghost use mathlib.Core.Path.{_≡_};
 ghost use Prim.Native.Nat.{ℕ, _+_, _*_, _/_, _%_, _<_, _≤_};
 ghost use lib.ListN.{length, getD, set};
-ghost use Rattle.kernel_blocks.specs.Stores.{pixel, pixels, blockPixel};
-ghost use Rattle.kernel_blocks.specs.Words.{Word};
-ghost use Rattle.kernels.specs.Kernels.{rgb};
+ghost use Rattle.kernel_blocks.specs.Stores.{pixel, pixels};
+ghost use Rattle.kernel_blocks.specs.Inner.Stores.{blockPixel};
+ghost use Rattle.kernel_blocks.specs.Inner.Words.{Word};
+ghost use Rattle.kernels.specs.Inner.Kernels.{rgb};
 use crate::stores::Block;
 
 // Four bytes as a word, the first the lowest.

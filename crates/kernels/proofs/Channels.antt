@@ -7,11 +7,12 @@ use native.Mathlib.Nat.{le-trans, mul-le-mul-left, mul-le-mul-right}
 use native.Mathlib.Omega.{arith}
 use lib.Dec.{lit<}
 use lib.IntN.{ℤ, pos, _+ℤ_}
-use Rattle.laws.specs.Differences.{Diff, limit}
+use Rattle.laws.specs.Differences.{limit}
+use Rattle.laws.specs.Inner.Differences.{Diff}
 use Rattle.laws.proofs.Differences.{of-pos, move, plus, neg, minus, times, floored, limited, limited-floor, within-limits, unique, as-sum, from-sum}
 use Rattle.kernels.specs.HalvesUp.{rnd}
 use Rattle.kernels.specs.Kernels.{centred, redOffset, greenOffset, blueOffset, exact255, offCentre, exactAt}
-use Rattle.kernels.specs.Forms.{chromaOffset, plusChroma, Biased, Suits, raised, chromaAt}
+use Rattle.kernels.specs.Inner.Forms.{chromaOffset, plusChroma, Biased, Suits, raised, chromaAt}
 
 pub product-most : (k c m n : ℕ) → k ≤ m → c ≤ n → k * c ≤ m * n
 product-most k c m n h l = le-trans (mul-le-mul-left k l) (mul-le-mul-right n h)

@@ -12,9 +12,10 @@ use Rattle.laws.specs.Refusals.{Test, first}
 use Rattle.laws.proofs.Refusals.{Failed, accepted-failed}
 use Rattle.laws.specs.Numbers.{outsideOf}
 use Rattle.image.proofs.Layouts.{neither}
-use Rattle.kernels.specs.Kernels.{redOffset, blueOffset, exact255, exactAt, fixedRed, fixedBlue, fixed255, rgb}
+use Rattle.kernels.specs.Kernels.{redOffset, blueOffset, exact255, exactAt, fixedRed, fixedBlue, fixed255}
+use Rattle.kernels.specs.Inner.Kernels.{rgb}
 use Rattle.kernels.specs.Pixels.{exactTests, fixedTests}
-use Rattle.kernels.specs.Forms.{Suits, chromaOffset, plusChroma, chromaAt, fixedOffset, plusFixed}
+use Rattle.kernels.specs.Inner.Forms.{Suits, chromaOffset, plusChroma, chromaAt, fixedOffset, plusFixed}
 use Rattle.kernels.proofs.Channels.{centred-limited, red-suits, blue-suits, plus-chroma, green-255, chroma-at, green-at}
 
 module _ (y cb cr : ℕ) {r g b : ℕ} where

@@ -3,10 +3,10 @@ use mathlib.Core.Path.{_≡_, refl, _∙_}
 use Prim.Native.Nat.{ℕ, _+_, _*_, _-_, _/_, _<_, _≤_, min}
 use native.Mathlib.Omega.{arith}
 use lib.Dec.{lit<}
-use Rattle.laws.specs.Differences.{Diff}
+use Rattle.laws.specs.Inner.Differences.{Diff}
 use Rattle.laws.proofs.Differences.{of-pos, move, plus, neg, minus, times, floored, limited}
 use Rattle.kernels.specs.Kernels.{less128, fixedGreenCb, fixedGreenCr, fixed255}
-use Rattle.kernels.specs.Forms.{fixedOffset, plusFixed}
+use Rattle.kernels.specs.Inner.Forms.{fixedOffset, plusFixed}
 
 less-128 : (c : ℕ) → Diff (less128 c) c 128
 less-128 c = move c 128 (minus (of-pos c) (of-pos 128)) (omega arith)

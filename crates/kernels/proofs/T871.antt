@@ -5,7 +5,7 @@ use Prim.Native.Nat.{ℕ, _≤_, min}
 use native.Mathlib.Omega.{arith}
 use lib.Dec.{T, eqb, eqb→eq}
 use lib.IntN.{pos}
-use Rattle.laws.specs.Differences.{Diff}
+use Rattle.laws.specs.Inner.Differences.{Diff}
 use Rattle.laws.proofs.Differences.{move, unique}
 use Rattle.kernels.specs.Kernels.{centred, offCentre, exact255, exactAt}
 use Rattle.kernels.specs.T871.{t871Colour, chromaLess}

@@ -10,9 +10,6 @@ pub record Colour : Type 0 where
   pub green : ℕ
   pub blue : ℕ
 
-abbrev pub rgb : ℕ → ℕ → ℕ → Colour
-rgb r g b = record { red = r; green = g; blue = b }
-
 -- ---- exact kernel, maxval 255
 
 -- "Let cb and cr be the chroma in 256ths less 128 × 256, limited to −32,768..32,768."

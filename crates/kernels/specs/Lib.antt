@@ -2,4 +2,4 @@ pub mod HalvesUp
 pub mod Kernels
 pub mod T871
 pub mod Pixels
-pub mod Forms
+pub mod Inner

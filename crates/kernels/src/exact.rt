@@ -2,7 +2,7 @@
 ghost use mathlib.Core.Path.{_≡_};
 ghost use Prim.Native.Nat.{_+_, _*_, _/_, _≤_, min};
 ghost use Rattle.kernels.specs.Kernels.{exact255, exactAt};
-ghost use Rattle.kernels.specs.Forms.{colourOf, Suits, plusChroma, chromaAt};
+ghost use Rattle.kernels.specs.Inner.Forms.{colourOf, Suits, plusChroma, chromaAt};
 use crate::bytes::Rgb;
 use crate::bytes::limit_quot;
 use crate::bytes::limit8;

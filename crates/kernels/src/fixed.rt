@@ -4,7 +4,7 @@
 ghost use mathlib.Core.Path.{_≡_};
 ghost use Prim.Native.Nat.{_+_, _*_, _<_, _≤_};
 ghost use Rattle.kernels.specs.Kernels.{fixed255};
-ghost use Rattle.kernels.specs.Forms.{colourOf, plusFixed};
+ghost use Rattle.kernels.specs.Inner.Forms.{colourOf, plusFixed};
 use crate::bytes::Rgb;
 use crate::bytes::limit8;
 use crate::offsets::Bias;

@@ -1,7 +1,7 @@
 // What chroma adds to luma at maxval 255, raised by a bias so that numbers without a sign hold it.
 ghost use mathlib.Core.Path.{_≡_};
 ghost use Prim.Native.Nat.{_≤_};
-ghost use Rattle.kernels.specs.Forms.{Suits, raised};
+ghost use Rattle.kernels.specs.Inner.Forms.{Suits, raised};
 
 // What is added to an offset, no offset being further below 0.
 pub struct Bias;

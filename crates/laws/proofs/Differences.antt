@@ -10,7 +10,8 @@ use lib.Dec.{ltb}
 use lib.Arith.{digits-div}
 use borrow.Author.Tests.{ltb-true, ltb-false}
 use lib.IntN.{ℤ, pos, negsuc, negℤ, subℕ, _+ℤ_, _-ℤ_, _*ℤ_}
-use Rattle.laws.specs.Differences.{Off, Diff, floorDiv, limit, within}
+use Rattle.laws.specs.Differences.{floorDiv, limit, within}
+use Rattle.laws.specs.Inner.Differences.{Off, Diff}
 
 of-cond : (a b : ℕ) (t : Bool) → ltb a b ≡ t → Off (cond t (negsuc (b - suc a)) (pos (a - b))) a b
 of-cond a b true e = let h : a < b = ltb-true a b e in omega arith

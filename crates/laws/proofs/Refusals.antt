@@ -10,7 +10,8 @@ use native.Mathlib.Omega.{arith}
 use lib.Dec.{T}
 use Rattle.laws.specs.declared.answers.Answer.{Answer}
 use Rattle.laws.specs.declared.answers.Answer.the-variants.{Accepted, Refused}
-use Rattle.laws.specs.Refusals.{Test, first, pickAnswer, accepted, Ascending, Applies}
+use Rattle.laws.specs.Refusals.{Test, first, pickAnswer, accepted}
+use Rattle.laws.specs.Inner.Refusals.{Ascending, Applies}
 
 -- every test of the list failed
 abbrev pub Failed : List Test → Type 0

@@ -1,6 +1,5 @@
 -- Single precision: whole numbers as floats, and a float's value against a fraction. Definitions only.
 -- The values and the operators, each rounded once, are the library's (lib.Ieee): `fin s m e` is the number m * up e / down e, negative where s is true.
-use mathlib.Core.Path.{_≡_}
 use mathlib.Core.Bool.{Bool, true, false}
 use Prim.Native.Nat.{ℕ, _+_, _*_, _≤_}
 use lib.IntN.{pos}
@@ -44,13 +43,3 @@ abbrev pub NearFraction : Float → ℕ → ℕ → ℕ → ℕ → Type 0
 NearFraction nan p n c e = ⊥
 NearFraction (inf s) p n c e = ⊥
 NearFraction (fin s m x) p n c e = Close (over s (m * up x)) (under s (m * up x)) (down x) p n c e
-
--- (P - N) / D is (p - n) / c, multiplied out
-pub record Same (P N D p n c : ℕ) : Type 0 where
-  pub eq : P * c + n * D ≡ N * c + p * D
-
--- the float is finite and equals (p - n) / c
-abbrev pub IsFraction : Float → ℕ → ℕ → ℕ → Type 0
-IsFraction nan p n c = ⊥
-IsFraction (inf s) p n c = ⊥
-IsFraction (fin s m x) p n c = Same (over s (m * up x)) (under s (m * up x)) (down x) p n c

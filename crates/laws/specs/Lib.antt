@@ -4,3 +4,4 @@ pub mod Differences
 pub mod Rounding
 pub mod Floats
 pub mod Numbers
+pub mod Inner

@@ -1,10 +1,7 @@
 -- 'Reasons for turning a call down': the tests of a call in the order of document 01's table, each with its number. Definitions only.
-use mathlib.Core.Path.{_≡_}
-use mathlib.Core.Logic.{_⊎_}
-use Prim.Native.Nat.{ℕ, _<_}
+use Prim.Native.Nat.{ℕ}
 use mathlib.Core.Bool.{Bool, true, false}
 use mathlib.Core.List.{List, [], _∷_}
-use lib.Dec.{T}
 use Rattle.laws.specs.declared.answers.Answer.{Answer}
 use Rattle.laws.specs.declared.answers.Answer.the-variants.{Accepted, Refused}
 
@@ -25,13 +22,3 @@ pickAnswer false a b = b
 unfoldable pub first : List Test → Answer
 first [] = Accepted
 first (t ∷ ts) = pickAnswer (t .0) (Refused (t .1)) (first ts)
-
--- every number is above those before it, so that the first that applies is the lowest
-unfoldable pub Ascending : ℕ → List Test → Type 0
-Ascending least [] = Unit {0}
-Ascending least (t ∷ ts) = (least < t .1) × Ascending (t .1) ts
-
--- some test of the list with the number n applies
-unfoldable pub Applies : ℕ → List Test → Type 0
-Applies n [] = ⊥
-Applies n (t ∷ ts) = (T (t .0) × (t .1 ≡ n)) ⊎ Applies n ts

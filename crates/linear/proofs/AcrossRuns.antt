@@ -12,7 +12,7 @@ use Rattle.laws.specs.Lists.{put}
 use Rattle.laws.proofs.Lists.{put-same, put-after, put-chain}
 use Rattle.taps.specs.Taps.{lerpOf, fractionOf, Spot, spotAt, spotOf, tapOn, tapOf}
 use Rattle.linear.specs.AcrossRows.{acrossBy}
-use Rattle.linear.specs.AcrossRows.{betweenAt, betweenRun, acrossRun}
+use Rattle.linear.specs.Inner.AcrossRows.{betweenAt, betweenRun, acrossRun}
 use Rattle.image.specs.Scratch.{cellAt}
 
 -- output j of pair i, as a loop that has read the pair's cells a and b stores it

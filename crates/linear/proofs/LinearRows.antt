@@ -16,18 +16,22 @@ use Rattle.image.specs.declared.layout.Layout.{Layout}
 use Rattle.laws.specs.declared.answers.Answer.the-variants.{Accepted}
 use Rattle.laws.specs.Refusals.{Test, first}
 use Rattle.laws.proofs.Refusals.{accepted-failed, failed-both}
-use Rattle.image.specs.Tests.{layoutTests, Sound}
+use Rattle.image.specs.Tests.{layoutTests}
+use Rattle.image.specs.Inner.Tests.{Sound}
 use Rattle.image.specs.Picture.{shortPlane}
 use Rattle.image.proofs.Layouts.{sound}
 use Rattle.image.specs.Samples.{Plane, sampleAt}
 use Rattle.fround.specs.Rounding.{roundClamped}
 use Rattle.taps.specs.declared.positions.Tap.{Tap}
-use Rattle.taps.specs.Taps.{tapOf, TapGiven}
-use Rattle.linear.specs.Linear.{downBy, linearDown, linearSample, linearRow, linearScratch, linearCellsAt, linearTests, Ready}
+use Rattle.taps.specs.Taps.{tapOf}
+use Rattle.taps.specs.Inner.Taps.{TapGiven}
+use Rattle.linear.specs.Linear.{downBy, linearDown, linearSample, linearRow, linearScratch, linearCellsAt, linearTests}
+use Rattle.linear.specs.Inner.Linear.{Ready}
 use Rattle.image.specs.Scratch.{scratchNeed, cellAt}
-use Rattle.linear.specs.Down.{downRun}
-use Rattle.linear.specs.AcrossRows.{acrossBy, acrossRun}
-use Rattle.linear.specs.Stores.{storeRun}
+use Rattle.linear.specs.Inner.Down.{downRun}
+use Rattle.linear.specs.AcrossRows.{acrossBy}
+use Rattle.linear.specs.Inner.AcrossRows.{acrossRun}
+use Rattle.linear.specs.Inner.Stores.{storeRun}
 use Rattle.taps.proofs.Spots.{tap-given}
 use Rattle.laws.proofs.Counts.{none-plus, plus-none}
 

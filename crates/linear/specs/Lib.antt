@@ -1,5 +1,4 @@
 pub mod AcrossRows
-pub mod Stores
-pub mod Down
 pub mod Linear
 pub mod Bound
+pub mod Inner

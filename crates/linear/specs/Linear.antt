@@ -2,7 +2,7 @@
 use mathlib.Core.Path.{_≡_}
 use mathlib.Core.Bool.{Bool, false, cond}
 use mathlib.Core.List.{List, [], _∷_, _++_}
-use Prim.Native.Nat.{ℕ, zero, suc, _+_, _*_, _≤_}
+use Prim.Native.Nat.{ℕ, zero, suc, _+_, _*_}
 use lib.Dec.{ltb}
 use lib.ListN.{length}
 use lib.Ieee.{Float}
@@ -11,7 +11,7 @@ use Rattle.laws.specs.Lists.{put, rows}
 use Rattle.laws.specs.Refusals.{Test, first, accepted}
 use Rattle.laws.specs.declared.answers.Answer.{Answer}
 use Rattle.image.specs.declared.layout.Layout.{Layout}
-use Rattle.image.specs.Tests.{layoutTests, Sound}
+use Rattle.image.specs.Tests.{layoutTests}
 use Rattle.image.specs.Samples.{Plane, sampleAt}
 use Rattle.image.specs.Picture.{shortPlane}
 use Rattle.image.specs.Scratch.{scratchNeed}
@@ -39,12 +39,6 @@ linearTests l p space room = layoutTests false l ++ ((shortPlane l (l .cw) (l .c
 -- the output afterwards: w·h values row by row, "rounded and limited to 0..maxval"; the rest is as it was
 unfoldable pub linearPlane : Layout → Plane → List ℕ → List ℕ
 linearPlane l p out = rows out (l .w) (l .h) (λ y x. roundClamped (l .maxval) (linearSample l (sampleAt (l .«sample_bytes») p) y x))
-
--- what an accepted call knows of the layout, the plane and the scratch
-pub record Ready (l : Layout) (p : Plane) (space : ℕ) : Type 0 where
-  pub sound : Sound l
-  pub plane : shortPlane l (l .cw) (l .ch) p ≡ false
-  pub scratch : scratchNeed l ≤ space
 
 -- ---- what the papers leave free: what scratch holds after an accepted call
 

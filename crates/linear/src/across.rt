@@ -3,7 +3,7 @@
 ghost use mathlib.Core.Path.{_≡_};
 ghost use Prim.Native.Nat.{_+_, _*_, _≤_, _<_};
 ghost use lib.ListN.{length};
-ghost use Rattle.linear.specs.AcrossRows.{acrossRun, betweenRun};
+ghost use Rattle.linear.specs.Inner.AcrossRows.{acrossRun, betweenRun};
 use crate::twos::Twos;
 use crate::twos::across_twos;
 use taps::fraction;

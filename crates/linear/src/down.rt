@@ -2,7 +2,7 @@
 ghost use mathlib.Core.Path.{_≡_};
 ghost use Prim.Native.Nat.{_+_, _*_, _≤_};
 ghost use lib.ListN.{length};
-ghost use Rattle.linear.specs.Down.{downRun};
+ghost use Rattle.linear.specs.Inner.Down.{downRun};
 use taps::lerp;
 
 // Inner: n samples of the two rows of a plane that begin at bytes a and b, lerped by f, to s from dst on.

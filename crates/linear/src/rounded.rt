@@ -2,7 +2,7 @@
 ghost use mathlib.Core.Path.{_≡_};
 ghost use Prim.Native.Nat.{_+_, _≤_};
 ghost use lib.ListN.{length};
-ghost use Rattle.linear.specs.Stores.{storeRun};
+ghost use Rattle.linear.specs.Inner.Stores.{storeRun};
 
 // Inner: n values of s from src on, rounded and limited to 0..=maxval, to out from `at` on.
 pub fn store_row(s: &[f32], src: usize, n: usize, maxval: u32, out: &mut [u16], at: usize)

@@ -3,7 +3,7 @@ ghost use mathlib.Core.Path.{_≡_};
 ghost use Prim.Native.Nat.{ℕ, _+_, _*_, _≤_, _<_};
 ghost use lib.Ieee.{nan};
 ghost use lib.ListN.{length, getD};
-ghost use Rattle.linear.specs.AcrossRows.{betweenAt, betweenRun};
+ghost use Rattle.linear.specs.Inner.AcrossRows.{betweenAt, betweenRun};
 use lanes::Lanes;
 use lanes::put_block;
 use taps::fraction;

@@ -18,7 +18,8 @@ use Rattle.image.specs.Tests.{divCeil, badSize, badRatio, badSamples, badChroma
 use Rattle.image.proofs.Layouts.{neither}
 use Rattle.netpbm.specs.declared.reading.Reading.the-variants.{Read}
 use Rattle.netpbm.specs.Images.{widthOf, heightOf, rowsAt, imageEnd, imageTests}
-use Rattle.netpbm.specs.Reading.{cbAt, crAt, inputLayout, noRatio, imagesTests, wholeTests, readingTests, pickReading, readingOf}
+use Rattle.netpbm.specs.Reading.{cbAt, crAt, inputLayout, noRatio, imagesTests, wholeTests, readingTests}
+use Rattle.netpbm.specs.Inner.Reading.{pickReading, readingOf}
 use Rattle.netpbm.proofs.Fields.{ImageInside, image-inside}
 use Rattle.netpbm.proofs.Ratios.{Fits, ratio-fits}
 

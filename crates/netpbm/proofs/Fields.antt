@@ -16,7 +16,7 @@ use Rattle.netpbm.specs.declared.pgm.Field.{Field}
 use Rattle.netpbm.specs.declared.pgm.Image.{Image}
 use Rattle.netpbm.specs.Bytes.{hasBlank, pastBlanks}
 use Rattle.netpbm.specs.Images.{hasMagic, hasNumber, fieldEnd, widthOf, widthEnd, heightOf, heightEnd, maxvalOf, maxvalEnd, rowsAt, imageEnd, imageTests}
-use Rattle.netpbm.specs.Held.{held, fieldHeld, HeaderHeld, imageHeld}
+use Rattle.netpbm.specs.Inner.Held.{held, fieldHeld, HeaderHeld, imageHeld}
 use Rattle.netpbm.proofs.Runs.{blank-inside, blanks-most, digits-most}
 use Rattle.netpbm.proofs.Products.{kept, held-product, held-over, held-equal}
 

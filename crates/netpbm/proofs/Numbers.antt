@@ -9,7 +9,7 @@ use lib.ListN.{getD, take, drop}
 use lib.Seq.{drop-cons}
 use Rattle.netpbm.specs.declared.scan.Number.{Number}
 use Rattle.netpbm.specs.Bytes.{decimalOf, hasDigit, digitsAt, pastDigits, numberAt}
-use Rattle.netpbm.specs.Held.{held, numberHeld}
+use Rattle.netpbm.specs.Inner.Held.{held, numberHeld}
 use Rattle.netpbm.proofs.Runs.{digit-inside, digits-more, digits-end, past-more, past-end}
 
 -- numbers that are held alike are so with more digits behind them

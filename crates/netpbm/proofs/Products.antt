@@ -9,7 +9,7 @@ use native.Mathlib.Nat.{eq-zero-or-pos, mul-zero, zero-mul, mul-le-mul-left, mul
 use native.Mathlib.Omega.{arith}
 use lib.Dec.{leb, ltb, eqb}
 use borrow.Author.Tests.{leb-true, leb-false, ltb-true, ltb-false, lt-ltb, le-ltb, eq-eqb, ne-eqb, eqb-true, eqb-false}
-use Rattle.netpbm.specs.Held.{held}
+use Rattle.netpbm.specs.Inner.Held.{held}
 
 -- a factor is no more than the product, unless the other is 0
 factor : (a b : ℕ) → 0 < b → a ≤ a * b

@@ -11,7 +11,7 @@ use borrow.Author.Tests.{eqb-true}
 use Rattle.image.specs.Tests.{divCeil}
 use Rattle.image.proofs.Quotients.{ceil-most}
 use Rattle.netpbm.specs.Reading.{fitsBoth, smallest, ratioFor}
-use Rattle.netpbm.specs.Held.{held}
+use Rattle.netpbm.specs.Inner.Held.{held}
 use Rattle.netpbm.proofs.Products.{held-equal}
 
 -- `smallest`, with the first of the numbers from r to 4 tried

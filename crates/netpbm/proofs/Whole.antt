@@ -22,9 +22,10 @@ use Rattle.netpbm.specs.declared.pgm.Image.{Image}
 use Rattle.netpbm.specs.declared.reading.Reading.{Reading}
 use Rattle.netpbm.specs.declared.reading.Reading.the-variants.{Read, Refused}
 use Rattle.netpbm.specs.Images.{widthOf, heightOf, rowsAt, imageEnd, imageTests}
-use Rattle.netpbm.specs.Reading.{cbAt, crAt, ratioFor, inputLayout, noRatio, imagesTests, wholeTests, readingTests, pickReading, readingOf}
-use Rattle.netpbm.specs.HeldInput.{layoutHeld, orAnswer, answerHeld}
-use Rattle.netpbm.specs.Held.{held, imageHeld, imageBehind, pickImage}
+use Rattle.netpbm.specs.Reading.{cbAt, crAt, ratioFor, inputLayout, noRatio, imagesTests, wholeTests, readingTests}
+use Rattle.netpbm.specs.Inner.Reading.{pickReading, readingOf}
+use Rattle.netpbm.specs.Inner.HeldInput.{layoutHeld, orAnswer, answerHeld}
+use Rattle.netpbm.specs.Inner.Held.{held, imageHeld, imageBehind, pickImage}
 use Rattle.netpbm.proofs.Runs.{differ}
 use Rattle.netpbm.proofs.Products.{held-over, held-under}
 use Rattle.netpbm.proofs.Ratios.{ratio-held, ratio-fits}

@@ -9,7 +9,8 @@ use native.Mathlib.Omega.{arith}
 use lib.ListN.{length, getD, set, drop, replicate, length-append, drop-of-length-le}
 use lib.Seq.{drop-cons, set-append-seam}
 use Rattle.netpbm.specs.declared.lines.Line.{Line}
-use Rattle.netpbm.specs.Texts.{lineOf, pushed, written}
+use Rattle.netpbm.specs.Texts.{lineOf}
+use Rattle.netpbm.specs.Inner.Texts.{pushed, written}
 
 pub pushed-len : (l : Line) (b : ℕ) → pushed l b .len ≡ l .len + 1
 unfolding pushed

@@ -4,14 +4,10 @@ use mathlib.Core.List.{List, [], _∷_, _++_}
 use Prim.Native.Nat.{ℕ, zero, suc}
 use lib.Dec.{ltb, eqb}
 use lib.ListN.{length}
-use Rattle.laws.specs.declared.answers.Answer.{Answer}
-use Rattle.laws.specs.declared.answers.Answer.the-variants.{Accepted, Refused as Turned}
-use Rattle.laws.specs.Refusals.{Test, first}
+use Rattle.laws.specs.Refusals.{Test}
 use Rattle.image.specs.declared.layout.Layout.{Layout}
 use Rattle.image.specs.Tests.{divCeil, badSize}
-use Rattle.netpbm.specs.declared.reading.Reading.{Reading}
-use Rattle.netpbm.specs.declared.reading.Reading.the-variants.{Read, Refused}
-use Rattle.netpbm.specs.Images.{widthOf, heightOf, rowsAt, imageEnd, imageTests}
+use Rattle.netpbm.specs.Images.{widthOf, heightOf, imageEnd, imageTests}
 
 -- where the three images stand: the first at 0, each other one where the one before has ended
 unfoldable pub cbAt : List ℕ → ℕ
@@ -65,12 +61,3 @@ wholeTests s = (ltb (imageEnd s (crAt s)) (length s), 14) ∷ (badSize (inputLay
 -- "Input too long is 15 before all else"
 unfoldable pub readingTests : List ℕ → List Test
 readingTests s = (ltb 49152 (length s), 15) ∷ (imagesTests s ++ wholeTests s)
-
--- what was read where the answer is accepted, and otherwise the answer's number
-abbrev pub pickReading : Answer → Reading → Reading
-pickReading Accepted r = r
-pickReading (Turned n) r = Refused n
-
--- the number of the first reason that applies; none applies: the layout, and where the rows of Y, Cb and Cr stand
-unfoldable pub readingOf : List ℕ → Reading
-readingOf s = pickReading (first (readingTests s)) (Read (inputLayout s) (rowsAt s 0) (rowsAt s (cbAt s)) (rowsAt s (crAt s)))

@@ -5,7 +5,8 @@ ghost use Prim.Native.Nat.{_+_, _≤_, _<_};
 ghost use mathlib.Core.List.{[]};
 ghost use lib.ListN.{length};
 ghost use Rattle.netpbm.specs.Lines.{digitsOf, ppmHeader, refusalLine};
-ghost use Rattle.netpbm.specs.Texts.{lineOf, pushed, written};
+ghost use Rattle.netpbm.specs.Texts.{lineOf};
+ghost use Rattle.netpbm.specs.Inner.Texts.{pushed, written};
 
 // A line to write: its bytes are the first `len` of `bytes`, and the others are 0, so that a text is held in one way only.
 pub struct Line {

@@ -5,7 +5,7 @@ ghost use Prim.Native.Nat.{_≤_};
 ghost use lib.ListN.{length};
 ghost use Rattle.laws.specs.Refusals.{first, accepted};
 ghost use Rattle.netpbm.specs.Images.{imageTests};
-ghost use Rattle.netpbm.specs.Held.{fieldHeld, imageHeld, imageBehind, HeaderHeld};
+ghost use Rattle.netpbm.specs.Inner.Held.{fieldHeld, imageHeld, imageBehind, HeaderHeld};
 use crate::scan::blank_at;
 use crate::scan::digit_at;
 use crate::scan::magic_at;

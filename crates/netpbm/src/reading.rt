@@ -1,7 +1,7 @@
 // The whole input: three images one after another, nothing behind the last, and sides that make a picture.
 ghost use mathlib.Core.Path.{_≡_};
-ghost use Rattle.netpbm.specs.Reading.{pickReading, readingOf};
-ghost use Rattle.netpbm.specs.HeldInput.{answerHeld};
+ghost use Rattle.netpbm.specs.Inner.Reading.{pickReading, readingOf};
+ghost use Rattle.netpbm.specs.Inner.HeldInput.{answerHeld};
 use crate::pgm::image_after;
 use crate::pgm::image_at;
 use crate::sizes::layout_of;

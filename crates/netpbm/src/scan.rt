@@ -6,7 +6,7 @@ ghost use Prim.Native.Nat.{_-_, _≤_};
 ghost use lib.ListN.{getD};
 ghost use Rattle.netpbm.specs.Bytes.{hasBlank, hasDigit, pastBlanks};
 ghost use Rattle.netpbm.specs.Images.{hasMagic};
-ghost use Rattle.netpbm.specs.Held.{numberHeld};
+ghost use Rattle.netpbm.specs.Inner.Held.{numberHeld};
 use crate::ascii::is_blank;
 use crate::ascii::is_digit;
 

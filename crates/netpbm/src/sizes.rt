@@ -1,7 +1,7 @@
 // The layout that the sides of three images make, with the ratios that they fit.
 ghost use mathlib.Core.Path.{_≡_};
 ghost use Rattle.netpbm.specs.Reading.{fitsBoth, ratioFor, noRatio};
-ghost use Rattle.netpbm.specs.HeldInput.{layoutHeld};
+ghost use Rattle.netpbm.specs.Inner.HeldInput.{layoutHeld};
 use crate::pgm::Image;
 use image::Layout;
 

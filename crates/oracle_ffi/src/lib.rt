@@ -3,7 +3,7 @@
 //
 // oracle/sweep rounds every f32 by both functions and by the original, since no public call takes a float to round.
 ghost use Prim.Native.Nat.{min};
-ghost use Rattle.fround.specs.Rounding.{Rounded};
+ghost use Rattle.fround.specs.Inner.Rounding.{Rounded};
 use fround::Rounding;
 
 // Inner: fround's rounding by adding the grid, as it is, for oracle/sweep.

@@ -17,7 +17,8 @@ use Rattle.laws.specs.Refusals.{first, accepted}
 use Rattle.laws.proofs.Refusals.{accepted-failed, failed-accepted, passed-early, refused-early, refused-here, passed-over}
 use Rattle.image.specs.declared.layout.Layout.{Layout}
 use Rattle.image.specs.Picture.{Planes, shortPlane, badPlanes, Picture, pictureOf}
-use Rattle.image.specs.Tests.{badPlane, layoutTests, Sound}
+use Rattle.image.specs.Tests.{badPlane, layoutTests}
+use Rattle.image.specs.Inner.Tests.{Sound}
 use Rattle.image.proofs.Layouts.{sound}
 use Rattle.image.specs.Scratch.{scratchNeed}
 use Rattle.kernels.specs.declared.kernel.YcbcrKernel.the-variants.{Exact}
@@ -26,7 +27,8 @@ use Rattle.fill.specs.Tests.{fillTests}
 use Rattle.fill.specs.Fill.{FillGiven, fillColour, fillScratch, pixelRows}
 use Rattle.netpbm.specs.declared.reading.Reading.the-variants.{Read, Refused}
 use Rattle.netpbm.specs.Images.{rowsAt}
-use Rattle.netpbm.specs.Reading.{cbAt, crAt, inputLayout, readingTests, pickReading, readingOf}
+use Rattle.netpbm.specs.Reading.{cbAt, crAt, inputLayout, readingTests}
+use Rattle.netpbm.specs.Inner.Reading.{pickReading, readingOf}
 use Rattle.netpbm.proofs.Acceptance.{Taken, taken}
 use Rattle.picture.specs.declared.Outcome.the-variants.{Written, Refused as Down}
 use Rattle.picture.specs.Picture.{inputPlanes, ppmLength, pictureTests, pickOutcome, inputPicture}

@@ -18,7 +18,8 @@ use Rattle.netpbm.specs.declared.lines.Line.{Line}
 use Rattle.netpbm.specs.Texts.{lineOf}
 use Rattle.netpbm.specs.Images.{rowsAt}
 use Rattle.netpbm.specs.Lines.{refusalLine}
-use Rattle.netpbm.specs.Reading.{cbAt, crAt, inputLayout, readingTests, readingOf}
+use Rattle.netpbm.specs.Reading.{cbAt, crAt, inputLayout, readingTests}
+use Rattle.netpbm.specs.Inner.Reading.{readingOf}
 use Rattle.netpbm.proofs.Acceptance.{Taken, taken}
 use Rattle.picture.specs.declared.Outcome.the-variants.{Written}
 use Rattle.picture.specs.Picture.{ppmLength, pictureTests, pickOutcome, PictureGiven}

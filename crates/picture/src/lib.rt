@@ -3,7 +3,7 @@
 // `picture` is public and promises `PictureGiven` of specs/Picture. netpbm's `read` says what the input holds, `fill` gives the pixels,
 // and the module `ppm` puts the header before them. `ycbcrtoppm` and ffi call it; `refusal_line` is what the program writes on refusal.
 ghost use mathlib.Core.Path.{_≡_};
-ghost use Rattle.netpbm.specs.Reading.{readingOf};
+ghost use Rattle.netpbm.specs.Inner.Reading.{readingOf};
 ghost use Rattle.picture.specs.Picture.{PictureGiven};
 
 mod ppm;

@@ -5,7 +5,7 @@ ghost use lib.ListN.{length, getD};
 ghost use Rattle.laws.specs.Lists.{put};
 ghost use Rattle.image.specs.Scratch.{scratchNeed};
 ghost use Rattle.fill.specs.Fill.{fillColour, pixelRows, fillScratch};
-ghost use Rattle.netpbm.specs.Reading.{readingOf};
+ghost use Rattle.netpbm.specs.Inner.Reading.{readingOf};
 ghost use Rattle.netpbm.specs.Lines.{ppmHeader};
 ghost use Rattle.netpbm.specs.Texts.{lineOf};
 ghost use Rattle.picture.specs.Picture.{inputPlanes, inputPicture, ppmLength, ppmOver};

@@ -2,7 +2,7 @@
 ghost use mathlib.Core.Path.{_≡_};
 ghost use Prim.Native.Nat.{_<_};
 ghost use Rattle.laws.specs.Refusals.{first};
-ghost use Rattle.image.specs.Tests.{Sound};
+ghost use Rattle.image.specs.Inner.Tests.{Sound};
 ghost use Rattle.guided.specs.Calls.{readerLayout, afterRow, rowCall, rowTests};
 ghost use Rattle.image.specs.Picture.{planesOf};
 use guided::Reader;

@@ -1,6 +1,6 @@
 // Open: the checks of a picture and its planes, and the state at row 0.
 ghost use mathlib.Core.Path.{_≡_};
-ghost use Rattle.image.specs.Tests.{Sound};
+ghost use Rattle.image.specs.Inner.Tests.{Sound};
 ghost use Rattle.guided.specs.Calls.{afterOpen, openCall, OpenGiven};
 ghost use Rattle.image.specs.Picture.{planesOf};
 use guided::Reader;

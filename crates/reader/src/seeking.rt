@@ -1,7 +1,7 @@
 // Seek: a reader moved to any row.
 ghost use mathlib.Core.Path.{_≡_};
 ghost use Prim.Native.Nat.{_<_};
-ghost use Rattle.image.specs.Tests.{Sound};
+ghost use Rattle.image.specs.Inner.Tests.{Sound};
 ghost use Rattle.guided.specs.Calls.{readerLayout, afterSeek, seekCall, SeekGiven};
 use guided::Reader;
 use guided::Reply;

@@ -3,7 +3,7 @@ ghost use mathlib.Core.Path.{_≡_};
 ghost use mathlib.Core.Bool.{_&&_};
 ghost use Prim.Native.Nat.{_≤_, _<_};
 ghost use lib.Dec.{eqb};
-ghost use Rattle.image.specs.Tests.{Sound};
+ghost use Rattle.image.specs.Inner.Tests.{Sound};
 ghost use Rattle.guided.specs.Calls.{readerLayout, topOf, lastOf, freshH, freshF, doneH, doneF, badCounters, badState};
 use crate::phases::bad_phases;
 use guided::Reader;

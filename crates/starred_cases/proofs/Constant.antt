@@ -9,7 +9,7 @@ use Rattle.laws.proofs.Order.{lt-asym}
 use Rattle.image.specs.declared.chroma.Chroma.{Chroma}
 use Rattle.image.specs.Picture.{Picture}
 use Rattle.fround.specs.Rounding.{fmin, fmax}
-use Rattle.image.specs.Tests.{Sound}
+use Rattle.image.specs.Inner.Tests.{Sound}
 use Rattle.guided.proofs.Congruence.{three-cong}
 use Rattle.guided.proofs.Taken.{own-row, own-column}
 use Rattle.guided.specs.Guided.{three, extremeOf, extreme, valueOf, guidedSample}

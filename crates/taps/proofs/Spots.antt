@@ -8,7 +8,8 @@ use native.Mathlib.Nat.{le-refl, not-le-of-lt, le-of-suc-le-suc, div-one, le-tra
 use native.Mathlib.Omega.{arith}
 use lib.Dec.{T, ltb, leb, eqb, ltb→lt, nltb→le, leb→le, nleb→lt, eqb→eq, lit≤}
 use lib.Ieee.Nearest.{div-mono}
-use Rattle.taps.specs.Taps.{Spot, pickSpot, onCell, spotAt, spotOf, tapOf, TapGiven}
+use Rattle.taps.specs.Taps.{Spot, pickSpot, onCell, spotAt, spotOf, tapOf}
+use Rattle.taps.specs.Inner.Taps.{TapGiven}
 use Rattle.taps.specs.declared.positions.Tap.{Tap}
 
 -- ---- by cases: on a cell, or between two

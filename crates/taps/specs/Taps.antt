@@ -1,8 +1,7 @@
 -- 'Geometry' of document 01's chroma row: where an output sits among the cells, its tap, a pixel's phase, and lerp. Definitions only.
-use mathlib.Core.Path.{_≡_}
 use mathlib.Core.Bool.{Bool, true, false}
 use mathlib.Core.List.{List, [], _∷_}
-use Prim.Native.Nat.{ℕ, _+_, _-_, _*_, _/_, _%_, _<_}
+use Prim.Native.Nat.{ℕ, _+_, _-_, _*_, _/_, _%_}
 use lib.Dec.{ltb, leb, eqb}
 use lib.Ieee.{Float, binary32, add, sub, mul, div}
 use Rattle.laws.specs.Floats.{f32}
@@ -51,12 +50,6 @@ tapOn s = record { i0 = s .near; i1 = s .far; f = fractionOf (s .k) (s .d) }
 -- the tap of output o over len cells at ratio r
 unfoldable pub tapOf : ℕ → ℕ → ℕ → Tap
 tapOf r len o = tapOn (spotOf 1 r len o)
-
--- what `tap_at` promises: the tap, and that its cells are among the len
-pub record TapGiven (r len o : ℕ) (t : Tap) : Type 0 where
-  pub is : t ≡ tapOf r len o
-  pub i0-inside : t .i0 < len
-  pub i1-inside : t .i1 < len
 
 abbrev pub pickPhase : Bool → Phase → Phase → Phase
 pickPhase true a b = a

@@ -1,7 +1,8 @@
 // Where an output sits among the chroma cells, and how far between two of them.
 ghost use mathlib.Core.Path.{_≡_};
 ghost use Prim.Native.Nat.{_*_, _≤_, _<_};
-ghost use Rattle.taps.specs.Taps.{lerpOf, fractionOf, onCell, spotAt, tapOn, TapGiven};
+ghost use Rattle.taps.specs.Taps.{lerpOf, fractionOf, onCell, spotAt, tapOn};
+ghost use Rattle.taps.specs.Inner.Taps.{TapGiven};
 
 // Two cells, and how far an output lies on the way from i0 to i1.
 pub struct Tap {

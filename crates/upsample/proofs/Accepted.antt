@@ -12,12 +12,13 @@ use Rattle.laws.specs.Refusals.{first}
 use Rattle.laws.proofs.Refusals.{accepted-failed, failed-both}
 use Rattle.laws.proofs.Rows.{row-fits}
 use Rattle.image.specs.declared.layout.Layout.{Layout}
-use Rattle.image.specs.Tests.{divCeil, layoutTests, Sound}
+use Rattle.image.specs.Tests.{divCeil, layoutTests}
+use Rattle.image.specs.Inner.Tests.{Sound}
 use Rattle.image.specs.Samples.{Plane}
 use Rattle.image.proofs.Layouts.{sound}
 use Rattle.image.proofs.Planes.{Holds, row-inside, short-holds}
 use Rattle.upsample.specs.Triangular.{badTriangular, triangularTests}
-use Rattle.upsample.specs.Pairs.{RowInside, Doubled}
+use Rattle.upsample.specs.Inner.Pairs.{RowInside, Doubled}
 
 -- ---- all refusals passed
 

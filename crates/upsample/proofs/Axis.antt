@@ -5,7 +5,7 @@ use Prim.Native.Nat.{ℕ, _+_, _-_, _*_, _/_, _%_, min}
 use native.Mathlib.Omega.{arith}
 use borrow.Author.Tests.{eq-eqb, ne-eqb}
 use Rattle.upsample.specs.Weights.{even, far, weighed, oneAxis}
-use Rattle.upsample.specs.Pairs.{bothRow}
+use Rattle.upsample.specs.Inner.Pairs.{bothRow}
 
 even-is : (i o : ℕ) → o ≡ 2 * i → even o ≡ true
 even-is i o e = eq-eqb (o % 2) 0 (omega arith)

@@ -7,7 +7,7 @@ use native.Mathlib.Nat.{mul-le-mul-right, eq-or-lt-of-le}
 use native.Mathlib.Omega.{arith}
 use lib.ListN.{getD}
 use Rattle.image.specs.Samples.{sampleOf}
-use Rattle.upsample.specs.Pairs.{RowInside, cells}
+use Rattle.upsample.specs.Inner.Pairs.{RowInside, cells}
 
 -- the first cells of a row that lies inside lie inside too
 pub cells-to : {bytes n row len : ℕ} → RowInside bytes n row len → (i : ℕ) → i < n → RowInside bytes (i + 1) row len

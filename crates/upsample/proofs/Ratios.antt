@@ -7,7 +7,7 @@ use Rattle.image.specs.declared.layout.Layout.{Layout}
 use Rattle.image.specs.Samples.{Plane, sampleAt}
 use Rattle.upsample.specs.Weights.{even, far, weighed, oneAxis}
 use Rattle.upsample.specs.Triangular.{bothAxes, triangularSample}
-use Rattle.upsample.specs.Pairs.{cells, sums, downRow, bothRow}
+use Rattle.upsample.specs.Inner.Pairs.{cells, sums, downRow, bothRow}
 
 module _ (l : Layout) (p : Plane) (y : ℕ) where
   pub across-is : l .rv ≡ 1 → (x : ℕ) → oneAxis (l .cw) (cells (l .«sample_bytes») (p .bytes) (y * p .stride)) x ≡ triangularSample l (sampleAt (l .«sample_bytes») p) y x

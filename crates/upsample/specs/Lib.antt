@@ -1,3 +1,3 @@
 pub mod Weights
-pub mod Pairs
 pub mod Triangular
+pub mod Inner

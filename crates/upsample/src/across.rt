@@ -4,7 +4,7 @@ ghost use Prim.Native.Nat.{_+_, _-_, _*_, _/_, _≤_, _<_};
 ghost use lib.ListN.{length, set};
 ghost use Rattle.laws.specs.Lists.{put};
 ghost use Rattle.upsample.specs.Weights.{oneAxis};
-ghost use Rattle.upsample.specs.Pairs.{RowInside, Doubled, cells};
+ghost use Rattle.upsample.specs.Inner.Pairs.{RowInside, Doubled, cells};
 use crate::axes::one_axis;
 use crate::weights::cell;
 

@@ -4,7 +4,7 @@ ghost use mathlib.Core.Path.{_≡_};
 ghost use Prim.Native.Nat.{_+_, _-_, _*_, _/_, _≤_, _<_};
 ghost use lib.ListN.{length, set};
 ghost use Rattle.laws.specs.Lists.{put};
-ghost use Rattle.upsample.specs.Pairs.{RowInside, Doubled, bothRow, sums};
+ghost use Rattle.upsample.specs.Inner.Pairs.{RowInside, Doubled, bothRow, sums};
 use crate::axes::both_axes;
 use crate::weights::byte_sum;
 use crate::weights::cell_sum;

@@ -3,7 +3,7 @@ ghost use mathlib.Core.Path.{_≡_};
 ghost use Prim.Native.Nat.{_+_, _≤_};
 ghost use lib.ListN.{length};
 ghost use Rattle.laws.specs.Lists.{put};
-ghost use Rattle.upsample.specs.Pairs.{RowInside, downRow};
+ghost use Rattle.upsample.specs.Inner.Pairs.{RowInside, downRow};
 use crate::axes::one_axis;
 use crate::weights::cell;
 

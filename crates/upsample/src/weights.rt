@@ -5,7 +5,7 @@ ghost use Prim.Native.Nat.{_+_, _/_, _<_, _≤_};
 ghost use lib.ListN.{length};
 ghost use Rattle.upsample.specs.Weights.{even};
 ghost use Rattle.upsample.specs.Weights as weights;
-ghost use Rattle.upsample.specs.Pairs.{RowInside, cells, sums};
+ghost use Rattle.upsample.specs.Inner.Pairs.{RowInside, cells, sums};
 
 // Inner: the far row of cells of output row y, of ch rows: the one before y / 2 at even y, the one after it at odd y, edges repeated.
 pub fn far(y: usize, ch: usize) -> usize

@@ -3,7 +3,7 @@
 // All that it decides is `picture::picture`'s; this reads, lends the memory and writes.
 ghost use Prim.Native.Nat.{_≤_};
 ghost use lib.ListN.{length};
-ghost use Rattle.ycbcrtoppm.specs.Lengths.{writtenLength};
+ghost use Rattle.ycbcrtoppm.specs.Inner.Lengths.{writtenLength};
 use libc::STDIN_FILENO;
 use libc::STDOUT_FILENO;
 use picture::Outcome;

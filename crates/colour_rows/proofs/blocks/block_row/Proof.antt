@@ -4,7 +4,7 @@ use mathlib.Core.Path.{_≡_, ap, _∙_}
 use Prim.Native.Nat.{ℕ}
 use native.Mathlib.Omega.{arith}
 use borrow.Author.Needs.{needs}
-use Rattle.colour_rows.specs.Colours.{colourRow}
+use Rattle.colour_rows.specs.Inner.Colours.{colourRow}
 use Rattle.colour_rows.proofs.blocks.block_row.Statement.{statement}
 use Rattle.colour_rows.proofs.blocks.block_row.Tie as tie
 use Rattle.image.specs.Samples.{planeOf}

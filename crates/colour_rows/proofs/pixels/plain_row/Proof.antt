@@ -6,7 +6,7 @@ use native.Mathlib.Omega.{arith}
 use lib.ListN.{length}
 use borrow.Author.Needs.{needs}
 use Rattle.laws.proofs.Rows.{row-fits}
-use Rattle.colour_rows.specs.Colours.{rowColour, colourRow}
+use Rattle.colour_rows.specs.Inner.Colours.{rowColour, colourRow}
 use Rattle.kernel_blocks.proofs.Stored.{Stored, stored-none, stored-more, stored-end}
 use Rattle.colour_rows.proofs.Colouring.{in-row-read}
 use Rattle.colour_rows.proofs.pixels.plain_row.Statement.{statement}

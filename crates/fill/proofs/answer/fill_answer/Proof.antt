@@ -13,7 +13,8 @@ use Rattle.laws.specs.declared.answers.Answer.{Answer}
 use Rattle.laws.specs.Refusals.{first, accepted}
 use Rattle.laws.proofs.Refusals.{refused-early, passed-early}
 use Rattle.laws.specs.Numbers.{outsideOf}
-use Rattle.image.specs.Tests.{layoutTests, Sound}
+use Rattle.image.specs.Tests.{layoutTests}
+use Rattle.image.specs.Inner.Tests.{Sound}
 use Rattle.image.specs.Picture.{badPlanes, planesOf}
 use Rattle.image.proofs.Layouts.{sound-answer, area}
 use Rattle.image.specs.Scratch.{scratchNeed}

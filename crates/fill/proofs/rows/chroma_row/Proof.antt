@@ -2,7 +2,7 @@ use mathlib.Core.Path.{refl, sym, ap, _∙_}
 use borrow.Author.Needs.{needs}
 use Rattle.fill.specs.declared.options.ChromaUpsampling.{ChromaUpsampling}
 use Rattle.fill.specs.Fill.{linearPair}
-use Rattle.fill.specs.Steps.{fillStep}
+use Rattle.fill.specs.Inner.Steps.{fillStep}
 use Rattle.fill.proofs.rows.chroma_row.Statement.{statement}
 use Rattle.fill.proofs.rows.chroma_row.Tie as tie
 use Rattle.image.specs.Picture.{planesOf}

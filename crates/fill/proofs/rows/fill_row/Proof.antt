@@ -8,7 +8,7 @@ use lib.Ieee.{Float}
 use lib.ListN.{length}
 use borrow.Author.Needs.{needs}
 use Rattle.guided.proofs.Places.{front-fits}
-use Rattle.colour_rows.specs.Colours.{colourRow}
+use Rattle.colour_rows.specs.Inner.Colours.{colourRow}
 use Rattle.fill.proofs.Chroma.{length-fill}
 use Rattle.fill.proofs.Painted.{row-bytes, row-begins, row-room}
 use Rattle.fill.proofs.rows.fill_row.Statement.{statement}

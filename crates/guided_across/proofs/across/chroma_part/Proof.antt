@@ -2,7 +2,7 @@
 -- It wants luma's cells to lie before the component's buffers, since the products read them after two rows were stored: `behind`, by the order of the buffers.
 use Rattle.guided_across.proofs.ReadBack.{chroma-steps}
 use Rattle.guided.proofs.Places.{first-few, slot-order}
-use Rattle.guided_across.specs.Sums.{cellsAt, productsAt, threeRow}
+use Rattle.guided_across.specs.Inner.Sums.{cellsAt, productsAt, threeRow}
 use Rattle.image.proofs.Planes.{short-holds, row-inside}
 use mathlib.Core.Path.{ap, _∙_}
 use Prim.Native.Nat.{_+_, _*_, _≤_}

@@ -1,8 +1,8 @@
 -- Two returns, for Cb alone and for both: the parts' promises are chained, then `horizontal-one` or `horizontal-both` takes them to the definition.
 -- The hard part is in these two laws (ReadBack): a component's part reads back the luma that the first part put.
 use Rattle.guided_across.proofs.ReadBack.{horizontal-one, horizontal-both}
-use Rattle.guided_across.specs.Parts.{chromaPart}
-use Rattle.guided_window.specs.Lent.{componentsOf}
+use Rattle.guided_across.specs.Inner.Parts.{chromaPart}
+use Rattle.guided_window.specs.Inner.Lent.{componentsOf}
 use Rattle.guided.specs.Scratch.{horizontal}
 use Rattle.image.specs.declared.chroma.Chroma.the-variants.{Cb, Cr}
 use Rattle.image.specs.Picture.{Planes, pictureOf, planesOf}

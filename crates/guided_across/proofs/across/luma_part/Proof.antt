@@ -1,5 +1,5 @@
 use Rattle.guided_across.proofs.ReadBack.{luma-steps}
-use Rattle.guided_across.specs.Sums.{cellsAt, productsAt, threeRow}
+use Rattle.guided_across.specs.Inner.Sums.{cellsAt, productsAt, threeRow}
 use mathlib.Core.Path.{ap, _∙_}
 use native.Mathlib.Omega.{arith}
 use borrow.Author.Needs.{needs}

@@ -4,7 +4,7 @@ use Prim.Native.Nat.{ℕ, _+_, _-_, _≤_}
 use native.Mathlib.Omega.{arith}
 use borrow.Author.Needs.{needs}
 use Rattle.laws.proofs.Lists.{Run, run-none, run-end}
-use Rattle.guided_across.specs.ByteCells.{cellMean, cellRun}
+use Rattle.guided_across.specs.Inner.ByteCells.{cellMean, cellRun}
 use Rattle.guided_across.proofs.ByteBlocks.{block-more}
 use Rattle.guided_across.proofs.byte_cells.cell_run.Statement.{statement}
 use Rattle.guided_across.proofs.byte_cells.cell_run.Tie as tie

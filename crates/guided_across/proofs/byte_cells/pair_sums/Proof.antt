@@ -5,7 +5,7 @@ use Prim.Native.Nat.{ℕ, _+_, _-_, _≤_, _<_}
 use native.Mathlib.Omega.{arith}
 use borrow.Author.Needs.{needs}
 use Rattle.lanes.proofs.Filled.{Filled, filled-none, filled-more}
-use Rattle.guided_across.specs.ByteCells.{pairSum}
+use Rattle.guided_across.specs.Inner.ByteCells.{pairSum}
 use Rattle.guided_across.proofs.byte_cells.pair_sums.Statement.{statement}
 use Rattle.guided_across.proofs.byte_cells.pair_sums.Tie as tie
 use Rattle.guided_across.proofs.byte_cells.pair_sums.Reads as reads

@@ -1,5 +1,5 @@
 use Rattle.guided_across.proofs.SumsTo.{Summed, sum-none, sum-more, sum-end}
-use Rattle.guided_across.specs.Luma.{rowSum, cellSum}
+use Rattle.guided_across.specs.Inner.Luma.{rowSum, cellSum}
 use Prim.Native.Nat.{_+_, _-_, _*_, _≤_}
 use native.Mathlib.Omega.{arith}
 use Rattle.guided_across.proofs.luma.cell_sum.Statement.{statement}

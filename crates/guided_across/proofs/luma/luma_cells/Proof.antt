@@ -1,6 +1,6 @@
 -- The loop's invariant: s is s₀ with the luma of the first i cells, as a `Run` from dst + from on; `run-more` is a turn by what `cell_luma` promises.
 -- Only the plane is read, so that no store can change what a later turn reads.
-use Rattle.guided_across.specs.Luma.{lumaRun}
+use Rattle.guided_across.specs.Inner.Luma.{lumaRun}
 use Rattle.guided.specs.Guided.{lumaOf}
 use Rattle.image.specs.Samples.{sampleAt, planeOf}
 use Prim.Native.Nat.{_+_, _-_, _≤_}

@@ -6,7 +6,7 @@ use native.Mathlib.Omega.{arith}
 use borrow.Author.Needs.{needs}
 use Rattle.image.proofs.Layouts.{begins}
 use Rattle.image.proofs.Planes.{short-holds, row-inside}
-use Rattle.guided_across.specs.Luma.{lumaRun}
+use Rattle.guided_across.specs.Inner.Luma.{lumaRun}
 use Rattle.guided_across.proofs.Areas.{luma-none, byte-cells}
 use Rattle.guided_across.proofs.luma.luma_head.Statement.{statement}
 use Rattle.guided_across.proofs.luma.luma_head.Tie as tie

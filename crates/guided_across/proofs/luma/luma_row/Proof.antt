@@ -1,5 +1,5 @@
 use Rattle.guided_across.proofs.Areas.{luma-parts}
-use Rattle.guided_across.specs.Luma.{lumaRun}
+use Rattle.guided_across.specs.Inner.Luma.{lumaRun}
 use Rattle.image.specs.Samples.{Plane}
 use mathlib.Core.Path.{ap, _∙_}
 use Prim.Native.Nat.{_-_}

@@ -2,7 +2,7 @@
 -- The one step that isn't linear is that sample i lies within the plane: `within-plane`.
 use Rattle.guided_across.proofs.SumsTo.{Summed, sum-none, sum-more, sum-end}
 use Rattle.guided_across.proofs.Areas.{within-plane}
-use Rattle.guided_across.specs.Luma.{rowSum}
+use Rattle.guided_across.specs.Inner.Luma.{rowSum}
 use Rattle.image.specs.Samples.{sampleAt, planeOf}
 use Prim.Native.Nat.{_+_, _-_, _*_, _≤_}
 use native.Mathlib.Omega.{arith}

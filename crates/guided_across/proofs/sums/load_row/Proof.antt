@@ -1,6 +1,6 @@
 -- The loop's invariant: s is s₀ with the first i samples, as a `Run` from dst on; `run-more` is a turn and `run-end` the promise.
 -- The one step that isn't linear is that sample i ends within the row, (i + 1) * sample_bytes being at most n * sample_bytes: `row-fits`.
-use Rattle.guided_across.specs.Sums.{loadRun}
+use Rattle.guided_across.specs.Inner.Sums.{loadRun}
 use Rattle.image.specs.Samples.{sampleOf}
 use borrow.Author.Needs.{needs}
 use mathlib.Core.Path.{ap}

@@ -1,7 +1,7 @@
 -- The loop's invariant: s is s₀ with the first i inner sums of products, as a `Run` from dst + 1 on, each by the two rows that s₀ had.
 -- `inner-more` is a turn; `behind-products` is its hard step: both rows lie before dst, so that no store changes a factor.
 use Rattle.guided_across.proofs.Threes.{behind-products, inner-more}
-use Rattle.guided_across.specs.Sums.{productsAt, threeRun}
+use Rattle.guided_across.specs.Inner.Sums.{productsAt, threeRun}
 use Rattle.guided.specs.Guided.{three}
 use borrow.Author.Needs.{needs}
 use Prim.Native.Nat.{_+_, _-_, _≤_}

@@ -1,7 +1,7 @@
 -- One store. `three-is` says that cells prev i, i and next i are those of sum i with edges repeated, `three-one` that the store is a run of one value.
 -- The bounds are the contract's: both neighbours are below n, and src + n ≤ dst keeps every read inside s.
 use Rattle.guided_across.proofs.Threes.{three-is, three-one}
-use Rattle.guided_across.specs.Sums.{cellsAt}
+use Rattle.guided_across.specs.Inner.Sums.{cellsAt}
 use Rattle.image.specs.Scratch.{cellAt}
 use borrow.Author.Needs.{needs}
 use Rattle.guided_across.proofs.sums.sum_at.Statement.{statement}

@@ -1,7 +1,7 @@
 -- The loop's invariant: s is s₀ with the first i inner sums, as a `Run` from dst + 1 on, each by the cells that s₀ had.
 -- `inner-more` is a turn. Its one step that isn't arithmetic: what was stored lies behind the cells (`behind-cells`), so that they are read as at the beginning.
 use Rattle.guided_across.proofs.Threes.{behind-cells, inner-more}
-use Rattle.guided_across.specs.Sums.{threeRun}
+use Rattle.guided_across.specs.Inner.Sums.{threeRun}
 use Rattle.image.specs.Scratch.{cellAt}
 use Rattle.guided.specs.Guided.{three}
 use borrow.Author.Needs.{needs}

@@ -1,5 +1,5 @@
 use Rattle.guided_down.proofs.NineSamples.{three-of}
-use Rattle.guided_down.specs.Nines.{wholeOp}
+use Rattle.guided_down.specs.Inner.Nines.{wholeOp}
 use Rattle.image.specs.Samples.{sampleAt, planeOf}
 use borrow.Author.Needs.{needs}
 use Rattle.guided_down.proofs.extremes.across.Statement.{statement}

@@ -1,6 +1,6 @@
 use Rattle.guided_down.proofs.NineSamples.{three-of}
-use Rattle.guided_down.specs.Extremes.{wholeExtreme}
-use Rattle.guided_down.specs.Nines.{wholeOp}
+use Rattle.guided_down.specs.Inner.Extremes.{wholeExtreme}
+use Rattle.guided_down.specs.Inner.Nines.{wholeOp}
 use Rattle.guided.specs.Events.{threeN}
 use Rattle.image.specs.Samples.{Plane, sampleAt}
 use borrow.Author.Needs.{needs}

@@ -5,7 +5,7 @@ use borrow.Author.Needs.{needs}
 use Rattle.guided_down.proofs.extremes.extreme_row.Statement.{statement}
 use lib.Ieee.{Float}
 use mathlib.Core.List.{List}
-use Rattle.guided_down.specs.Extremes.{extremeRun}
+use Rattle.guided_down.specs.Inner.Extremes.{extremeRun}
 use Rattle.guided_down.proofs.Wholes.{run-parts, run-whole}
 use Rattle.guided_down.proofs.extremes.extreme_row.Tie as tie
 use Rattle.image.specs.Samples.{planeOf}

@@ -8,7 +8,7 @@ use Rattle.laws.specs.Floats.{f32}
 use Rattle.guided_down.proofs.Wholes.{whole-is}
 use Rattle.laws.proofs.Lists.{Run, run-end, run-more, run-none}
 use Rattle.guided.specs.Guided.{extremeOf}
-use Rattle.guided_down.specs.Extremes.{extremeRun, opOf}
+use Rattle.guided_down.specs.Inner.Extremes.{extremeRun, opOf}
 use borrow.Author.Needs.{needs}
 use Rattle.image.specs.Samples.{sampleAt, planeOf}
 use Rattle.guided_down.proofs.extremes.extreme_run.Tie as tie

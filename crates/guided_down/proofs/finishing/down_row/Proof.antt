@@ -4,7 +4,7 @@ use mathlib.Core.Path.{ap, _∙_}
 use mathlib.Core.Bool.{true, false}
 use borrow.Author.Needs.{needs}
 use Rattle.image.specs.Samples.{Plane}
-use Rattle.guided_down.specs.Extremes.{extremeRow}
+use Rattle.guided_down.specs.Inner.Extremes.{extremeRow}
 use Rattle.guided_down.proofs.DownSteps.{down-row-are}
 use Rattle.guided_down.proofs.finishing.down_row.Statement.{statement}
 use Rattle.guided_down.proofs.finishing.down_row.Tie as tie

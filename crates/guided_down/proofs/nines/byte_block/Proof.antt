@@ -2,7 +2,7 @@ use Prim.Native.Nat.{_+_, _-_, _≤_}
 use native.Mathlib.Omega.{arith}
 use borrow.Author.Needs.{needs}
 use Rattle.laws.proofs.Lists.{Run, run-none, front-more, front-at}
-use Rattle.guided_down.specs.Nines.{nineFrom}
+use Rattle.guided_down.specs.Inner.Nines.{nineFrom}
 use Rattle.guided_down.proofs.nines.byte_block.Statement.{statement}
 use Rattle.guided_down.proofs.nines.byte_block.Tie as tie
 

@@ -5,7 +5,7 @@ use native.Mathlib.Omega.{arith}
 use borrow.Author.Needs.{needs}
 use Rattle.laws.specs.Floats.{f32}
 use Rattle.laws.proofs.Lists.{Run, run-end, run-none}
-use Rattle.guided_down.specs.Nines.{nineFrom}
+use Rattle.guided_down.specs.Inner.Nines.{nineFrom}
 use Rattle.guided_down.proofs.Sixteens.{block-more}
 use Rattle.guided_down.proofs.nines.byte_run.Statement.{statement}
 use Rattle.guided_down.proofs.nines.byte_run.Tie as tie

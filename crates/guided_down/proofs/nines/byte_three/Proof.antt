@@ -1,7 +1,7 @@
 use borrow.Author.Needs.{needs}
 use Rattle.guided_down.proofs.nines.byte_three.Statement.{statement}
 use Rattle.image.specs.Samples.{sampleOf}
-use Rattle.guided_down.specs.Nines.{threeFrom}
+use Rattle.guided_down.specs.Inner.Nines.{threeFrom}
 use Rattle.guided_down.proofs.nines.byte_three.Tie as tie
 
 shared-slice-read-pick-byte : tie.Need-shared-slice-read-pick-byte

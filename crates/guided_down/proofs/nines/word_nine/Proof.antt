@@ -1,6 +1,6 @@
 use borrow.Author.Needs.{needs}
 use Rattle.guided_down.proofs.nines.word_nine.Statement.{statement}
-use Rattle.guided_down.specs.Nines.{nineFrom}
+use Rattle.guided_down.specs.Inner.Nines.{nineFrom}
 use Rattle.guided_down.proofs.nines.word_nine.Tie as tie
 
 word-three-requires : tie.Need-word-three-requires

@@ -1,7 +1,7 @@
 use borrow.Author.Needs.{needs}
 use Rattle.guided_down.proofs.nines.word_three.Statement.{statement}
 use Rattle.image.specs.Samples.{sampleOf}
-use Rattle.guided_down.specs.Nines.{threeFrom}
+use Rattle.guided_down.specs.Inner.Nines.{threeFrom}
 use Rattle.guided_down.proofs.nines.word_three.Tie as tie
 
 sample-requires : tie.Need-sample-requires

@@ -1,4 +1,4 @@
-use Rattle.guided_down.specs.Slopes.{meanAt}
+use Rattle.guided_down.specs.Inner.Slopes.{meanAt}
 use borrow.Author.Needs.{needs}
 use Rattle.guided_down.proofs.slopes.mean_at.Statement.{statement}
 use Rattle.guided_down.proofs.slopes.mean_at.Tie as tie

@@ -1,5 +1,5 @@
 use Rattle.guided_down.proofs.Statistics.{by-same}
-use Rattle.guided_down.specs.Slopes.{slopeAt}
+use Rattle.guided_down.specs.Inner.Slopes.{slopeAt}
 use mathlib.Core.Path.{_∙_}
 use borrow.Author.Needs.{needs}
 use Rattle.guided_down.proofs.slopes.slope_at.Statement.{statement}

@@ -1,4 +1,4 @@
-use Rattle.guided_down.specs.Slopes.{slopeBy}
+use Rattle.guided_down.specs.Inner.Slopes.{slopeBy}
 use mathlib.Core.Path.{ap}
 use lib.Ieee.{Float, ofBits, ofInt}
 use Rattle.laws.specs.Floats.{_⊕_, _⊖_, _⊗_, _⊘_}

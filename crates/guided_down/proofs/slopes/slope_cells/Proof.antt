@@ -4,7 +4,7 @@ use Prim.Native.Nat.{_-_, _≤_}
 use native.Mathlib.Omega.{arith}
 use borrow.Author.Needs.{needs}
 use Rattle.laws.proofs.Lists.{Run, run-none, run-end}
-use Rattle.guided_down.specs.Slopes.{slopeAt, slopeRun}
+use Rattle.guided_down.specs.Inner.Slopes.{slopeAt, slopeRun}
 use Rattle.guided_down.proofs.Statistics.{all-less, block-more}
 use Rattle.guided_down.proofs.slopes.slope_cells.Statement.{statement}
 use Rattle.guided_down.proofs.slopes.slope_cells.Tie as tie

@@ -1,7 +1,7 @@
 use Rattle.guided_down.proofs.Statistics.{all-less}
 use lib.Ieee.{nan}
 use Rattle.laws.proofs.Lists.{Run, run-none, front-more, front-at}
-use Rattle.guided_down.specs.Slopes.{slopeAt}
+use Rattle.guided_down.specs.Inner.Slopes.{slopeAt}
 use Prim.Native.Nat.{_+_, _-_, _≤_}
 use native.Mathlib.Omega.{arith}
 use Rattle.guided_down.proofs.slopes.slope_eight.Statement.{statement}

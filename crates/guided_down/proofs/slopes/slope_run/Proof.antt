@@ -4,7 +4,7 @@ use mathlib.Core.Path.{_∙_}
 use Prim.Native.Nat.{_-_, _≤_}
 use native.Mathlib.Omega.{arith}
 use Rattle.laws.proofs.Lists.{Run, run-none, run-more, run-end}
-use Rattle.guided_down.specs.Slopes.{slopeAt, slopeRun}
+use Rattle.guided_down.specs.Inner.Slopes.{slopeAt, slopeRun}
 use Rattle.guided_down.proofs.Statistics.{all-less, slope-same}
 use Rattle.guided_down.proofs.slopes.slope_run.Statement.{statement}
 use Rattle.guided_down.proofs.slopes.slope_run.Tie as tie

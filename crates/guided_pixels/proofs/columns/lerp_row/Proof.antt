@@ -2,7 +2,7 @@
 -- A turn reads s and not s₀: both rows of cells end before dst, so that `run-before` says that they are as at the beginning.
 use Rattle.image.specs.Scratch.{cellAt}
 use Rattle.taps.specs.Taps.{lerpOf}
-use Rattle.guided_pixels.specs.Columns.{lerpRun}
+use Rattle.guided_pixels.specs.Inner.Columns.{lerpRun}
 use borrow.Author.Needs.{needs}
 use mathlib.Core.Path.{refl, _∙_}
 use Prim.Native.Nat.{_+_, _-_, _≤_}

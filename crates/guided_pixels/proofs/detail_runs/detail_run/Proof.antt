@@ -7,7 +7,7 @@ use Rattle.laws.specs.Floats.{f32}
 use Rattle.image.specs.Samples.{sampleAt, planeOf}
 use Rattle.image.specs.Scratch.{cellAt}
 use Rattle.guided.specs.Guided.{detailOf}
-use Rattle.guided_pixels.specs.Pixels.{detailRun}
+use Rattle.guided_pixels.specs.Inner.Pixels.{detailRun}
 use Rattle.guided_pixels.proofs.DetailRows.{detail-is}
 use native.Mathlib.Omega.{arith}
 use Rattle.guided_pixels.proofs.detail_runs.detail_run.Statement.{statement}

@@ -7,7 +7,7 @@ use Rattle.laws.proofs.Lists.{Run, run-at, run-none, run-two, front-at}
 use Prim.Native.Nat.{_*_, _+_, _-_, _≤_}
 use Rattle.guided_pixels.proofs.Twos.{pair-turn}
 use Rattle.guided_pixels.proofs.DetailRows.{detail-pair-at}
-use Rattle.guided_pixels.specs.Pixels.{detailIn}
+use Rattle.guided_pixels.specs.Inner.Pixels.{detailIn}
 use mathlib.Core.Path.{refl}
 use Rattle.guided_pixels.proofs.detail_twos.detail_block.Tie as tie
 use Rattle.image.specs.Samples.{planeOf}

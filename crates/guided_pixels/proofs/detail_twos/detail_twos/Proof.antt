@@ -6,7 +6,7 @@ use borrow.Author.Needs.{needs}
 use Rattle.image.specs.Samples.{Plane, planeOf}
 use Rattle.laws.proofs.Lists.{Run, run-end, run-none}
 use Rattle.guided_pixels.proofs.Twos.{lanes-more}
-use Rattle.guided_pixels.specs.Pixels.{detailIn, detailRun}
+use Rattle.guided_pixels.specs.Inner.Pixels.{detailIn, detailRun}
 use Rattle.guided_pixels.proofs.DetailRows.{detail-same}
 use Rattle.guided_pixels.proofs.detail_twos.detail_twos.Statement.{statement}
 use Rattle.guided_pixels.proofs.detail_twos.detail_twos.Tie as tie

@@ -4,7 +4,7 @@ use Prim.Native.Nat.{_+_, _-_, _≤_, _*_}
 use native.Mathlib.Omega.{arith}
 use Rattle.guided_pixels.proofs.details.detail_cell.Statement.{statement}
 use Rattle.laws.proofs.Lists.{Run, run-end, run-none, run-more}
-use Rattle.guided_pixels.specs.Pixels.{detailIn, detailRun}
+use Rattle.guided_pixels.specs.Inner.Pixels.{detailIn, detailRun}
 use borrow.Author.Needs.{needs}
 use Rattle.image.specs.Scratch.{cellAt}
 use Rattle.guided_pixels.proofs.DetailRows.{detail-is}

@@ -10,7 +10,7 @@ use mathlib.Core.List.{List}
 use Rattle.image.specs.Samples.{Plane}
 use Rattle.guided_pixels.proofs.Phases.{cells-inside, runs-whole}
 use Rattle.guided_pixels.proofs.DetailRows.{detail-runs}
-use Rattle.guided_pixels.specs.Pixels.{detailRun}
+use Rattle.guided_pixels.specs.Inner.Pixels.{detailRun}
 use Rattle.guided_pixels.proofs.details.detail_cells.Tie as tie
 
 -- the cells between the first and the last lie inside the picture

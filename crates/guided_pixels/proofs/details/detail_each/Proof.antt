@@ -3,7 +3,7 @@
 use Prim.Native.Nat.{_-_, _≤_}
 use native.Mathlib.Omega.{arith}
 use Rattle.guided_pixels.proofs.details.detail_each.Statement.{statement}
-use Rattle.guided_pixels.specs.Pixels.{detailRun}
+use Rattle.guided_pixels.specs.Inner.Pixels.{detailRun}
 use Rattle.guided_pixels.proofs.Phases.{each-more, Each, each-end, each-inside, each-none}
 use Rattle.guided_pixels.proofs.DetailRows.{detail-runs}
 use Rattle.guided_pixels.proofs.details.detail_each.Tie as tie

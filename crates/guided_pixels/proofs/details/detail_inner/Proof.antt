@@ -3,7 +3,7 @@ use Prim.Native.Nat.{_*_}
 use native.Mathlib.Omega.{arith}
 use borrow.Author.Needs.{needs}
 use Rattle.guided_pixels.proofs.details.detail_inner.Statement.{statement}
-use Rattle.guided_pixels.specs.Pixels.{detailRun}
+use Rattle.guided_pixels.specs.Inner.Pixels.{detailRun}
 use Rattle.guided_pixels.proofs.Phases.{ratio-inside, ratio-run}
 use Rattle.guided_pixels.proofs.details.detail_inner.Tie as tie
 use Rattle.image.specs.Samples.{planeOf}

@@ -8,7 +8,7 @@ use Rattle.guided_pixels.proofs.details.detail_ones.Statement.{statemen
 use Rattle.laws.proofs.Lists.{Run, run-after, run-end, run-more, run-none}
 use Rattle.image.specs.Scratch.{cellAt}
 use Rattle.guided_pixels.proofs.DetailRows.{detail-is}
-use Rattle.guided_pixels.specs.Pixels.{detailIn, detailRun}
+use Rattle.guided_pixels.specs.Inner.Pixels.{detailIn, detailRun}
 use lib.Ieee.{nan}
 use borrow.Author.Needs.{needs}
 use Rattle.guided_pixels.proofs.Phases.{one-is}

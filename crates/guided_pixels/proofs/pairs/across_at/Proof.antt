@@ -1,6 +1,6 @@
 -- Two returns, the two cases of `phased`: the branch taken is the phase's side, and `prev` or `next` is the neighbour with the edge repeated.
 -- The rest is bounds: both cells are among cw by what `prev` and `next` promise.
-use Rattle.guided_pixels.specs.Across.{phased}
+use Rattle.guided_pixels.specs.Inner.Across.{phased}
 use mathlib.Core.Path.{sym}
 use borrow.Author.Needs.{needs}
 use Rattle.guided_pixels.proofs.pairs.across_at.Statement.{statement}

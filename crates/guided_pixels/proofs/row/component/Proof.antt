@@ -1,8 +1,8 @@
 use mathlib.Core.Path.{ap, _∙_}
 use Prim.Native.Nat.{_/_}
 use borrow.Author.Needs.{needs}
-use Rattle.guided_pixels.specs.Values.{valueRow}
-use Rattle.guided_pixels.specs.Row.{componentRow}
+use Rattle.guided_pixels.specs.Inner.Values.{valueRow}
+use Rattle.guided_pixels.specs.Inner.Row.{componentRow}
 use Rattle.guided_pixels.proofs.row.component.Statement.{statement}
 use Rattle.guided_pixels.proofs.row.component.Tie as tie
 

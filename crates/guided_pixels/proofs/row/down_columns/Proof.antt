@@ -1,4 +1,4 @@
-use Rattle.guided_pixels.specs.Columns.{downColumn}
+use Rattle.guided_pixels.specs.Inner.Columns.{downColumn}
 use Rattle.guided_pixels.proofs.RowSteps.{down-columns-are}
 use mathlib.Core.Path.{ap, _∙_}
 use Prim.Native.Nat.{_+_}

@@ -9,7 +9,7 @@ use Rattle.image.specs.Scratch.{cellAt}
 use Rattle.guided.specs.Scratch.{detailAt}
 use Rattle.guided.proofs.Taken.{own-column}
 use Rattle.guided_pixels.proofs.ValueRows.{value-is}
-use Rattle.guided_pixels.specs.Values.{valueAt}
+use Rattle.guided_pixels.specs.Inner.Values.{valueAt}
 use Rattle.guided_pixels.proofs.value_runs.value_at.Tie as tie
 
 -- the pixel's own cell is one of the row's

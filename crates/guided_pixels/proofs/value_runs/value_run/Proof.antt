@@ -8,7 +8,7 @@ use Rattle.laws.proofs.Lists.{Run, run-none, run-more, run-end, run-after}
 use native.Mathlib.Omega.{arith}
 use Rattle.guided_pixels.proofs.value_runs.value_run.Statement.{statement}
 use Rattle.guided_pixels.proofs.ValueRows.{value-same}
-use Rattle.guided_pixels.specs.Values.{valueAt, valueRun}
+use Rattle.guided_pixels.specs.Inner.Values.{valueAt, valueRun}
 use Rattle.guided_pixels.proofs.value_runs.value_run.Tie as tie
 
 abbrev Inv-loop : tie.InvT-loop

@@ -8,7 +8,7 @@ use Rattle.guided_pixels.proofs.value_twos.value_block.Statement.{state
 use Rattle.laws.proofs.Lists.{Run, run-at, run-none, run-two, front-at}
 use Rattle.guided_pixels.proofs.Twos.{pair-turn}
 use Rattle.guided_pixels.proofs.ValuePairs.{value-pair-at}
-use Rattle.guided_pixels.specs.Values.{valueAt}
+use Rattle.guided_pixels.specs.Inner.Values.{valueAt}
 use Rattle.guided_pixels.proofs.value_twos.value_block.Tie as tie
 
 abbrev Inv-loop : tie.InvT-loop

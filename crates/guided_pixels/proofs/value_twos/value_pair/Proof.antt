@@ -6,7 +6,7 @@ use native.Mathlib.Omega.{arith}
 use borrow.Author.Needs.{needs}
 use Rattle.guided_pixels.proofs.value_twos.value_pair.Statement.{statement}
 use Rattle.guided_pixels.proofs.ValuePairs.{value-left, value-pair-is, value-right}
-use Rattle.guided_pixels.specs.Values.{valueAt}
+use Rattle.guided_pixels.specs.Inner.Values.{valueAt}
 use Rattle.guided_pixels.proofs.value_twos.value_pair.Tie as tie
 
 pair-at-requires : tie.Need-pair-at-requires

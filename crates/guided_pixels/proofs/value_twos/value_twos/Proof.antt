@@ -5,7 +5,7 @@ use native.Mathlib.Omega.{arith}
 use borrow.Author.Needs.{needs}
 use Rattle.laws.proofs.Lists.{Run, run-end, run-none}
 use Rattle.guided_pixels.proofs.Twos.{lanes-more}
-use Rattle.guided_pixels.specs.Values.{valueAt, valueRun}
+use Rattle.guided_pixels.specs.Inner.Values.{valueAt, valueRun}
 use Rattle.guided_pixels.proofs.ValueRows.{value-same}
 use Rattle.guided_pixels.proofs.value_twos.value_twos.Statement.{statement}
 use Rattle.guided_pixels.proofs.value_twos.value_twos.Tie as tie

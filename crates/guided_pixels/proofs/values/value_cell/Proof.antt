@@ -13,7 +13,7 @@ use Rattle.guided.specs.Scratch.{detailAt}
 use Rattle.fround.specs.Rounding.{fmax, fmin}
 use borrow.Author.Needs.{needs}
 use Rattle.guided_pixels.proofs.CellValues.{value-pixel}
-use Rattle.guided_pixels.specs.Values.{valueAt, valueRun}
+use Rattle.guided_pixels.specs.Inner.Values.{valueAt, valueRun}
 use Rattle.guided_pixels.proofs.values.value_cell.Tie as tie
 
 abbrev Inv-loop : tie.InvT-loop

@@ -9,7 +9,7 @@ use lib.Ieee.{Float}
 use mathlib.Core.List.{List}
 use Rattle.guided_pixels.proofs.Phases.{cells-inside, runs-whole}
 use Rattle.guided_pixels.proofs.ValuePairs.{value-runs}
-use Rattle.guided_pixels.specs.Values.{valueRun}
+use Rattle.guided_pixels.specs.Inner.Values.{valueRun}
 use Rattle.guided_pixels.proofs.values.value_cells.Tie as tie
 
 -- the cells between the first and the last lie inside the picture

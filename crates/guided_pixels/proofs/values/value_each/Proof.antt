@@ -5,7 +5,7 @@ use native.Mathlib.Omega.{arith}
 use Rattle.guided_pixels.proofs.values.value_each.Statement.{statement}
 use Rattle.guided_pixels.proofs.Phases.{Each, each-end, each-inside, each-more, each-none}
 use Rattle.guided_pixels.proofs.ValuePairs.{value-runs}
-use Rattle.guided_pixels.specs.Values.{valueRun}
+use Rattle.guided_pixels.specs.Inner.Values.{valueRun}
 use Rattle.guided_pixels.proofs.values.value_each.Tie as tie
 
 abbrev Inv-loop : tie.InvT-loop

@@ -4,7 +4,7 @@ use native.Mathlib.Omega.{arith}
 use borrow.Author.Needs.{needs}
 use Rattle.guided_pixels.proofs.values.value_inner.Statement.{statement}
 use Rattle.guided_pixels.proofs.Phases.{ratio-inside, ratio-run}
-use Rattle.guided_pixels.specs.Values.{valueRun}
+use Rattle.guided_pixels.specs.Inner.Values.{valueRun}
 use Rattle.guided_pixels.proofs.values.value_inner.Tie as tie
 
 value-ones-requires : tie.Need-value-ones-requires

@@ -9,7 +9,7 @@ use lib.Ieee.{Float}
 use Rattle.image.specs.Scratch.{cellAt}
 use Rattle.guided.specs.Scratch.{detailAt}
 use Rattle.guided_pixels.proofs.CellValues.{value-one}
-use Rattle.guided_pixels.specs.Values.{valueAt}
+use Rattle.guided_pixels.specs.Inner.Values.{valueAt}
 use Rattle.guided_pixels.proofs.values.value_one.Tie as tie
 
 add-lerp : tie.Need-add-lerp

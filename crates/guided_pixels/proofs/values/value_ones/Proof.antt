@@ -7,7 +7,7 @@ use Rattle.guided_pixels.proofs.values.value_ones.Statement.{statement}
 use Rattle.laws.proofs.Lists.{Run, run-after, run-end, run-more, run-none}
 use lib.Ieee.{nan}
 use Rattle.guided_pixels.proofs.ValueRows.{value-same}
-use Rattle.guided_pixels.specs.Values.{valueAt, valueRun}
+use Rattle.guided_pixels.specs.Inner.Values.{valueAt, valueRun}
 use Rattle.guided_pixels.proofs.values.value_ones.Tie as tie
 
 abbrev Inv-loop : tie.InvT-loop

@@ -12,7 +12,7 @@ use Rattle.laws.proofs.Rows.{row-fits}
 use Rattle.image.specs.declared.chroma.Chroma.the-variants.{Cb}
 use Rattle.image.specs.Picture.{Picture, pictureOf}
 use Rattle.image.proofs.Layouts.{area}
-use Rattle.linear.specs.Stores.{storeRun}
+use Rattle.linear.specs.Inner.Stores.{storeRun}
 use Rattle.guided.proofs.Places.{front-fits}
 use Rattle.guided_plane.specs.Plane.{planesWith}
 use Rattle.guided_rows.proofs.GuidedRows.{length-step}

@@ -1,5 +1,5 @@
 use Rattle.image.specs.Picture.{pictureOf, planesOf}
-use Rattle.guided_window.specs.Lent.{componentsOf}
+use Rattle.guided_window.specs.Inner.Lent.{componentsOf}
 use Rattle.guided_rows.proofs.Catching.{AcrossRun, across-run-none, across-run-more, across-run-length, across-run-end}
 use Prim.Native.Nat.{_-_}
 use native.Mathlib.Omega.{arith}

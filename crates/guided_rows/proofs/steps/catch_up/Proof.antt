@@ -3,7 +3,7 @@
 use Rattle.image.specs.Scratch.{scratchNeed}
 use Rattle.image.specs.Picture.{pictureOf, planesOf}
 use Rattle.guided.proofs.Window.{length-across-rows}
-use Rattle.guided_window.specs.Lent.{componentsOf}
+use Rattle.guided_window.specs.Inner.Lent.{componentsOf}
 use Rattle.guided_rows.proofs.Catching.{CatchUpRun, catch-up-run-none, catch-up-run-more, catch-up-run-length, catch-up-run-end}
 use borrow.Author.Needs.{needs}
 use mathlib.Core.Path.{ap, _∙_}

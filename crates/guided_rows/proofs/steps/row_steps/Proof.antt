@@ -1,8 +1,8 @@
 use Rattle.guided.specs.Calls.{doneF}
 use Rattle.image.specs.Picture.{Planes, pictureOf, planesOf}
-use Rattle.guided_window.specs.Lent.{componentsOf}
+use Rattle.guided_window.specs.Inner.Lent.{componentsOf}
 use Rattle.guided.specs.Scratch.{catchUp, rowSteps}
-use Rattle.guided_pixels.specs.Row.{windowRow}
+use Rattle.guided_pixels.specs.Inner.Row.{windowRow}
 use Rattle.guided.proofs.Taken.{taken}
 use Rattle.guided.proofs.Window.{length-catch-up}
 use mathlib.Core.Path.{ap, _∙_}

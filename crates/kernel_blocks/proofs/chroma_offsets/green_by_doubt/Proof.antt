@@ -2,7 +2,7 @@ use mathlib.Core.Path.{sym, subst}
 use borrow.Author.Needs.{needs}
 use lib.Ieee.{ofBits}
 use Rattle.kernels.specs.Kernels.{centred, greenOffset}
-use Rattle.kernel_blocks.specs.Floating.{OnGrid, added}
+use Rattle.kernel_blocks.specs.Inner.Floating.{OnGrid, added}
 use Rattle.kernel_blocks.proofs.Greens.{green-sure}
 use Rattle.kernel_blocks.proofs.chroma_offsets.green_by_doubt.Statement.{statement}
 use Rattle.kernel_blocks.proofs.chroma_offsets.green_by_doubt.Tie as tie

@@ -3,7 +3,7 @@ use Prim.Native.Nat.{ℕ}
 use native.Mathlib.Omega.{arith}
 use lib.Bits.{bitXor, xor-add-and, and-le-l, and-le-r}
 use lib.Ieee.{ofBits, neg}
-use Rattle.kernel_blocks.specs.Floating.{added, taken}
+use Rattle.kernel_blocks.specs.Inner.Floating.{added, taken}
 use Rattle.kernel_blocks.proofs.chroma_offsets.green_doubt.Statement.{statement}
 use Rattle.kernel_blocks.proofs.chroma_offsets.green_doubt.Tie as tie
 

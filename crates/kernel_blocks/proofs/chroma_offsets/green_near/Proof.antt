@@ -1,6 +1,6 @@
 use mathlib.Core.Path.{refl}
 use lib.Ieee.{ofBits}
-use Rattle.kernel_blocks.specs.Floating.{greenBits}
+use Rattle.kernel_blocks.specs.Inner.Floating.{greenBits}
 use Rattle.kernel_blocks.proofs.Greens.{green-number, green-most}
 use Rattle.kernel_blocks.proofs.chroma_offsets.green_near.Statement.{statement}
 use Rattle.kernel_blocks.proofs.chroma_offsets.green_near.Tie as tie

@@ -3,7 +3,7 @@ use native.Mathlib.Omega.{arith}
 use borrow.Author.Needs.{needs}
 use Prim.Native.Nat.{ℕ}
 use Rattle.kernels.specs.Kernels.{centred, greenOffset}
-use Rattle.kernels.specs.Forms.{Biased}
+use Rattle.kernels.specs.Inner.Forms.{Biased}
 use Rattle.kernel_blocks.proofs.Lumas.{on-grid-from}
 use Rattle.kernel_blocks.proofs.chroma_offsets.green_offset.Statement.{statement}
 use Rattle.kernel_blocks.proofs.chroma_offsets.green_offset.Tie as tie

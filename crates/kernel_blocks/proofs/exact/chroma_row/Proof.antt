@@ -6,9 +6,9 @@ use native.Mathlib.Omega.{arith}
 use lib.ListN.{getD}
 use lib.IntN.{pos}
 use lib.Ieee.{nan}
-use Rattle.kernel_blocks.specs.Floating.{Centred, Multiplier, Lowered}
+use Rattle.kernel_blocks.specs.Inner.Floating.{Centred, Multiplier, Lowered}
 use Rattle.lanes.proofs.Filled.{Filled, filled-none, filled-more}
-use Rattle.kernels.specs.Forms.{plusChroma}
+use Rattle.kernels.specs.Inner.Forms.{plusChroma}
 use Rattle.kernel_blocks.proofs.Lumas.{lowered-held, luma-held, byte-is}
 use Rattle.kernel_blocks.proofs.exact.chroma_row.Statement.{statement}
 use Rattle.kernel_blocks.proofs.exact.chroma_row.Tie as tie

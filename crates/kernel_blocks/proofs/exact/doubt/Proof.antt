@@ -7,7 +7,7 @@ use lib.Bits.{bitOr, or-add-and, and-le-l, and-le-r}
 use lib.ListN.{getD}
 use lib.Ieee.{nan}
 use borrow.Author.Count.{below-none, below-more}
-use Rattle.kernel_blocks.specs.Floating.{Sure}
+use Rattle.kernel_blocks.specs.Inner.Floating.{Sure}
 use Rattle.kernel_blocks.proofs.exact.doubt.Statement.{statement}
 use Rattle.kernel_blocks.proofs.exact.doubt.Tie as tie
 

@@ -6,7 +6,7 @@ use native.Mathlib.Omega.{arith}
 use lib.ListN.{getD}
 use lib.IntN.{pos}
 use lib.Ieee.{nan}
-use Rattle.kernel_blocks.specs.Floating.{Centred, Lowered}
+use Rattle.kernel_blocks.specs.Inner.Floating.{Centred, Lowered}
 use Rattle.lanes.proofs.Filled.{Filled, filled-none, filled-more}
 use Rattle.kernels.specs.Kernels.{exact255}
 use Rattle.kernel_blocks.proofs.Lumas.{lowered-held, luma-held, byte-is}

@@ -3,8 +3,8 @@ use lib.IntN.{pos}
 use lib.ListN.{getD}
 use lib.Ieee.{ofBits, neg}
 use Rattle.kernels.specs.Kernels.{redOffset, blueOffset, exact255}
-use Rattle.kernels.specs.Forms.{chromaOffset, plusChroma}
-use Rattle.kernel_blocks.specs.Floating.{forRed, forBlue, Luma}
+use Rattle.kernels.specs.Inner.Forms.{chromaOffset, plusChroma}
+use Rattle.kernel_blocks.specs.Inner.Floating.{forRed, forBlue, Luma}
 use Rattle.kernel_blocks.proofs.exact.rgb_block.Statement.{statement}
 use Rattle.kernel_blocks.proofs.exact.rgb_block.Tie as tie
 

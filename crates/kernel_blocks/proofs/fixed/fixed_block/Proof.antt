@@ -6,7 +6,7 @@ use lib.ListN.{getD}
 use Rattle.laws.proofs.Lists.{Run, run-none, front-more, front-at}
 use borrow.Author.Needs.{needs}
 use Rattle.kernels.specs.Kernels.{fixed255}
-use Rattle.kernels.specs.Forms.{plusFixed}
+use Rattle.kernels.specs.Inner.Forms.{plusFixed}
 use Rattle.kernels.proofs.Colours.{colour-fixed}
 use Rattle.kernel_blocks.proofs.fixed.fixed_block.Statement.{statement}
 use Rattle.kernel_blocks.proofs.fixed.fixed_block.Tie as tie

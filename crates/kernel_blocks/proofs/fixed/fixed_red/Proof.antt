@@ -1,6 +1,6 @@
 use mathlib.Core.Path.{ap, _∙_}
 use borrow.Author.Needs.{needs}
-use Rattle.kernels.specs.Forms.{plusFixed}
+use Rattle.kernels.specs.Inner.Forms.{plusFixed}
 use Rattle.kernel_blocks.proofs.FixedBytes.{red-byte}
 use Rattle.kernel_blocks.proofs.fixed.fixed_red.Statement.{statement}
 use Rattle.kernel_blocks.proofs.fixed.fixed_red.Tie as tie

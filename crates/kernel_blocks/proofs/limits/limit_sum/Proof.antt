@@ -6,7 +6,8 @@ use mir.Syntax.{w32}
 use mir.Val.{SFits, toZ, ofZ}
 use mir.ValLaws.{toZ-pos, toZ-ofZ}
 use borrow.Author.Needs.{needs}
-use Rattle.laws.specs.Differences.{Diff, limit}
+use Rattle.laws.specs.Differences.{limit}
+use Rattle.laws.specs.Inner.Differences.{Diff}
 use Rattle.laws.proofs.Differences.{of-pos, plus}
 use Rattle.kernel_blocks.proofs.Signed.{holds}
 use Rattle.kernel_blocks.proofs.Lumas.{lowered-diff}

@@ -5,7 +5,8 @@ use Prim.Native.Nat.{_+_, _-_, _*_, _≤_}
 use native.Mathlib.Nat.{mul-le-mul-right}
 use native.Mathlib.Omega.{arith}
 use lib.ListN.{length}
-use Rattle.kernel_blocks.specs.Stores.{pixels, blockPixel}
+use Rattle.kernel_blocks.specs.Stores.{pixels}
+use Rattle.kernel_blocks.specs.Inner.Stores.{blockPixel}
 use Rattle.kernel_blocks.proofs.Puts.{length-pixels, pixels-none, pixels-more}
 use Rattle.kernel_blocks.proofs.stores.put_block.Statement.{statement}
 use Rattle.kernel_blocks.proofs.stores.put_block.Tie as tie

@@ -5,7 +5,8 @@ use Prim.Native.Nat.{_-_, _≤_}
 use native.Mathlib.Omega.{arith}
 use lib.ListN.{length, length-set}
 use borrow.Author.Needs.{needs}
-use Rattle.kernel_blocks.specs.Stores.{pixels, blockPixel}
+use Rattle.kernel_blocks.specs.Stores.{pixels}
+use Rattle.kernel_blocks.specs.Inner.Stores.{blockPixel}
 use Rattle.kernel_blocks.proofs.Puts.{length-pixel, pixels-none}
 use Rattle.kernel_blocks.proofs.Packed.{AsPixels, word-stored}
 use Rattle.kernel_blocks.proofs.words.put_words.Statement.{statement}

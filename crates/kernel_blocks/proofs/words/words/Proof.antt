@@ -5,8 +5,8 @@ use Prim.Native.Nat.{_+_, _-_, _*_, _≤_}
 use native.Mathlib.Omega.{arith}
 use lib.ListN.{getD}
 use borrow.Author.Needs.{needs}
-use Rattle.kernel_blocks.specs.Stores.{blockPixel}
-use Rattle.kernel_blocks.specs.Words.{Word}
+use Rattle.kernel_blocks.specs.Inner.Stores.{blockPixel}
+use Rattle.kernel_blocks.specs.Inner.Words.{Word}
 use Rattle.lanes.proofs.Filled.{Filled, filled-none, filled-more}
 use Rattle.kernel_blocks.proofs.Packed.{joined}
 use Rattle.kernel_blocks.proofs.words.words.Statement.{statement}

@@ -1,6 +1,6 @@
 use mathlib.Core.Path.{_≡_, sym, ap, _∙_}
 use Prim.Native.Nat.{ℕ, _*_, _≤_, _<_}
-use Rattle.linear.specs.AcrossRows.{betweenRun}
+use Rattle.linear.specs.Inner.AcrossRows.{betweenRun}
 use native.Mathlib.Omega.{arith}
 use borrow.Author.Needs.{needs}
 use Rattle.linear.proofs.across.across_between.Statement.{statement}

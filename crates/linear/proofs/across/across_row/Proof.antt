@@ -4,7 +4,7 @@ use mathlib.Core.Path.{_≡_, ap, _∙_}
 use Prim.Native.Nat.{ℕ, _+_, _-_, _*_, _/_, _<_}
 use lib.Ieee.{Float}
 use mathlib.Core.List.{List}
-use Rattle.linear.specs.AcrossRows.{acrossRun}
+use Rattle.linear.specs.Inner.AcrossRows.{acrossRun}
 use Rattle.linear.proofs.AcrossRuns.{Pairs, pairs-fit, eight-pairs, between-taps, across-parts}
 use native.Mathlib.Omega.{arith}
 use borrow.Author.Needs.{needs}

@@ -6,7 +6,7 @@ use Prim.Native.Nat.{_+_, _-_, _≤_}
 use lib.Ieee.{nan}
 use Rattle.taps.specs.Taps.{tapOf}
 use Rattle.linear.specs.AcrossRows.{acrossBy}
-use Rattle.linear.specs.AcrossRows.{acrossRun}
+use Rattle.linear.specs.Inner.AcrossRows.{acrossRun}
 use Rattle.image.specs.Scratch.{cellAt}
 use Rattle.laws.proofs.Lists.{Run, run-none, run-more, run-end, run-after}
 use native.Mathlib.Omega.{arith}

@@ -2,7 +2,7 @@
 -- (i + 1) * bytes <= n * bytes, the one product that omega doesn't find; with it every read and every address is linear arithmetic.
 use borrow.Author.Needs.{needs}
 use Prim.Native.Nat.{_+_, _-_, _*_, _≤_}
-use Rattle.linear.specs.Down.{downAt, downRun}
+use Rattle.linear.specs.Inner.Down.{downAt, downRun}
 use Rattle.laws.proofs.Lists.{Run, run-none, run-more, run-end}
 use Rattle.laws.proofs.Rows.{row-fits}
 use native.Mathlib.Omega.{arith}

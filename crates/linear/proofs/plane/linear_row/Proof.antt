@@ -6,7 +6,7 @@ use Rattle.image.specs.Samples.{Plane, planeOf}
 use Rattle.image.proofs.Planes.{short-holds, row-inside}
 use Rattle.linear.specs.Linear.{linearCellsAt}
 use Rattle.image.specs.Scratch.{scratchNeed}
-use Rattle.linear.specs.AcrossRows.{acrossRun}
+use Rattle.linear.specs.Inner.AcrossRows.{acrossRun}
 use Rattle.linear.proofs.LinearRows.{down-is, row-is}
 use native.Mathlib.Omega.{arith}
 use lib.ListN.{length}

@@ -8,9 +8,10 @@ use native.Mathlib.Nat.{mul-comm}
 use Rattle.laws.proofs.Lists.{Rows, rows-none, rows-more, rows-end}
 use Rattle.image.specs.Samples.{Plane, sampleAt, planeOf}
 use Rattle.fround.specs.Rounding.{roundClamped}
-use Rattle.linear.specs.Linear.{linearSample, linearPlane, Ready}
+use Rattle.linear.specs.Linear.{linearSample, linearPlane}
+use Rattle.linear.specs.Inner.Linear.{Ready}
 use Rattle.image.specs.Scratch.{scratchNeed}
-use Rattle.linear.specs.Stores.{storeRun}
+use Rattle.linear.specs.Inner.Stores.{storeRun}
 use Rattle.linear.proofs.LinearRows.{Scratched, scratch-none, scratch-more, scratch-end, length-row, stored-is}
 use Rattle.laws.proofs.Rows.{row-fits}
 use native.Mathlib.Omega.{arith}

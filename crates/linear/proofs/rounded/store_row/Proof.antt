@@ -4,7 +4,7 @@ use borrow.Author.Needs.{needs}
 use mathlib.Core.Path.{_≡_, ap, _∙_}
 use Prim.Native.Nat.{ℕ, _-_, _≤_, min}
 use Rattle.fround.specs.Rounding.{roundClamped}
-use Rattle.linear.specs.Stores.{storeRun}
+use Rattle.linear.specs.Inner.Stores.{storeRun}
 use Rattle.image.specs.Scratch.{cellAt}
 use Rattle.laws.proofs.Lists.{Run, run-none, run-more, run-end}
 use native.Mathlib.Omega.{arith}

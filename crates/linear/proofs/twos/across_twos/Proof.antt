@@ -6,7 +6,7 @@ use native.Mathlib.Omega.{arith}
 use borrow.Author.Needs.{needs}
 use lib.Ieee.{nan}
 use Rattle.laws.proofs.Lists.{put-same, Run, run-none, run-at, run-end, run-after, run-over}
-use Rattle.linear.specs.AcrossRows.{betweenAt, betweenRun}
+use Rattle.linear.specs.Inner.AcrossRows.{betweenAt, betweenRun}
 use Rattle.linear.proofs.AcrossRuns.{between-same}
 use Rattle.linear.proofs.twos.across_twos.Statement.{statement}
 use Rattle.linear.proofs.twos.across_twos.Tie as tie

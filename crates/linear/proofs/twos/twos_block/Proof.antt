@@ -8,7 +8,7 @@ use borrow.Author.Needs.{needs}
 use lib.Ieee.{nan}
 use Rattle.laws.proofs.Lists.{Run, run-none, run-at, front-more, front-at}
 use Rattle.taps.specs.Taps.{lerpOf}
-use Rattle.linear.specs.AcrossRows.{betweenAt}
+use Rattle.linear.specs.Inner.AcrossRows.{betweenAt}
 use Rattle.linear.proofs.AcrossRuns.{between-is}
 use Rattle.linear.proofs.twos.twos_block.Statement.{statement}
 use Rattle.linear.proofs.twos.twos_block.Tie as tie

@@ -1,7 +1,7 @@
 use mathlib.Core.Path.{refl}
 use borrow.Author.Needs.{needs}
 use Rattle.netpbm.specs.Images.{hasNumber, fieldOf, fieldEnd}
-use Rattle.netpbm.specs.Held.{numberHeld, fieldHeld}
+use Rattle.netpbm.specs.Inner.Held.{numberHeld, fieldHeld}
 use Rattle.netpbm.proofs.pgm.field_at.Statement.{statement}
 use Rattle.netpbm.proofs.pgm.field_at.Tie as tie
 

@@ -3,7 +3,7 @@ use mathlib.Core.Bool.{true}
 use borrow.Author.Needs.{needs}
 use borrow.Author.Tests.{not-true, not-false}
 use Rattle.laws.specs.Refusals.{accepted}
-use Rattle.netpbm.specs.Held.{imageBehind}
+use Rattle.netpbm.specs.Inner.Held.{imageBehind}
 use Rattle.netpbm.proofs.pgm.image_after.Statement.{statement}
 use Rattle.netpbm.proofs.pgm.image_after.Tie as tie
 

@@ -3,7 +3,7 @@ use Prim.Native.Nat.{_*_, _≤_}
 use native.Mathlib.Nat.{mul-le-mul}
 use native.Mathlib.Omega.{arith}
 use borrow.Author.Needs.{needs}
-use Rattle.netpbm.specs.Held.{HeaderHeld}
+use Rattle.netpbm.specs.Inner.Held.{HeaderHeld}
 use Rattle.netpbm.proofs.Fields.{header-of, end-most, width-most, value-most, image-of}
 use Rattle.netpbm.proofs.pgm.image_at.Statement.{statement}
 use Rattle.netpbm.proofs.pgm.image_at.Tie as tie

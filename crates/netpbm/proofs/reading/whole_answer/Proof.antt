@@ -11,7 +11,7 @@ use Rattle.laws.specs.Refusals.{Test, first, accepted}
 use Rattle.laws.proofs.Refusals.{refused-here, passed-over, failed-accepted}
 use Rattle.image.specs.Tests.{badSize}
 use Rattle.netpbm.specs.Reading.{noRatio}
-use Rattle.netpbm.specs.HeldInput.{answerHeld}
+use Rattle.netpbm.specs.Inner.HeldInput.{answerHeld}
 use Rattle.netpbm.proofs.Whole.{pick-refused, pick-accepted}
 use Rattle.netpbm.proofs.reading.whole_answer.Statement.{statement}
 use Rattle.netpbm.proofs.reading.whole_answer.Tie as tie

@@ -1,6 +1,6 @@
 use mathlib.Core.Path.{refl}
 use borrow.Author.Needs.{needs}
-use Rattle.netpbm.specs.HeldInput.{layoutHeld}
+use Rattle.netpbm.specs.Inner.HeldInput.{layoutHeld}
 use Rattle.netpbm.proofs.sizes.layout_of.Statement.{statement}
 use Rattle.netpbm.proofs.sizes.layout_of.Tie as tie
 

@@ -10,7 +10,8 @@ use borrow.Author.Needs.{needs}
 use Rattle.laws.specs.declared.answers.Answer.{Answer}
 use Rattle.laws.specs.Refusals.{Test, first, accepted}
 use Rattle.laws.proofs.Refusals.{refused-early, passed-early}
-use Rattle.image.specs.Tests.{layoutTests, Sound}
+use Rattle.image.specs.Tests.{layoutTests}
+use Rattle.image.specs.Inner.Tests.{Sound}
 use Rattle.image.specs.declared.chroma.Chroma.the-variants.{Cb, Cr}
 use Rattle.image.specs.Picture.{badPlanes, planesOf}
 use Rattle.image.proofs.Layouts.{sound-answer}

@@ -19,7 +19,7 @@ use Rattle.guided.specs.Calls.{RowCall, rowCall, readerLayout, rowTests, rowScr
 use Rattle.guided.proofs.Places.{front-fits}
 use Rattle.guided.proofs.FinishedRows.{length-row}
 use Rattle.guided.proofs.Acceptance.{fine, RowHanded, row-handed}
-use Rattle.guided_window.specs.Lent.{Lent}
+use Rattle.guided_window.specs.Inner.Lent.{Lent}
 use Rattle.reader.proofs.rows.row.Statement.{statement}
 use Rattle.reader.proofs.rows.row.Tie as tie
 

@@ -3,7 +3,8 @@
 use mathlib.Core.Bool.{true, false}
 use borrow.Author.Tests.{not-true, not-false}
 use Rattle.laws.specs.Refusals.{first, accepted}
-use Rattle.image.specs.Tests.{layoutTests, Sound}
+use Rattle.image.specs.Tests.{layoutTests}
+use Rattle.image.specs.Inner.Tests.{Sound}
 use Rattle.image.proofs.Layouts.{sound-answer}
 use Rattle.guided.specs.Calls.{readerLayout, badState}
 use mathlib.Core.Path.{_≡_, refl, sym, _∙_}

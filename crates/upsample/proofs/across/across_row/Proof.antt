@@ -2,7 +2,7 @@ use mathlib.Core.Path.{refl}
 use Prim.Native.Nat.{_+_, _-_, _*_}
 use native.Mathlib.Omega.{arith}
 use borrow.Author.Needs.{needs}
-use Rattle.upsample.specs.Pairs.{cells}
+use Rattle.upsample.specs.Inner.Pairs.{cells}
 use Rattle.upsample.specs.Weights.{oneAxis}
 use Rattle.laws.proofs.Lists.{run-of, run-run}
 use Rattle.upsample.proofs.across.across_row.Statement.{statement}

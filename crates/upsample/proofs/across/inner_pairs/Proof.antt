@@ -5,7 +5,7 @@ use Prim.Native.Nat.{_+_, _-_, _*_, _≤_}
 use native.Mathlib.Omega.{arith}
 use borrow.Author.Needs.{needs}
 use Rattle.laws.proofs.Lists.{Run, run-none, run-end}
-use Rattle.upsample.specs.Pairs.{cells}
+use Rattle.upsample.specs.Inner.Pairs.{cells}
 use Rattle.upsample.specs.Weights.{oneAxis}
 use Rattle.upsample.proofs.Axis.{one-even, one-odd}
 use Rattle.upsample.proofs.Inside.{cells-to}

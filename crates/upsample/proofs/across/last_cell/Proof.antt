@@ -6,7 +6,7 @@ use native.Mathlib.Omega.{arith}
 use lib.ListN.{set}
 use borrow.Author.Needs.{needs}
 use Rattle.laws.proofs.Lists.{run-none}
-use Rattle.upsample.specs.Pairs.{cells}
+use Rattle.upsample.specs.Inner.Pairs.{cells}
 use Rattle.upsample.specs.Weights.{oneAxis}
 use Rattle.upsample.proofs.Axis.{one-even, one-odd}
 use Rattle.upsample.proofs.Inside.{cells-to}

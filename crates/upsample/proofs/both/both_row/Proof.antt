@@ -2,7 +2,7 @@ use mathlib.Core.Path.{refl}
 use Prim.Native.Nat.{_+_, _-_, _*_}
 use native.Mathlib.Omega.{arith}
 use borrow.Author.Needs.{needs}
-use Rattle.upsample.specs.Pairs.{sums, bothRow}
+use Rattle.upsample.specs.Inner.Pairs.{sums, bothRow}
 use Rattle.laws.proofs.Lists.{run-of, run-run}
 use Rattle.upsample.proofs.both.both_row.Statement.{statement}
 use Rattle.upsample.proofs.both.both_row.Tie as tie

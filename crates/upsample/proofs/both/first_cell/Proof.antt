@@ -2,7 +2,7 @@ use mathlib.Core.Path.{refl}
 use native.Mathlib.Omega.{arith}
 use borrow.Author.Needs.{needs}
 use Rattle.laws.proofs.Lists.{run-none}
-use Rattle.upsample.specs.Pairs.{sums, bothRow}
+use Rattle.upsample.specs.Inner.Pairs.{sums, bothRow}
 use Rattle.upsample.proofs.Axis.{both-even, both-odd}
 use Rattle.upsample.proofs.Inside.{cells-to}
 use Rattle.laws.proofs.Lists.{run-two}

@@ -6,7 +6,7 @@ use native.Mathlib.Omega.{arith}
 use lib.ListN.{set}
 use borrow.Author.Needs.{needs}
 use Rattle.laws.proofs.Lists.{run-none}
-use Rattle.upsample.specs.Pairs.{sums, bothRow}
+use Rattle.upsample.specs.Inner.Pairs.{sums, bothRow}
 use Rattle.upsample.proofs.Axis.{both-even, both-odd}
 use Rattle.upsample.proofs.Inside.{cells-to}
 use Rattle.laws.proofs.Lists.{run-one, run-two}

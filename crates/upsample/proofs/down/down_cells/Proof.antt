@@ -5,7 +5,7 @@ use Prim.Native.Nat.{_-_, _≤_}
 use native.Mathlib.Omega.{arith}
 use borrow.Author.Needs.{needs}
 use Rattle.laws.proofs.Lists.{Run, run-none, run-more, run-end}
-use Rattle.upsample.specs.Pairs.{downRow}
+use Rattle.upsample.specs.Inner.Pairs.{downRow}
 use Rattle.upsample.proofs.Inside.{cells-to}
 use Rattle.upsample.proofs.down.down_cells.Statement.{statement}
 use Rattle.upsample.proofs.down.down_cells.Tie as tie

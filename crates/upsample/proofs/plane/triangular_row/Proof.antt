@@ -6,7 +6,7 @@ use native.Mathlib.Omega.{arith}
 use lib.ListN.{length}
 use borrow.Author.Needs.{needs}
 use Rattle.laws.proofs.Lists.{put-same}
-use Rattle.upsample.specs.Pairs.{RowInside}
+use Rattle.upsample.specs.Inner.Pairs.{RowInside}
 use Rattle.upsample.proofs.Accepted.{Taken, taken, across-kind, two-down, both-kind, doubled, output-row, cell-row, cell-row-all, near-one, near-two}
 use Rattle.upsample.proofs.Ratios.{across-is, down-is, both-is}
 use Rattle.upsample.proofs.plane.triangular_row.Statement.{statement}

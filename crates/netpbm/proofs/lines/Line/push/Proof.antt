@@ -1,6 +1,6 @@
 use mathlib.Core.Path.{refl}
 use borrow.Author.Needs.{needs}
-use Rattle.netpbm.specs.Texts.{pushed}
+use Rattle.netpbm.specs.Inner.Texts.{pushed}
 use Rattle.netpbm.proofs.lines.Line.push.Statement.{statement}
 use Rattle.netpbm.proofs.lines.Line.push.Tie as tie
 

@@ -6,7 +6,7 @@ use native.Mathlib.Omega.{arith}
 use lib.ListN.{length}
 use Rattle.netpbm.specs.declared.lines.Line.{Line}
 use Rattle.netpbm.specs.Lines.{digitsOf}
-use Rattle.netpbm.specs.Texts.{pushed, written}
+use Rattle.netpbm.specs.Inner.Texts.{pushed, written}
 use Rattle.netpbm.proofs.Digits.{one-digit, two-digits, three-digits, four-digits}
 use Rattle.netpbm.proofs.lines.Line.put_number.Statement.{statement}
 use Rattle.netpbm.proofs.lines.Line.put_number.Tie as tie

@@ -1,0 +1,21 @@
+-- What inner contracts say beside specs/Colours. Definitions only.
+use mathlib.Core.List.{List}
+use Prim.Native.Nat.{ℕ}
+use lib.Ieee.{Float}
+use Rattle.image.specs.declared.layout.Layout.{Layout}
+use Rattle.image.specs.Samples.{Plane, sampleAt}
+use Rattle.image.specs.Scratch.{cellAt}
+use Rattle.kernels.specs.Kernels.{Colour}
+use Rattle.kernel_blocks.specs.Stores.{pixels}
+use Rattle.kernels.specs.declared.kernel.YcbcrKernel.{YcbcrKernel}
+use Rattle.colour_rows.specs.Colours.{colourBy}
+
+-- ---- one row, from luma's plane and the finished rows of chroma that lie in scratch, Cb's at 0 and Cr's at w
+
+-- the colour of column x in row y
+unfoldable pub rowColour : YcbcrKernel → Layout → Plane → ℕ → List Float → ℕ → Colour
+rowColour kernel l p y s x = colourBy kernel (l .maxval) (sampleAt (l .«sample_bytes») p y x) (cellAt s 0 x) (cellAt s (l .w) x)
+
+-- the output after a row's w pixels, `size` bytes each, were stored from `at` on
+unfoldable pub colourRow : YcbcrKernel → Layout → Plane → ℕ → List Float → ℕ → ℕ → List ℕ → List ℕ
+colourRow kernel l p y s at size out = pixels out at size (rowColour kernel l p y s) (l .w)

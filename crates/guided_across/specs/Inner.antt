@@ -1,0 +1,4 @@
+pub mod ByteCells
+pub mod Luma
+pub mod Parts
+pub mod Sums

@@ -1,0 +1,4 @@
+pub mod Down
+pub mod Extremes
+pub mod Nines
+pub mod Slopes

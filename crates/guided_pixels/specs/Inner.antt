@@ -1,0 +1,5 @@
+pub mod Across
+pub mod Columns
+pub mod Pixels
+pub mod Row
+pub mod Values

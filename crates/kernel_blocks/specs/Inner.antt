@@ -1,0 +1,4 @@
+pub mod Blocks
+pub mod Floating
+pub mod Words
+pub mod Stores

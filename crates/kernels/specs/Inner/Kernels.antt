@@ -1,0 +1,6 @@
+-- What inner contracts say beside specs/Kernels. Definitions only.
+use Prim.Native.Nat.{ℕ}
+use Rattle.kernels.specs.Kernels.{Colour}
+
+abbrev pub rgb : ℕ → ℕ → ℕ → Colour
+rgb r g b = record { red = r; green = g; blue = b }

@@ -1,0 +1,13 @@
+-- What inner contracts say beside specs/Differences. Definitions only.
+use mathlib.Core.Path.{_≡_}
+use Prim.Native.Nat.{ℕ, suc, _+_}
+use lib.IntN.{ℤ, pos, negsuc}
+
+-- z is a - b, as an equation of natural numbers for each sign
+abbrev pub Off : ℤ → ℕ → ℕ → Type 0
+Off (pos n) a b = a ≡ n + b
+Off (negsuc n) a b = a + suc n ≡ b
+
+-- z is a - b, kept shut so that a proof carries the difference and not its two cases
+pub record Diff (z : ℤ) (a b : ℕ) : Type 0 where
+  pub is : Off z a b

@@ -1,0 +1,4 @@
+pub mod Down
+pub mod Stores
+pub mod AcrossRows
+pub mod Linear

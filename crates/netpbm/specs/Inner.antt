@@ -1,0 +1,4 @@
+pub mod Held
+pub mod HeldInput
+pub mod Reading
+pub mod Texts

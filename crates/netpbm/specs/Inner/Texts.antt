@@ -1,0 +1,14 @@
+-- What inner contracts say beside specs/Texts. Definitions only.
+use mathlib.Core.List.{List, [], _∷_}
+use Prim.Native.Nat.{ℕ, _+_}
+use lib.ListN.{set}
+use Rattle.netpbm.specs.declared.lines.Line.{Line}
+
+-- a line with one byte more
+unfoldable pub pushed : Line → ℕ → Line
+pushed l b = record { bytes = set (l .bytes) (l .len) b; len = l .len + 1 }
+
+-- a line with the bytes of a text pushed one after another
+unfoldable pub written : Line → List ℕ → Line
+written l [] = l
+written l (b ∷ bs) = written (pushed l b) bs

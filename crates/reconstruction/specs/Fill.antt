@@ -1,0 +1,8 @@
+-- 'fill to RGB (linear or guided)'.
+
+-- "The fill first rounds chroma to a whole number in 0..255", or to 256ths
+pub use Rattle.colour_rows.specs.Colours.{colourBy}
+-- "A pixel has 3 or 4 bytes. The fourth keeps what it held."
+pub use Rattle.kernel_blocks.specs.Stores.{pixels}
+-- each pixel's colour, and the promise
+pub use Rattle.fill.specs.Fill.{chromaBy, fillColour, pixelRows, FillGiven}

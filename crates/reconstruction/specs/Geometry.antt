@@ -1,0 +1,13 @@
+-- 'The chroma row': geometry, planes and scratch.
+
+-- the picture: "sizes, ratios, sample bytes, maxval and the samples inside its planes, without padding or surplus"
+pub use Rattle.image.specs.Samples.{Plane, planeOf, sampleOf, sampleAt}
+pub use Rattle.image.specs.Picture.{Picture, Planes, planesOf, chromaPlane, pictureOf}
+-- "A tap is two indices and a fraction."
+pub use Rattle.taps.specs.Taps.{Spot, spotOf, tapOf}
+-- "lerp(a,b,f) = a + f·(b−a), three roundings."
+pub use Rattle.taps.specs.Taps.{lerpOf}
+-- "The geometry keeps the phase fractions of its ratio, four at most."
+pub use Rattle.taps.specs.Taps.{phaseOf, phasesOf}
+-- "Scratch is lent f32, 64·cw + 8·w values"
+pub use Rattle.image.specs.Scratch.{scratchNeed}

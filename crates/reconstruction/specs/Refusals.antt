@@ -1,0 +1,12 @@
+-- 'Reasons for turning a call down'.
+
+-- "The lowest number that applies is given, and only then"
+pub use Rattle.laws.specs.Refusals.{Test, accepted, first}
+-- the rows of the table, and the lists of the calls
+pub use Rattle.image.specs.Tests.{badSize, badRatio, badSamples, badChroma, badPlane, layoutTests}
+pub use Rattle.guided.specs.Calls.{badState, openTests, seekTests, rowTests}
+pub use Rattle.linear.specs.Linear.{linearTests}
+pub use Rattle.guided_plane.specs.Plane.{guidedTests}
+pub use Rattle.upsample.specs.Triangular.{badTriangular, triangularTests}
+pub use Rattle.fill.specs.Tests.{FillCall, fillTests}
+pub use Rattle.kernels.specs.Pixels.{exactTests, fixedTests}

@@ -1,0 +1,11 @@
+-- What inner contracts say beside specs/Taps. Definitions only.
+use mathlib.Core.Path.{_≡_}
+use Prim.Native.Nat.{ℕ, _<_}
+use Rattle.taps.specs.declared.positions.Tap.{Tap}
+use Rattle.taps.specs.Taps.{tapOf}
+
+-- what `tap_at` promises: the tap, and that its cells are among the len
+pub record TapGiven (r len o : ℕ) (t : Tap) : Type 0 where
+  pub is : t ≡ tapOf r len o
+  pub i0-inside : t .i0 < len
+  pub i1-inside : t .i1 < len
