@@ -2,7 +2,7 @@
 // in src/convert.rs. The crate `kernels` computes the colour of one pixel, `kernel_blocks` that of sixteen.
 //
 // `colour_row` serves fill. It takes a row by blocks of sixteen where its kernel has a block (`blocks`), and otherwise pixel by pixel
-// (`pixels`); both give the same bytes, those of `colourRow` in specs/Colours.
+// (`pixels`); both give the same bytes, those of `colourRow` in specs/Inner/Colours.
 mod blocks;
 mod pixels;
 mod rows;

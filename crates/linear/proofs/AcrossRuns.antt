@@ -11,7 +11,7 @@ use borrow.Author.Tests.{ne-eqb, le-ltb, lt-leb}
 use Rattle.laws.specs.Lists.{put}
 use Rattle.laws.proofs.Lists.{put-same, put-after, put-chain}
 use Rattle.taps.specs.Taps.{lerpOf, fractionOf, Spot, spotAt, spotOf, tapOn, tapOf}
-use Rattle.linear.specs.AcrossRows.{acrossBy}
+use Rattle.linear.specs.Linear.{acrossBy}
 use Rattle.linear.specs.Inner.AcrossRows.{betweenAt, betweenRun, acrossRun}
 use Rattle.image.specs.Scratch.{cellAt}
 

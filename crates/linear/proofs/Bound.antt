@@ -10,7 +10,7 @@ use Rattle.laws.specs.Floats.{f32, NearFraction}
 use Rattle.laws.proofs.Nearness.{Mild, Part, Step, mild-step, add-near, sub-near, mul-near, whole-near, near-widen, near-aim}
 use Rattle.taps.specs.Taps.{Spot, lerpOf, fractionOf, tapOn}
 use Rattle.linear.specs.Linear.{downBy}
-use Rattle.linear.specs.AcrossRows.{acrossBy}
+use Rattle.linear.specs.Linear.{acrossBy}
 use Rattle.linear.specs.Bound.{mix, exactNum, exactDen}
 use Rattle.taps.proofs.Spots.{Valid}
 use Rattle.taps.proofs.Table.{tap-fraction}

@@ -29,7 +29,7 @@ use Rattle.linear.specs.Linear.{downBy, linearDown, linearSample, linear
 use Rattle.linear.specs.Inner.Linear.{Ready}
 use Rattle.image.specs.Scratch.{scratchNeed, cellAt}
 use Rattle.linear.specs.Inner.Down.{downRun}
-use Rattle.linear.specs.AcrossRows.{acrossBy}
+use Rattle.linear.specs.Linear.{acrossBy}
 use Rattle.linear.specs.Inner.AcrossRows.{acrossRun}
 use Rattle.linear.specs.Inner.Stores.{storeRun}
 use Rattle.taps.proofs.Spots.{tap-given}

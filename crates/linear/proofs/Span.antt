@@ -17,7 +17,7 @@ use Rattle.laws.specs.Floats.{f32}
 use Rattle.laws.proofs.Values.{whole-value}
 use Rattle.taps.specs.Taps.{Spot, lerpOf, fractionOf, tapOn}
 use Rattle.linear.specs.Linear.{downBy}
-use Rattle.linear.specs.AcrossRows.{acrossBy}
+use Rattle.linear.specs.Linear.{acrossBy}
 use Rattle.linear.specs.Bound.{Spanned}
 use Rattle.taps.proofs.Spots.{Valid}
 use Rattle.taps.proofs.Table.{Fraction, tap-fraction}

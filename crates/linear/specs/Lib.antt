@@ -1,4 +1,3 @@
-pub mod AcrossRows
 pub mod Linear
 pub mod Bound
 pub mod Inner

@@ -18,7 +18,6 @@ use Rattle.image.specs.Scratch.{scratchNeed}
 use Rattle.fround.specs.Rounding.{roundClamped}
 use Rattle.taps.specs.declared.positions.Tap.{Tap}
 use Rattle.taps.specs.Taps.{lerpOf, tapOf}
-use Rattle.linear.specs.AcrossRows.{acrossBy}
 
 -- two cells of column i lerped down by a tap
 abbrev pub downBy : Tap → (ℕ → ℕ → ℕ) → ℕ → Float
@@ -27,6 +26,10 @@ downBy t c i = lerpOf (f32 (c (t .i0) i)) (f32 (c (t .i1) i)) (t .f)
 -- cell i of row y, lerped down by the row's tap
 unfoldable pub linearDown : Layout → (ℕ → ℕ → ℕ) → ℕ → ℕ → Float
 linearDown l c y i = downBy (tapOf (l .rv) (l .ch) y) c i
+
+-- a row of cells lerped across by a tap
+abbrev pub acrossBy : Tap → (ℕ → Float) → Float
+acrossBy t g = lerpOf (g (t .i0)) (g (t .i1)) (t .f)
 
 -- row y, column x of the cells c, where c j i is cell i of row j
 unfoldable pub linearSample : Layout → (ℕ → ℕ → ℕ) → ℕ → ℕ → Float

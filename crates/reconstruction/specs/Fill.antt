@@ -5,4 +5,5 @@ pub use Rattle.colour_rows.specs.Colours.{colourBy}
 -- "A pixel has 3 or 4 bytes. The fourth keeps what it held."
 pub use Rattle.kernel_blocks.specs.Stores.{pixels}
 -- each pixel's colour, and the promise
+pub use Rattle.fill.specs.Tests.{FillCall, fillCall}
 pub use Rattle.fill.specs.Fill.{chromaBy, fillColour, pixelRows, FillGiven}

@@ -8,5 +8,5 @@ pub use Rattle.guided.specs.Calls.{badState, openTests, seekTests, rowTests}
 pub use Rattle.linear.specs.Linear.{linearTests}
 pub use Rattle.guided_plane.specs.Plane.{guidedTests}
 pub use Rattle.upsample.specs.Triangular.{badTriangular, triangularTests}
-pub use Rattle.fill.specs.Tests.{FillCall, fillTests}
+pub use Rattle.fill.specs.Tests.{fillTests}
 pub use Rattle.kernels.specs.Pixels.{exactTests, fixedTests}

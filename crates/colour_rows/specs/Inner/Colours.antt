@@ -1,4 +1,4 @@
--- What inner contracts say beside specs/Colours. Definitions only.
+-- A row of colour as the inner functions store it, from scratch and luma's plane. Definitions only.
 use mathlib.Core.List.{List}
 use Prim.Native.Nat.{ℕ}
 use lib.Ieee.{Float}

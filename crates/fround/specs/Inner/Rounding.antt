@@ -1,4 +1,4 @@
--- What inner contracts say beside specs/Rounding. Definitions only.
+-- The steps of a rounding: the limited value, and what a rounding promises to its callers. Definitions only.
 use mathlib.Core.Path.{_≡_}
 use mathlib.Core.Bool.{false}
 use Prim.Native.Nat.{ℕ, _≤_}

@@ -1,4 +1,4 @@
--- What inner contracts say beside specs/Tests. Definitions only.
+-- What follows of a layout that passes the tests of specs/Tests, gathered for the callers. Definitions only.
 use mathlib.Core.Path.{_≡_}
 use Prim.Native.Nat.{_*_, _≤_, _<_}
 use Rattle.image.specs.declared.layout.Layout.{Layout}

@@ -1,4 +1,4 @@
--- What inner contracts say beside specs/Stores. Definitions only.
+-- A block of sixteen pixels and its channels, as the stores take them. Definitions only.
 use mathlib.Core.List.{List, []}
 use Prim.Native.Nat.{ℕ, zero, suc}
 use lib.ListN.{getD}

@@ -1,4 +1,4 @@
--- What inner contracts say beside specs/Kernels. Definitions only.
+-- A colour as the record that the kernels return. Definitions only.
 use Prim.Native.Nat.{ℕ}
 use Rattle.kernels.specs.Kernels.{Colour}
 

@@ -1,4 +1,4 @@
--- What inner contracts say beside specs/Differences. Definitions only.
+-- Whole numbers as differences of two natural numbers, which `omega` reads: the bridge between ℤ and ℕ. Definitions only.
 use mathlib.Core.Path.{_≡_}
 use Prim.Native.Nat.{ℕ, suc, _+_}
 use lib.IntN.{ℤ, pos, negsuc}

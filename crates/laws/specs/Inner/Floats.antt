@@ -1,4 +1,4 @@
--- What inner contracts say beside specs/Floats. Definitions only.
+-- A float that equals a fraction, multiplied out: what laws of exactness say beside specs/Floats. Definitions only.
 use mathlib.Core.Path.{_≡_}
 use Prim.Native.Nat.{ℕ, _+_, _*_}
 use lib.Ieee.{Float, nan, inf, fin, up, down}

@@ -1,4 +1,4 @@
--- What inner contracts say beside specs/Refusals. Definitions only.
+-- When the first refusal of a list is the lowest: the order of a list, and that a test of it applies. Definitions only.
 use mathlib.Core.Path.{_≡_}
 use mathlib.Core.Logic.{_⊎_}
 use Prim.Native.Nat.{ℕ, _<_}

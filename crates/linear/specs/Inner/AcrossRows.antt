@@ -1,11 +1,11 @@
--- What inner contracts say beside specs/AcrossRows. Definitions only.
+-- A linear row lerped across over lent scratch, as the inner functions' contracts say it. Definitions only.
 use mathlib.Core.List.{List}
 use Prim.Native.Nat.{ℕ, _+_, _-_, _*_, _/_, _%_}
 use lib.Ieee.{Float}
 use Rattle.laws.specs.Lists.{put}
 use Rattle.image.specs.Scratch.{cellAt}
 use Rattle.taps.specs.Taps.{lerpOf, fractionOf, tapOf}
-use Rattle.linear.specs.AcrossRows.{acrossBy}
+use Rattle.linear.specs.Linear.{acrossBy}
 
 -- outputs from, .. from + n - 1 of a row over the cw cells at src, each by its own tap at ratio r, put at dst + from
 unfoldable pub acrossRun : ℕ → ℕ → ℕ → ℕ → ℕ → ℕ → List Float → List Float

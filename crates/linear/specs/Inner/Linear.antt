@@ -1,4 +1,4 @@
--- What inner contracts say beside specs/Linear. Definitions only.
+-- What an accepted call knows of the layout, the plane and the scratch. Definitions only.
 use mathlib.Core.Path.{_≡_}
 use mathlib.Core.Bool.{false}
 use Prim.Native.Nat.{ℕ, _≤_}

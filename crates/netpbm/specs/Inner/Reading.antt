@@ -1,4 +1,4 @@
--- What inner contracts say beside specs/Reading. Definitions only.
+-- The reading of an input as one value, which the code's enum is. Definitions only.
 use mathlib.Core.List.{List}
 use Prim.Native.Nat.{ℕ}
 use Rattle.laws.specs.declared.answers.Answer.{Answer}

@@ -1,4 +1,4 @@
--- What inner contracts say beside specs/Texts. Definitions only.
+-- How a line grows byte by byte. Definitions only.
 use mathlib.Core.List.{List, [], _∷_}
 use Prim.Native.Nat.{ℕ, _+_}
 use lib.ListN.{set}

@@ -1,4 +1,4 @@
--- What inner contracts say beside specs/Taps. Definitions only.
+-- What `tap_at` promises beside the tap: that its cells are among those there are. Definitions only.
 use mathlib.Core.Path.{_≡_}
 use Prim.Native.Nat.{ℕ, _<_}
 use Rattle.taps.specs.declared.positions.Tap.{Tap}

@@ -5,7 +5,7 @@ use mathlib.Core.Path.{refl, _∙_}
 use Prim.Native.Nat.{_+_, _-_, _≤_}
 use lib.Ieee.{nan}
 use Rattle.taps.specs.Taps.{tapOf}
-use Rattle.linear.specs.AcrossRows.{acrossBy}
+use Rattle.linear.specs.Linear.{acrossBy}
 use Rattle.linear.specs.Inner.AcrossRows.{acrossRun}
 use Rattle.image.specs.Scratch.{cellAt}
 use Rattle.laws.proofs.Lists.{Run, run-none, run-more, run-end, run-after}
