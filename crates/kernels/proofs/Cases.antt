@@ -18,6 +18,10 @@ pub record Cases : Type 0 where
   pub exact-4095 : exactPixel 4095 2048 (2048 * 256) (2048 * 256) ≡ Rgb 128 128 128
   -- chroma above 65,536 256ths: the offset is limited
   pub limited : exactPixel 255 0 32768 65545 ≡ Rgb 179 0 0
+  -- the upper limit itself: one less, 32,767 or 65,535, would give green 38 and 153, and at another maxval red 195
+  pub limit-taken : exactPixel 255 100 11264 65536 ≡ Rgb 255 37 0
+  pub limit-passed : exactPixel 255 200 105 70000 ≡ Rgb 255 152 0
+  pub greatest-chroma : exactPixel 65534 4302 (32767 * 256) 16776960 ≡ Rgb 196 0 17
   -- halves go up: "The blue offset at cb = 32,000 is +222 and at -32,000 it is -221."
   pub blue-up : blueOffset (pos 32000) ≡ pos 222
   pub blue-down : blueOffset (negsuc 31999) ≡ negsuc 220
@@ -41,6 +45,9 @@ cases =
       exact-dark = refl;
       exact-4095 = refl;
       limited = refl;
+      limit-taken = refl;
+      limit-passed = refl;
+      greatest-chroma = refl;
       blue-up = refl;
       blue-down = refl;
       green-down = refl;

@@ -1,6 +1,6 @@
 -- The starred cases hold, each by computing its definition.
 use mathlib.Core.Path.{refl}
-use lib.Ieee.{add, sub, sum, neg, mul, div, round, size, span, climb, units, odd, lt, ofInt}
+use lib.Ieee.{add, sub, sum, neg, mul, div, round, size, span, climb, units, odd, lt, ofInt, ofBits, ofFields}
 use lib.Count.{trailingZeros}
 use Rattle.laws.specs.Lists.{table}
 use Rattle.laws.specs.Differences.{floorDiv, limit, within}
@@ -16,5 +16,5 @@ use Rattle.kernels.specs.Pixels.{exactColour}
 use Rattle.starred_cases.specs.Starred.{starred, AllHold, none, also, Holds}
 
 pub starred-hold : AllHold starred
-unfolding starred Holds table roundClamped exactColour exact255 exactAt fixed255 centred redOffset greenOffset blueOffset offCentre fixedRed fixedGreenCb fixedGreenCr fixedBlue rnd floorDiv limit within linearSample linearDown tapOf spotOf spotAt triangularSample oneAxis weighed far phasesOf phaseAt phaseOf add sub mul div sum neg round size span climb units odd lt ofInt trailingZeros
+unfolding starred Holds table roundClamped exactColour exact255 exactAt fixed255 centred redOffset greenOffset blueOffset offCentre fixedRed fixedGreenCb fixedGreenCr fixedBlue rnd floorDiv limit within linearSample linearDown tapOf spotOf spotAt triangularSample oneAxis weighed far phasesOf phaseAt phaseOf add sub mul div sum neg round size span climb units odd lt ofInt trailingZeros ofBits ofFields
 starred-hold = also _ _ refl (also _ _ refl (also _ _ refl (also _ _ refl (also _ _ refl (also _ _ refl (also _ _ refl (also _ _ refl (also _ _ refl (also _ _ refl (also _ _ refl (also _ _ refl (also _ _ refl none))))))))))))

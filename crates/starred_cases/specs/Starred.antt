@@ -4,8 +4,8 @@ use mathlib.Core.Bool.{Bool, true, false}
 use mathlib.Core.List.{List, [], _∷_, map}
 use Prim.Native.Nat.{ℕ, _+_, _*_, _/_, _%_}
 use lib.ListN.{getD}
-use lib.Ieee.{Float, nan}
-use Rattle.laws.specs.Floats.{f32, _⊘_}
+use lib.Ieee.{Float, nan, binary32, ofBits}
+use Rattle.laws.specs.Floats.{f32}
 use Rattle.laws.specs.Lists.{table}
 use Rattle.image.specs.declared.layout.Layout.{Layout}
 use Rattle.fround.specs.Rounding.{roundClamped}
@@ -48,15 +48,19 @@ sizes w h rh rv cw ch = record { w = w; h = h; rh = rh; rv = rv; cw = cw; ch = c
 abbrev rgb : ℕ → ℕ → ℕ → Colour
 rgb r g b = record { red = r; green = g; blue = b }
 
-abbrev from : Bool → ℕ → ℕ → Phase
-from left n d = record { left = left; f = f32 n ⊘ f32 d }
+-- a float by its bits, so that no division stands in for the one that is under test
+abbrev bits : ℕ → Float
+bits n = ofBits binary32 n
+
+abbrev from : Bool → Float → Phase
+from left f = record { left = left; f = f }
 
 unfoldable pub starred : List Case
 starred =
-    -- "0.5, 1.5, 2.5 round to 1, 2, 3."
-    Rounds (f32 1 ⊘ f32 2) 255 1
-    ∷ Rounds (f32 3 ⊘ f32 2) 255 2
-    ∷ Rounds (f32 5 ⊘ f32 2) 255 3
+    -- "0.5, 1.5, 2.5 round to 1, 2, 3.": 3f000000, 3fc00000 and 40200000
+    Rounds (bits 1056964608) 255 1
+    ∷ Rounds (bits 1069547520) 255 2
+    ∷ Rounds (bits 1075838976) 255 3
     -- "Not-a-number gives 0."
     ∷ Rounds nan 255 0
     -- "300 limited to 255 gives 255."
@@ -75,8 +79,8 @@ starred =
     ∷ Triangular (sizes 6 1 2 1 3 1) (0 ∷ 100 ∷ 200 ∷ []) (0 ∷ 25 ∷ 75 ∷ 125 ∷ 175 ∷ 200 ∷ [])
     -- "Triangular (1,2), column 0,2: 0,1,1,2."
     ∷ Triangular (sizes 1 4 1 2 1 2) (0 ∷ 2 ∷ []) (0 ∷ 1 ∷ 1 ∷ 2 ∷ [])
-    -- "Phases of ratio 4: 5/8, 7/8 from the left, 1/8, 3/8."
-    ∷ Phases 4 (from true 5 8 ∷ from true 7 8 ∷ from false 1 8 ∷ from false 3 8 ∷ [])
+    -- "Phases of ratio 4: 5/8, 7/8 from the left, 1/8, 3/8.": 3f200000, 3f600000, 3e000000 and 3ec00000
+    ∷ Phases 4 (from true (bits 1059061760) ∷ from true (bits 1063256064) ∷ from false (bits 1040187392) ∷ from false (bits 1052770304) ∷ [])
     ∷ []
 
 -- every case of a list holds
