@@ -14,18 +14,24 @@
  *   - A slice is a pointer and, right behind it, how many elements it has (not bytes). The
  *     pointer is aligned as its type asks, and valid for that many elements throughout the call.
  *     Nothing is read or written through the pointer of a slice of length 0; it may be NULL.
+ *   - Memory has been written once before it is lent, whatever it then holds: scratch and outputs
+ *     too.
  *   - A slice that is written (no `const`) overlaps no other slice of the call, and nothing
  *     else reads or writes it during the call. Slices that are only read may overlap.
  *   - Two-byte samples are little-endian.
  *   - Floats are rounded to nearest, and subnormal ones kept, as a program starts. The proofs are
  *     about that arithmetic: after fesetround(FE_UPWARD), say, other values come out.
  *   - For rows that belong to the opened picture: hand chroma_seek and chroma_row the state
- *     that the last accepted call gave, and chroma_row the planes that were opened and the
- *     scratch as the last accepted chroma_row left it. Other states, scratch and planes are
- *     safe too; the rows are then not those of the opened picture.
+ *     that the last accepted call gave, and chroma_row the planes that were opened and, from the
+ *     accepted chroma_open on, the same scratch slice at the same length, as the accepted calls
+ *     left it. Other states, scratch and planes are safe too; the rows are then not those of the
+ *     opened picture.
  *
  * A slice may be longer than needed; its surplus is untouched. Samples above maxval are taken
  * as they are.
+ *
+ * A not-a-number has one form in the logic of the proofs. So for a lent float 'unchanged' and
+ * 'untouched' mean its value; that a payload stays too is tested (tests/c), not proved.
  */
 #ifndef CHROMA_H
 #define CHROMA_H
@@ -38,7 +44,8 @@ extern "C" {
 #endif
 
 /* What a call answers. The lowest number that applies is given, except that chroma_picture
- * has its own order and 255 comes before all else. */
+ * has its own order and 255 comes before all else.
+ * docs/REFUSALS.md has each number's example and definition, and each call's list. */
 enum ChromaRefusal {
     CHROMA_ACCEPTED = 0,
     CHROMA_BAD_STATE = 1,     /* a state that open, seek or row never leaves; a phase whose left
@@ -121,7 +128,7 @@ typedef struct ChromaWritten {
 
 /* How many floats (not bytes) of scratch every call with a `scratch` asks for (chroma_picture
  * too, where CHROMA_PICTURE_SCRATCH always suffices). Scratch may hold anything at first; calloc
- * quiets compilers that warn of memory never written. */
+ * gives memory that counts as written. */
 static inline size_t chroma_scratch_need(size_t cw, size_t w) {
     return 64 * cw + 8 * w;
 }

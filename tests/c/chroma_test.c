@@ -530,6 +530,303 @@ static void test_largest_pictures(void) {
     }
 }
 
+/* ---- not-a-numbers, by their bits */
+
+/* Signalling not-a-numbers of several payloads and both signs over every byte of a slice. They are
+ * stored as bits: a float in hand may be quieted. */
+static void *signalling(void *slice, size_t bytes) {
+    static const uint32_t bits[] = {0x7F800001u, 0xFF800001u, 0x7FA5A5A5u, 0xFFBFFFFFu,
+                                    0x7F812345u, 0xFFA00000u, 0x7FBFFFFEu};
+    for (size_t i = 0; i < bytes; i++)
+        ((unsigned char *)slice)[i] = ((const unsigned char *)&bits[i / 4 % 7])[i % 4];
+    return slice;
+}
+
+/* Slices full of them, and whether they are so still. */
+enum { WATCHED = 3 };
+static struct {
+    void *slice, *copy;
+    size_t bytes;
+} watched[WATCHED];
+static size_t watched_count;
+
+static void *watch(size_t bytes) {
+    void *slice = signalling(lend(bytes), bytes);
+    if (watched_count == WATCHED) {
+        printf("no room to watch another slice\n");
+        exit(2);
+    }
+    watched[watched_count].slice = slice;
+    watched[watched_count].copy = signalling(lend(bytes), bytes);
+    watched[watched_count].bytes = bytes;
+    watched_count++;
+    return slice;
+}
+
+static int kept(void) {
+    for (size_t k = 0; k < watched_count; k++)
+        if (memcmp(watched[k].slice, watched[k].copy, watched[k].bytes) != 0)
+            return 0;
+    return 1;
+}
+
+/* Watched slice k still holds what it held from byte `from` on. */
+static int kept_from(size_t k, size_t from) {
+    return memcmp((const char *)watched[k].slice + from, (const char *)watched[k].copy + from,
+                  watched[k].bytes - from) == 0;
+}
+
+static void refresh(void) {
+    for (size_t k = 0; k < watched_count; k++)
+        signalling(watched[k].slice, watched[k].bytes);
+}
+
+static void end_watched(void) {
+    watched_count = 0;
+    end_slices();
+}
+
+/* The answer is this refusal, and every watched slice has kept its bits. */
+#define REFUSED(call, refusal)                                                        \
+    do {                                                                              \
+        SAME(call, refusal);                                                          \
+        CHECK(kept());                                                                \
+    } while (0)
+
+#define REPLIED(call, refusal, handed)                                                \
+    do {                                                                              \
+        refused(call, refusal, handed);                                               \
+        CHECK(kept());                                                                \
+    } while (0)
+
+/* A picture of w by h pixels in one-byte samples, without padding. */
+typedef struct Strip {
+    ChromaLayout l;
+    ChromaStrides s;
+    uint8_t *y, *cb, *cr;
+    size_t y_len, c_len, need;
+} Strip;
+
+static Strip strip_of(size_t w, size_t h, size_t rh, size_t rv) {
+    Strip p;
+    size_t cw = (w + rh - 1) / rh, ch = (h + rv - 1) / rv;
+    p.l = layout_of(w, h, rh, rv, cw, ch);
+    p.s = strides_of(w, cw, cw);
+    p.y_len = w * h, p.c_len = cw * ch;
+    p.y = lend_bytes(p.y_len), p.cb = lend_bytes(p.c_len), p.cr = lend_bytes(p.c_len);
+    p.need = chroma_scratch_need(cw, w);
+    for (size_t i = 0; i < p.y_len; i++)
+        p.y[i] = (uint8_t)(91 * i + 17);
+    for (size_t i = 0; i < p.c_len; i++) {
+        p.cb[i] = (uint8_t)(53 * i);
+        p.cr[i] = (uint8_t)(250 - 29 * i);
+    }
+    return p;
+}
+
+static ChromaReply open_strip(const Strip *p, ChromaLayout l, ChromaStrides s, const float *scratch,
+                              size_t scratch_len, ChromaReader r) {
+    return chroma_open(l, p->y, p->y_len, p->cb, p->c_len, p->cr, p->c_len, s, scratch, scratch_len, r);
+}
+
+static ChromaReply row_of_strip(const Strip *p, ChromaReader r, ChromaStrides s, size_t row,
+                                float *scratch, size_t scratch_len, float *cb, size_t cb_len,
+                                float *cr, size_t cr_len) {
+    return chroma_row(r, p->y, p->y_len, p->cb, p->c_len, p->cr, p->c_len, s, row, scratch,
+                      scratch_len, cb, cb_len, cr, cr_len);
+}
+
+/* Layouts that are refused 2, 3, 4 and 5. */
+static ChromaLayout faulty(const Strip *p, int refusal) {
+    ChromaLayout l = p->l;
+    if (refusal == 2)
+        l.h = 8193;
+    if (refusal == 3)
+        l.rv = 0;
+    if (refusal == 4)
+        l.sample_bytes = 3;
+    if (refusal == 5)
+        l.cw++;
+    return l;
+}
+
+static void test_bits_of_reader(void) {
+    Strip p = strip_of(21, 6, 2, 2);
+    ChromaStrides narrow = strides_of(20, 11, 11);
+    float *scratch = (float *)watch(4 * p.need);
+    float *cb = (float *)watch(4 * 21);
+    float *cr = (float *)watch(4 * 21);
+    ChromaReader any, strange;
+    ChromaReply q;
+
+    /* The state is full of them too; it comes back by its bits. */
+    signalling(&any, sizeof any);
+    for (int n = 2; n < 6; n++)
+        REPLIED(open_strip(&p, faulty(&p, n), p.s, scratch, p.need, any), (uint32_t)n, &any);
+    REPLIED(open_strip(&p, p.l, narrow, scratch, p.need, any), 7, &any);
+    REPLIED(open_strip(&p, p.l, p.s, scratch, p.need - 1, any), 9, &any);
+    q = open_strip(&p, p.l, p.s, scratch, p.need, any);
+    SAME(q.refusal, 0);
+    CHECK(kept());
+    q = chroma_seek(q.reader, 3);
+    SAME(q.refusal, 0);
+
+#define ROW(reader, strides, row, scratch_len, cb_len, cr_len)                        \
+    row_of_strip(&p, reader, strides, row, scratch, scratch_len, cb, cb_len, cr, cr_len)
+    REPLIED(ROW(any, p.s, 3, p.need, 21, 21), 1, &any);
+    strange = q.reader;
+    strange.phases[1].left = 2;
+    REPLIED(ROW(strange, p.s, 3, p.need, 21, 21), 1, &strange);
+    strange = q.reader;
+    signalling(&strange.phases[0].f, 4);
+    REPLIED(ROW(strange, p.s, 3, p.need, 21, 21), 1, &strange);
+    strange = q.reader;
+    strange.f_next++;
+    REPLIED(ROW(strange, p.s, 3, p.need, 21, 21), 1, &strange);
+    REPLIED(ROW(q.reader, narrow, 3, p.need, 21, 21), 7, &q.reader);
+    REPLIED(ROW(q.reader, p.s, 3, p.need - 1, 21, 21), 9, &q.reader);
+    REPLIED(ROW(q.reader, p.s, 3, p.need, 20, 21), 10, &q.reader);
+    REPLIED(ROW(q.reader, p.s, 3, p.need, 21, 20), 10, &q.reader);
+    REPLIED(ROW(q.reader, p.s, 6, p.need, 21, 21), 11, &q.reader);
+    REPLIED(ROW(q.reader, p.s, 2, p.need, 21, 21), 12, &q.reader);
+#undef ROW
+    end_watched();
+}
+
+static void test_bits_of_planes(void) {
+    Strip p = strip_of(21, 6, 2, 2);
+    float *scratch = (float *)watch(4 * p.need);
+    uint16_t *out = (uint16_t *)watch(2 * 126);
+    ChromaLayout l;
+
+#define LINEAR(layout, stride, scratch_len, out_len)                                  \
+    chroma_linear_plane(layout, p.cb, p.c_len, stride, scratch, scratch_len, out, out_len)
+#define GUIDED(layout, y_stride, stride, scratch_len, out_len)                        \
+    chroma_guided_plane(layout, p.y, p.y_len, y_stride, p.cb, p.c_len, stride, scratch, scratch_len, out, out_len)
+#define TRIANGULAR(layout, stride, out_len)                                           \
+    chroma_triangular_plane(layout, p.cb, p.c_len, stride, out, out_len)
+    for (int n = 2; n < 6; n++) {
+        l = faulty(&p, n);
+        REFUSED(LINEAR(l, 11, p.need, 126), n);
+        REFUSED(GUIDED(l, 21, 11, p.need, 126), n);
+        REFUSED(TRIANGULAR(l, 11, 126), n);
+    }
+    REFUSED(TRIANGULAR(layout_of(21, 6, 1, 1, 21, 6), 21, 126), 6);
+    REFUSED(LINEAR(p.l, 10, p.need, 126), 7);
+    REFUSED(GUIDED(p.l, 20, 11, p.need, 126), 7);
+    REFUSED(GUIDED(p.l, 21, 12, p.need, 126), 7);
+    REFUSED(TRIANGULAR(p.l, 10, 126), 7);
+    REFUSED(LINEAR(p.l, 11, p.need - 1, 126), 9);
+    REFUSED(GUIDED(p.l, 21, 11, p.need - 1, 126), 9);
+    REFUSED(LINEAR(p.l, 11, p.need, 125), 10);
+    REFUSED(GUIDED(p.l, 21, 11, p.need, 125), 10);
+    REFUSED(TRIANGULAR(p.l, 11, 125), 10);
+#undef LINEAR
+#undef GUIDED
+#undef TRIANGULAR
+    end_watched();
+}
+
+static void test_bits_of_fill(void) {
+    Strip p = strip_of(21, 6, 2, 2);
+    float *scratch = (float *)watch(4 * p.need);
+    uint8_t *out = (uint8_t *)watch(4 * 126);
+    ChromaLayout l = p.l;
+    ChromaStrides narrow = strides_of(21, 11, 10);
+
+#define FILL(layout, strides, up, kernel, size, scratch_len, out_len)                 \
+    chroma_fill(layout, p.y, p.y_len, p.cb, p.c_len, p.cr, p.c_len, strides, up, kernel, size, scratch, scratch_len, out, out_len)
+    REFUSED(FILL(p.l, p.s, 2, 0, 4, p.need, 504), 255);
+    REFUSED(FILL(p.l, p.s, 0, 2, 4, p.need, 504), 255);
+    l.maxval = 254;
+    REFUSED(FILL(l, p.s, 0, 1, 4, p.need, 504), 4);
+    for (uint32_t up = 0; up < 2; up++) {
+        for (int n = 2; n < 6; n++)
+            REFUSED(FILL(faulty(&p, n), p.s, up, 0, 4, p.need, 504), n);
+        REFUSED(FILL(p.l, narrow, up, 0, 4, p.need, 504), 7);
+        REFUSED(FILL(p.l, p.s, up, 0, 5, p.need, 504), 8);
+        REFUSED(FILL(p.l, p.s, up, 0, 4, p.need - 1, 504), 9);
+        REFUSED(FILL(p.l, p.s, up, 0, 4, p.need, 503), 10);
+    }
+#undef FILL
+    end_watched();
+}
+
+static void test_bits_of_picture(void) {
+    static const char text[] = "P5 2 1 255\n\346\347P5 1 1 255\n\003P5 1 1 255\n\200";
+    static const char no_ratio[] = "P5 1 1 255\n\346P5 2 1 255\n\003\003P5 1 1 255\n\200";
+    static const char no_width[] = "P5 0 1 255\nP5 1 1 255\n\003P5 1 1 255\n\200";
+    size_t n = sizeof text - 1, len = 11 + 6, need = chroma_scratch_need(1, 2);
+    const uint8_t *input = (const uint8_t *)text;
+    float *scratch = (float *)watch(4 * need);
+    uint8_t *out = (uint8_t *)watch(len);
+
+    REFUSED(chroma_picture(input + 1, n - 1, scratch, need, out, len).refusal, 14);
+    REFUSED(chroma_picture(input, n - 1, scratch, need, out, len).refusal, 15);
+    REFUSED(chroma_picture((const uint8_t *)no_width, sizeof no_width - 1, scratch, need, out, len).refusal, 2);
+    REFUSED(chroma_picture((const uint8_t *)no_ratio, sizeof no_ratio - 1, scratch, need, out, len).refusal, 5);
+    REFUSED(chroma_picture(input, n, scratch, need - 1, out, len).refusal, 9);
+    REFUSED(chroma_picture(input, n, scratch, need, out, len - 1).refusal, 10);
+    SAME(chroma_picture(input, n, scratch, need, out, len).refusal, 0);
+    end_watched();
+}
+
+/* What stands behind the scratch and the outputs that an accepted call needs keeps its bits, and
+ * what scratch held at first shows in no row. */
+static void surplus_keeps_its_bits(size_t w, size_t h, size_t rh, size_t rv) {
+    enum { MORE = 23 };
+    Strip p = strip_of(w, h, rh, rv);
+    float *scratch = (float *)watch(4 * (p.need + MORE));
+    float *cb = (float *)watch(4 * (w + MORE));
+    float *cr = (float *)watch(4 * (w + MORE));
+    float *zeros = lend_floats(p.need), *plain_cb = lend_floats(w), *plain_cr = lend_floats(w);
+    ChromaReply q, plain;
+    uint16_t *plane;
+    uint8_t *out;
+
+    memset(zeros, 0, 4 * p.need);
+    q = open_strip(&p, p.l, p.s, scratch, p.need + MORE, garbage(0));
+    plain = open_strip(&p, p.l, p.s, zeros, p.need, garbage(0));
+    for (size_t row = 0; row < h; row += 2) {
+        signalling(cb, 4 * (w + MORE));
+        signalling(cr, 4 * (w + MORE));
+        q = row_of_strip(&p, q.reader, p.s, row, scratch, p.need + MORE, cb, w + MORE, cr, w + MORE);
+        plain = row_of_strip(&p, plain.reader, p.s, row, zeros, p.need, plain_cb, w, plain_cr, w);
+        SAME(q.refusal, 0);
+        SAME(plain.refusal, 0);
+        CHECK(memcmp(cb, plain_cb, 4 * w) == 0);
+        CHECK(memcmp(cr, plain_cr, 4 * w) == 0);
+        CHECK(kept_from(0, 4 * p.need));
+        CHECK(kept_from(1, 4 * w));
+        CHECK(kept_from(2, 4 * w));
+    }
+
+    refresh();
+    plane = (uint16_t *)signalling(lend_values(w * h), 2 * w * h);
+    SAME(chroma_linear_plane(p.l, p.cb, p.c_len, p.s.cb, scratch, p.need + MORE, plane, w * h), 0);
+    CHECK(kept_from(0, 4 * p.need));
+    SAME(chroma_guided_plane(p.l, p.y, p.y_len, p.s.y, p.cb, p.c_len, p.s.cb, scratch, p.need + MORE, plane, w * h), 0);
+    CHECK(kept_from(0, 4 * p.need));
+    out = lend_bytes(4 * w * h);
+    for (uint32_t way = 0; way < 4; way++) {
+        SAME(chroma_fill(p.l, p.y, p.y_len, p.cb, p.c_len, p.cr, p.c_len, p.s, way % 2, way / 2, 4,
+                         scratch, p.need + MORE, out, 4 * w * h), 0);
+        CHECK(kept_from(0, 4 * p.need));
+        for (size_t i = 3; i < 4 * w * h; i += 4)
+            CHECK(out[i] == 0xA5);
+    }
+    end_watched();
+}
+
+static void test_surplus(void) {
+    static const size_t widths[] = {1, 5, 16, 37, 70};
+    for (size_t rh = 1; rh < 5; rh++)
+        for (size_t rv = 1; rv < 5; rv++)
+            for (int k = 0; k < 5; k++)
+                surplus_keeps_its_bits(widths[k], 7, rh, rv);
+    surplus_keeps_its_bits(600, 3, 2, 2);
+}
+
 int main(void) {
     test_pixels();
     test_linear_plane();
@@ -540,6 +837,11 @@ int main(void) {
     test_fill_row();
     test_picture();
     test_largest_pictures();
+    test_bits_of_reader();
+    test_bits_of_planes();
+    test_bits_of_fill();
+    test_bits_of_picture();
+    test_surplus();
     printf("%d checks, %d failed\n", checks, failures);
     return failures == 0 ? 0 : 1;
 }

@@ -3,8 +3,8 @@
 use std::error::Error;
 use std::fmt;
 
-/// Why a call was turned down, by the numbers of the project's table: the lowest that applies.
-/// A call that is turned down has changed nothing.
+/// Why a call was turned down: the first reason of the call's list that applies, by the numbers of
+/// docs/REFUSALS.md. A call that is turned down has changed nothing.
 ///
 /// ```
 /// use chroma::{exact_pixel, Refusal};
@@ -13,46 +13,64 @@ use std::fmt;
 /// assert_eq!(refusal, Refusal::BadPixel);
 /// assert_eq!(refusal.number(), 13);
 /// ```
+///
+/// Later versions may name more reasons, so a `match` needs an arm for the others:
+///
+/// ```
+/// use chroma::Refusal;
+///
+/// fn advice(refusal: Refusal) -> String {
+///     match refusal {
+///         Refusal::RowPassed => "seek first".to_string(),
+///         other => format!("see number {} in docs/REFUSALS.md", other.number()),
+///     }
+/// }
+/// assert_eq!(advice(Refusal::RowPassed), "seek first");
+/// assert_eq!(advice(Refusal::BadSize), "see number 2 in docs/REFUSALS.md");
+/// ```
 #[derive(Clone, Copy, Debug, PartialEq, Eq, Hash)]
-#[repr(u8)]
+#[non_exhaustive]
 pub enum Refusal {
     /// A state that open, seek or row never leaves. This crate's readers have none.
-    BadState = 1,
+    BadState,
     /// Width or height 0 or over 8,192.
-    BadSize = 2,
+    BadSize,
     /// A ratio outside 1..=4.
-    BadRatio = 3,
+    BadRatio,
     /// Sample bytes not 1 or 2, maxval outside 1..=255 (1..=65,535 for two bytes), or the fixed
     /// kernel with a maxval that is not 255.
-    BadSamples = 4,
+    BadSamples,
     /// A chroma size that is not the rounded-up quotient of size and ratio.
-    BadChroma = 5,
+    BadChroma,
     /// Triangular with ratios not (2,1), (1,2) or (2,2), or with ratio 2 across and at most two
     /// cells.
-    NoTriangular = 6,
+    NoTriangular,
     /// A stride below its row's bytes, or a plane that ends before its last row does.
-    BadPlane = 7,
+    BadPlane,
     /// Pixel size not 3 or 4.
-    BadPixelSize = 8,
+    BadPixelSize,
     /// Scratch too short. This crate makes its own, so it is not met.
-    ShortScratch = 9,
+    ShortScratch,
     /// An output too short.
-    ShortOutput = 10,
+    ShortOutput,
     /// A row at or past the height.
-    BadRow = 11,
+    BadRow,
     /// A row before the reader's place: seek first.
-    RowPassed = 12,
+    RowPassed,
     /// Luma or whole chroma over 65,535, chroma in 256ths over 16,776,960, or maxval outside
     /// 1..=65,535.
-    BadPixel = 13,
+    BadPixel,
     /// A PGM header that is not one, or bytes left over.
-    BadHeader = 14,
+    BadHeader,
     /// The size limits of [`ppm`](crate::ppm) passed, or rows missing.
-    TooLarge = 15,
+    TooLarge,
+    /// A number that this crate has no name for, from a library that is newer than the crate. The
+    /// library of the crate's own version gives none.
+    Unknown(u32),
 }
 
 impl Refusal {
-    const ALL: [Refusal; 15] = [
+    const NAMED: [Refusal; 15] = [
         Refusal::BadState,
         Refusal::BadSize,
         Refusal::BadRatio,
@@ -70,9 +88,26 @@ impl Refusal {
         Refusal::TooLarge,
     ];
 
-    /// The number of the project's table, 1 to 15.
-    pub fn number(self) -> u8 {
-        self as u8
+    /// The number of the reason, as docs/REFUSALS.md and include/chroma.h have it.
+    pub fn number(self) -> u32 {
+        match self {
+            Refusal::BadState => 1,
+            Refusal::BadSize => 2,
+            Refusal::BadRatio => 3,
+            Refusal::BadSamples => 4,
+            Refusal::BadChroma => 5,
+            Refusal::NoTriangular => 6,
+            Refusal::BadPlane => 7,
+            Refusal::BadPixelSize => 8,
+            Refusal::ShortScratch => 9,
+            Refusal::ShortOutput => 10,
+            Refusal::BadRow => 11,
+            Refusal::RowPassed => 12,
+            Refusal::BadPixel => 13,
+            Refusal::BadHeader => 14,
+            Refusal::TooLarge => 15,
+            Refusal::Unknown(number) => number,
+        }
     }
 
     /// What the library's number says: 0 is accepted.
@@ -80,11 +115,8 @@ impl Refusal {
         if number == 0 {
             return Ok(());
         }
-        let found = Refusal::ALL
-            .into_iter()
-            .find(|r| u32::from(r.number()) == number);
-        // 255, the only other number, stands for a switch that this crate can't pass.
-        Err(found.expect("the library gives numbers of its table"))
+        let named = Refusal::NAMED.into_iter().find(|r| r.number() == number);
+        Err(named.unwrap_or(Refusal::Unknown(number)))
     }
 }
 
@@ -106,9 +138,37 @@ impl fmt::Display for Refusal {
             Refusal::BadPixel => "single-pixel argument out of range",
             Refusal::BadHeader => "header not as it should be, or bytes left over",
             Refusal::TooLarge => "size limits passed, or rows missing",
+            Refusal::Unknown(_) => "a reason that this crate has no name for",
         };
         write!(f, "refused {}: {words}", self.number())
     }
 }
 
 impl Error for Refusal {}
+
+#[cfg(test)]
+mod tests {
+    use super::Refusal;
+
+    #[test]
+    fn every_number_comes_back() {
+        assert_eq!(Refusal::check(0), Ok(()));
+        for number in (1..=300).chain([u32::MAX]) {
+            let refusal = Refusal::check(number).unwrap_err();
+            assert_eq!(refusal.number(), number);
+            let unknown = matches!(refusal, Refusal::Unknown(_));
+            assert_eq!(unknown, number > 15, "{number}");
+        }
+    }
+
+    #[test]
+    fn an_unknown_number_is_an_answer() {
+        // 255 stands for a switch of chroma_fill that this crate can't pass.
+        let refusal = Refusal::check(255).unwrap_err();
+        assert_eq!(refusal, Refusal::Unknown(255));
+        assert_eq!(
+            refusal.to_string(),
+            "refused 255: a reason that this crate has no name for"
+        );
+    }
+}
