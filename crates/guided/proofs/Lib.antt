@@ -9,6 +9,7 @@ pub mod Held
 pub mod Leaves
 pub mod LeftStates
 pub mod Locality
+pub mod Lowest
 pub mod Places
 pub mod Runs
 pub mod Steps

@@ -7,7 +7,7 @@ use native.Mathlib.Nat.{mul-le-mul, le-div-iff-mul-le, suc-mul}
 use native.Mathlib.Omega.{arith}
 use lib.Dec.{ltb, eqb}
 use borrow.Author.Tests.{ltb-false, eqb-true, not-false}
-use Rattle.laws.specs.Refusals.{first, accepted}
+use Rattle.laws.specs.Refusals.{first, accepted, placeOf, Ascending}
 use Rattle.laws.proofs.Refusals.{Failed, accepted-failed, accepted-is}
 use Rattle.image.specs.declared.layout.Layout.{Layout}
 use Rattle.laws.specs.Numbers.{outsideOf}
@@ -110,3 +110,8 @@ begins l o j i h k =
       across = cell-begins (l .w) (l .rh) i (o .rh-some) (rw (o .cw-is) at k);
       down = cell-begins (l .h) (l .rv) j (o .rv-some) (rw (o .ch-is) at h);
     }
+
+-- the tests of a layout stand in the table's order
+pub layout-ascends : (fixed : Bool) (l : Layout) → Ascending 0 (layoutTests fixed l)
+unfolding placeOf Ascending layoutTests
+layout-ascends fixed l = (omega arith, (omega arith, (omega arith, (omega arith, tt))))

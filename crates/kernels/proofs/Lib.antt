@@ -3,4 +3,5 @@ pub mod Cases
 pub mod Channels
 pub mod Colours
 pub mod FixedPoint
+pub mod Lowest
 pub mod T871

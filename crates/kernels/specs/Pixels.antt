@@ -16,6 +16,11 @@ abbrev pub pixelOf : Answer → Colour → Pixel
 pixelOf Accepted c = P.Rgb (c .red) (c .green) (c .blue)
 pixelOf (Refused n) c = P.Refused n
 
+-- a pixel's answer, without its bytes
+abbrev pub answerOf : Pixel → Answer
+answerOf (P.Rgb r g b) = Accepted
+answerOf (P.Refused n) = Refused n
+
 abbrev pub pickColour : Bool → Colour → Colour → Colour
 pickColour true a b = a
 pickColour false a b = b

@@ -1,7 +1,7 @@
 -- Laws of refusal lists: what acceptance and a number say of the tests.
 -- Each is an induction along the list that splits on the first test, by a local `go` over its outcome, at which `first` computes.
--- Only `refused-lowest` needs more: that the numbers rise along the list (`above`).
-use mathlib.Core.Path.{_≡_, refl}
+-- Only `refused-lowest` needs more: that the places rise along the list (`above`).
+use mathlib.Core.Path.{_≡_, refl, sym, ap, subst}
 use mathlib.Core.Logic.{_⊎_, inl, inr}
 use mathlib.Core.Bool.{Bool, true, false}
 use mathlib.Core.List.{List, [], _∷_, _++_}
@@ -10,8 +10,7 @@ use native.Mathlib.Omega.{arith}
 use lib.Dec.{T}
 use Rattle.laws.specs.declared.answers.Answer.{Answer}
 use Rattle.laws.specs.declared.answers.Answer.the-variants.{Accepted, Refused}
-use Rattle.laws.specs.Refusals.{Test, first, pickAnswer, accepted}
-use Rattle.laws.specs.Inner.Refusals.{Ascending, Applies}
+use Rattle.laws.specs.Refusals.{Test, first, pickAnswer, accepted, placeOf, Ascending, Applies, Lowest}
 
 -- every test of the list failed
 abbrev pub Failed : List Test → Type 0
@@ -61,23 +60,53 @@ refused-applies (t ∷ ts) n e = go (t .0) (refused-applies ts n) e
     go true k e = inl (tt, (cc))
     go false k e = inr (k e)
 
--- and is no more than any number whose test applies, since the numbers rise along the list
-above : (ts : List Test) (least m : ℕ) → Ascending least ts → Applies m ts → least ≤ m
+-- and stands no lower in the table than any number whose test applies, since the places rise along the list
+above : (ts : List Test) (least m : ℕ) → Ascending least ts → Applies m ts → least ≤ placeOf m
 unfolding Ascending Applies
 above [] least m a p = absurd p
-above (t ∷ ts) least m a (inl q) = let h = q .1 in let k = a .0 in omega arith
-above (t ∷ ts) least m a (inr q) = let h : t .1 ≤ m = above ts (t .1) m (a .1) q in let k = a .0 in omega arith
+above (t ∷ ts) least m a (inl q) = let h : placeOf (t .1) ≡ placeOf m = ap placeOf (q .1) in let k = a .0 in omega arith
+above (t ∷ ts) least m a (inr q) = let h : placeOf (t .1) ≤ placeOf m = above ts (placeOf (t .1)) m (a .1) q in let k = a .0 in omega arith
 
-pub refused-lowest : (ts : List Test) (least n m : ℕ) → Ascending least ts → first ts ≡ Refused n → Applies m ts → n ≤ m
+pub refused-lowest : (ts : List Test) (least n m : ℕ) → Ascending least ts → first ts ≡ Refused n → Applies m ts → placeOf n ≤ placeOf m
 unfolding first Ascending Applies
 refused-lowest [] least n m a e p = absurd p
-refused-lowest (t ∷ ts) least n m a e p = go (t .0) (λ f q. refused-lowest ts (t .1) n m (a .1) f q) e p
+refused-lowest (t ∷ ts) least n m a e p = go (t .0) (λ f q. refused-lowest ts (placeOf (t .1)) n m (a .1) f q) e p
   where
-    go : (b : Bool) → (first ts ≡ Refused n → Applies m ts → n ≤ m) → pickAnswer b (Refused (t .1)) (first ts) ≡ Refused n → (T b × (t .1 ≡ m)) ⊎ Applies m ts → n ≤ m
-    go true k e (inl q) = let h : t .1 ≡ n = cc in let i = q .1 in omega arith
-    go true k e (inr q) = let h : t .1 ≡ n = cc in let i : t .1 ≤ m = above ts (t .1) m (a .1) q in omega arith
+    go : (b : Bool) → (first ts ≡ Refused n → Applies m ts → placeOf n ≤ placeOf m) → pickAnswer b (Refused (t .1)) (first ts) ≡ Refused n → (T b × (t .1 ≡ m)) ⊎ Applies m ts → placeOf n ≤ placeOf m
+    go true k e (inl q) = let w : t .1 ≡ n = cc in let h : placeOf (t .1) ≡ placeOf n = ap placeOf w in let i : placeOf (t .1) ≡ placeOf m = ap placeOf (q .1) in omega arith
+    go true k e (inr q) = let w : t .1 ≡ n = cc in let h : placeOf (t .1) ≡ placeOf n = ap placeOf w in let i : placeOf (t .1) ≤ placeOf m = above ts (placeOf (t .1)) m (a .1) q in omega arith
     go false k e (inl q) = absurd (q .0)
     go false k e (inr q) = k e q
+
+-- a call is accepted exactly if no test applies
+failed-none : (ts : List Test) (m : ℕ) → Failed ts → Applies m ts → ⊥
+unfolding Applies
+failed-none [] m h p = p
+failed-none (t ∷ ts) m h (inl q) = subst T (h .0) (q .0)
+failed-none (t ∷ ts) m h (inr q) = failed-none ts m (h .1) q
+
+pub accepted-none : (ts : List Test) (m : ℕ) → first ts ≡ Accepted → Applies m ts → ⊥
+accepted-none ts m e p = failed-none ts m (accepted-failed ts e) p
+
+pub none-accepted : (ts : List Test) → ((m : ℕ) → Applies m ts → ⊥) → first ts ≡ Accepted
+none-accepted ts h = go (first ts) refl
+  where
+    go : (a : Answer) → first ts ≡ a → first ts ≡ Accepted
+    go Accepted e = e
+    go (Refused n) e = absurd (h n (refused-applies ts n e))
+
+-- so the answer of a list in the table's order is the lowest,
+pub first-lowest : (ts : List Test) → Ascending 0 ts → Lowest ts (first ts)
+first-lowest ts a =
+    record {
+      applies = λ n e. refused-applies ts n e;
+      least = λ n m e p. refused-lowest ts 0 n m a e p;
+      none = λ m e p. accepted-none ts m e p;
+    }
+
+-- and so is that of a call whose contract names the list
+pub given-lowest : (ts : List Test) (answer : Answer) → Ascending 0 ts → answer ≡ first ts → Lowest ts answer
+given-lowest ts answer a e = subst (Lowest ts) (sym e) (first-lowest ts a)
 
 -- ---- a list in two parts
 

@@ -1,3 +1,2 @@
 pub mod Differences
 pub mod Floats
-pub mod Refusals

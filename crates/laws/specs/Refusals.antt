@@ -1,7 +1,10 @@
 -- 'Reasons for turning a call down': the tests of a call in the order of document 01's table, each with its number. Definitions only.
-use Prim.Native.Nat.{ℕ}
+use mathlib.Core.Path.{_≡_}
+use mathlib.Core.Logic.{_⊎_}
+use Prim.Native.Nat.{ℕ, _*_, _<_, _≤_}
 use mathlib.Core.Bool.{Bool, true, false}
 use mathlib.Core.List.{List, [], _∷_}
+use lib.Dec.{T}
 use Rattle.laws.specs.declared.answers.Answer.{Answer}
 use Rattle.laws.specs.declared.answers.Answer.the-variants.{Accepted, Refused}
 
@@ -22,3 +25,23 @@ pickAnswer false a b = b
 unfoldable pub first : List Test → Answer
 first [] = Accepted
 first (t ∷ ts) = pickAnswer (t .0) (Refused (t .1)) (first ts)
+
+-- the place of a number in the table: ten apart, since later requests put their numbers between
+unfoldable pub placeOf : ℕ → ℕ
+placeOf n = 10 * n
+
+-- the list stands in the table's order: every place is greater than those before it and than `least`, so that the first test that applies is the lowest
+unfoldable pub Ascending : ℕ → List Test → Type 0
+Ascending least [] = Unit {0}
+Ascending least (t ∷ ts) = (least < placeOf (t .1)) × Ascending (placeOf (t .1)) ts
+
+-- some test of the list with the number n applies
+unfoldable pub Applies : ℕ → List Test → Type 0
+Applies n [] = ⊥
+Applies n (t ∷ ts) = (T (t .0) × (t .1 ≡ n)) ⊎ Applies n ts
+
+-- "The lowest number that applies is given, and only then": lowest by its place in the table
+pub record Lowest (ts : List Test) (answer : Answer) : Type 0 where
+  pub applies : (n : ℕ) → answer ≡ Refused n → Applies n ts
+  pub least : (n m : ℕ) → answer ≡ Refused n → Applies m ts → placeOf n ≤ placeOf m
+  pub none : (m : ℕ) → answer ≡ Accepted → Applies m ts → ⊥

@@ -3,4 +3,5 @@ pub mod AcrossRuns
 pub mod Bound
 pub mod Claims
 pub mod LinearRows
+pub mod Lowest
 pub mod Span

@@ -1,7 +1,7 @@
 -- 'Reasons for turning a call down'.
 
 -- "The lowest number that applies is given, and only then"
-pub use Rattle.laws.specs.Refusals.{Test, accepted, first}
+pub use Rattle.laws.specs.Refusals.{Test, accepted, first, placeOf, Ascending, Applies, Lowest}
 -- the rows of the table, and the lists of the calls
 pub use Rattle.image.specs.Tests.{badSize, badRatio, badSamples, badChroma, badPlane, layoutTests}
 pub use Rattle.guided.specs.Calls.{badState, openTests, seekTests, rowTests}

@@ -2,4 +2,5 @@
 pub mod Accepted
 pub mod Axis
 pub mod Inside
+pub mod Lowest
 pub mod Ratios

@@ -1,0 +1,18 @@
+-- "The lowest number that applies is given, and only then": the list of `fill` stands in the table's order, so its answer is the lowest.
+use mathlib.Core.List.{List}
+use Prim.Native.Nat.{ℕ}
+use native.Mathlib.Omega.{arith}
+use lib.Ieee.{Float}
+use Rattle.laws.specs.declared.answers.Answer.{Answer}
+use Rattle.laws.specs.Refusals.{placeOf, Ascending, Lowest}
+use Rattle.laws.proofs.Refusals.{given-lowest}
+use Rattle.image.specs.Tests.{layoutTests}
+use Rattle.fill.specs.Tests.{FillCall, fillTests}
+use Rattle.fill.specs.Fill.{FillGiven}
+
+pub fill-ascends : (c : FillCall) → Ascending 0 (fillTests c)
+unfolding placeOf Ascending layoutTests fillTests
+fill-ascends c = (omega arith, (omega arith, (omega arith, (omega arith, (omega arith, (omega arith, (omega arith, (omega arith, tt))))))))
+
+pub fill-lowest : (c : FillCall) (answer : Answer) (scratch' : List Float) (out' : List ℕ) → FillGiven c answer scratch' out' → Lowest (fillTests c) answer
+fill-lowest c answer scratch' out' g = given-lowest (fillTests c) answer (fill-ascends c) (g .answers)
