@@ -7,6 +7,8 @@ ghost use Rattle.laws.specs.Lists.{put};
 ghost use Rattle.laws.specs.Refusals.{first};
 ghost use Rattle.image.specs.Samples.{Plane, sampleAt, planeOf};
 ghost use Rattle.upsample.specs.Triangular.{TriangularGiven, triangularTests, triangularPlane, triangularSample};
+use crate::across::across_row;
+use crate::axes::Bias;
 use image::Layout;
 use laws::Answer;
 
@@ -23,7 +25,8 @@ fn triangular_row(layout: Layout, plane: &[u8], stride: usize, y: usize, out: &m
     let w = layout.w;
     let at = y * w;
     if layout.rv == 1 {
-        crate::across::across_row(plane, bytes, y * stride, cw, w, out, at);
+        let row = y * stride;
+        across_row(plane, bytes, row, row, cw, w, Bias::ACROSS, out, at);
         return;
     }
     let near = y / 2 * stride;
@@ -33,7 +36,7 @@ fn triangular_row(layout: Layout, plane: &[u8], stride: usize, y: usize, out: &m
         crate::down::down_row(plane, bytes, near, far, bias, w, out, at);
         return;
     }
-    crate::both::both_row(plane, bytes, near, far, cw, w, out, at);
+    across_row(plane, bytes, near, far, cw, w, Bias::BOTH, out, at);
 }
 
 // All rows of an accepted call, one after another.

@@ -4,6 +4,7 @@ use mathlib.Core.List.{List}
 use Prim.Native.Nat.{ℕ, _+_, _*_, _/_, _≤_, _<_}
 use Rattle.image.specs.Samples.{sampleOf}
 use Rattle.upsample.specs.Weights.{even, weighed, far}
+use Rattle.upsample.specs.declared.axes.Bias.{Bias}
 
 -- the cells of the row that begins at byte `row`
 abbrev pub cells : ℕ → List ℕ → ℕ → ℕ → ℕ
@@ -17,9 +18,14 @@ sums bytes plane near far i = 3 * cells bytes plane near i + cells bytes plane f
 unfoldable pub downRow : ℕ → List ℕ → ℕ → ℕ → ℕ → ℕ → ℕ
 downRow bytes plane near far bias x = (sums bytes plane near far x + bias) / 4
 
--- output x of a row at ratio (2,2), from n vertical sums c
-unfoldable pub bothRow : ℕ → (ℕ → ℕ) → ℕ → ℕ
-bothRow n c x = (weighed n c x + cond (even x) 8 7) / 16
+-- output x of a row at ratio (2,2) or (2,1), from n vertical sums c
+unfoldable pub acrossRow : Bias → ℕ → (ℕ → ℕ) → ℕ → ℕ
+acrossRow b n c x = (weighed n c x + cond (even x) (b .left) (b .right)) / 16
+
+-- a bias that is at most 8, so that nothing passes 16 bits where sums of bytes are weighed
+pub record Small (b : Bias) : Type 0 where
+  pub left : b .left ≤ 8
+  pub right : b .right ≤ 8
 
 -- a row of n samples of one or two bytes, from byte `row` of a plane of len bytes
 pub record RowInside (bytes n row len : ℕ) : Type 0 where

@@ -2,8 +2,7 @@ use mathlib.Core.Path.{refl}
 use Prim.Native.Nat.{_+_, _-_, _*_}
 use native.Mathlib.Omega.{arith}
 use borrow.Author.Needs.{needs}
-use Rattle.upsample.specs.Inner.Pairs.{cells}
-use Rattle.upsample.specs.Weights.{oneAxis}
+use Rattle.upsample.specs.Inner.Pairs.{sums, acrossRow}
 use Rattle.laws.proofs.Lists.{run-of, run-run}
 use Rattle.upsample.proofs.across.across_row.Statement.{statement}
 use Rattle.upsample.proofs.across.across_row.Tie as tie
@@ -38,7 +37,7 @@ same-length c = search needs
 returns : tie.Need-returns
 returns c =
     let a = c .before .before .before .before .before .before .before .before .before .before .before .before .before .before .args in
-    let one = run-of _ _ _ _ (oneAxis (a .cw) (cells (a .sample-bytes) (a .plane .now) (a .row))) (c .before .before .before .before .before .before .before .before .before .before .first-cell .ensures) in
+    let one = run-of _ _ _ _ (acrossRow (a .bias) (a .cw) (sums (a .sample-bytes) (a .plane .now) (a .near) (a .far))) (c .before .before .before .before .before .before .before .before .before .before .first-cell .ensures) in
     let inner = run-run one _ (a .at + 2) (2 * (a .cw - 1)) _ (c .before .before .before .before .before .before .inner-cells .ensures) refl (omega arith) in
     run-run inner _ (a .at + 2 * (a .cw - 1)) (a .w) _ (c .before .before .last-cell .ensures) refl (omega arith) .eq
 

@@ -1,33 +1,32 @@
--- One output or two, written from nothing (`run-one`, `run-two`). They are the axis's last by `one-even` and `one-odd` of Axis: the cell before
--- the last is cw - 2, and the one after it is the last itself, since min (i + 1) (cw - 1) is cw - 1 there.
+-- One output or two, written from nothing (`run-one`, `run-two`). They are the row's last by `pair-left` and `pair-right` of Axis: the sum before
+-- the last is that of cell cw - 2, and the one after it is the last itself, since min (i + 1) (cw - 1) is cw - 1 there.
 use mathlib.Core.Path.{refl}
 use Prim.Native.Nat.{_+_, _-_, _*_}
 use native.Mathlib.Omega.{arith}
 use lib.ListN.{set}
 use borrow.Author.Needs.{needs}
 use Rattle.laws.proofs.Lists.{run-none}
-use Rattle.upsample.specs.Inner.Pairs.{cells}
-use Rattle.upsample.specs.Weights.{oneAxis}
-use Rattle.upsample.proofs.Axis.{one-even, one-odd}
+use Rattle.upsample.specs.Inner.Pairs.{sums, acrossRow}
+use Rattle.upsample.proofs.Axis.{pair-left, pair-right}
 use Rattle.upsample.proofs.Inside.{cells-to}
 use Rattle.laws.proofs.Lists.{run-one, run-two}
 use Rattle.upsample.proofs.across.last_cell.Statement.{statement}
 use Rattle.upsample.proofs.across.last_cell.Tie as tie
 
-sub-cell : tie.Need-sub-cell
-sub-cell c = search needs
+sub-cell-sum : tie.Need-sub-cell-sum
+sub-cell-sum c = search needs
 
-cell-requires : tie.Need-cell-requires
-cell-requires c κs = cells-to (c .before .before .pre .0) (c .before .before .args .cw - 2) (omega arith)
+cell-sum-requires : tie.Need-cell-sum-requires
+cell-sum-requires c κs = (cells-to (c .before .before .pre .0) (c .before .before .args .cw - 2) (omega arith), cells-to (c .before .before .pre .1 .0) (c .before .before .args .cw - 2) (omega arith))
 
-sub-cell-2 : tie.Need-sub-cell-2
-sub-cell-2 c = search needs
+sub-cell-sum-2 : tie.Need-sub-cell-sum-2
+sub-cell-sum-2 c = search needs
 
-cell-requires-2 : tie.Need-cell-requires-2
-cell-requires-2 c κs = cells-to (c .before .before .before .pre .0) (c .before .before .before .args .cw - 1) (omega arith)
+cell-sum-requires-2 : tie.Need-cell-sum-requires-2
+cell-sum-requires-2 c κs = (cells-to (c .before .before .before .pre .0) (c .before .before .before .args .cw - 1) (omega arith), cells-to (c .before .before .before .pre .1 .0) (c .before .before .before .args .cw - 1) (omega arith))
 
-one-axis-requires : tie.Need-one-axis-requires
-one-axis-requires c κs = search needs
+weigh-requires : tie.Need-weigh-requires
+weigh-requires c κs = search needs
 
 mul-out : tie.Need-mul-out
 mul-out c = search needs
@@ -41,9 +40,9 @@ same-length c = search needs
 returns : tie.Need-returns
 returns c =
     let a = c .before .before .before .before .before .before .args in
-    let v = cells (a .sample-bytes) (a .plane .now) (a .row) in
-    run-one (run-none (a .out .now) (a .at) (λ x. oneAxis (a .cw) v (2 * (a .cw - 1) + x))) (set (a .out .now) (a .at) (c .one-axis .result)) (a .at) (a .n) (c .one-axis .result) refl (omega arith) (c .before .if1 .taken)
-    (omega (arith, one-even (a .cw) v (a .cw - 2) (a .cw - 1) (2 * (a .cw - 1) + 0) (omega arith) (omega arith), c .before .before .before .cell .ensures .0, c .before .before .cell2 .ensures .0))
+    let v = sums (a .sample-bytes) (a .plane .now) (a .near) (a .far) in
+    run-one (run-none (a .out .now) (a .at) (λ x. acrossRow (a .bias) (a .cw) v (2 * (a .cw - 1) + x))) (set (a .out .now) (a .at) (c .weigh .result)) (a .at) (a .n) (c .weigh .result) refl (omega arith) (c .before .if1 .taken)
+    (omega (arith, pair-left (a .cw) v (a .bias) (a .cw - 2) (a .cw - 1) (2 * (a .cw - 1) + 0) (omega arith) (omega arith), c .before .before .before .cell-sum .ensures .0, c .before .before .cell-sum2 .ensures .0))
     .eq
 
 put-pair-requires : tie.Need-put-pair-requires
@@ -55,21 +54,21 @@ same-length-2 c = search needs
 returns-2 : tie.Need-returns-2
 returns-2 c =
     let a = c .before .before .before .before .before .before .before .before .before .args in
-    let v = cells (a .sample-bytes) (a .plane .now) (a .row) in
-    run-two (run-none (a .out .now) (a .at) (λ x. oneAxis (a .cw) v (2 * (a .cw - 1) + x))) _ (a .at) (a .n) _ _ (c .before .before .put-pair .ensures) (omega arith) (omega arith)
-    (omega (arith, one-even (a .cw) v (a .cw - 2) (a .cw - 1) (2 * (a .cw - 1) + 0) (omega arith) (omega arith), c .before .before .before .before .before .before .cell .ensures .0, c .before .before .before .before .before .cell2 .ensures .0))
-    (omega (arith, one-odd (a .cw) v (a .cw - 1) (a .cw - 1) (2 * (a .cw - 1) + 1) (omega arith) refl, c .before .before .before .before .before .cell2 .ensures .0))
+    let v = sums (a .sample-bytes) (a .plane .now) (a .near) (a .far) in
+    run-two (run-none (a .out .now) (a .at) (λ x. acrossRow (a .bias) (a .cw) v (2 * (a .cw - 1) + x))) _ (a .at) (a .n) _ _ (c .before .before .put-pair .ensures) (omega arith) (omega arith)
+    (omega (arith, pair-left (a .cw) v (a .bias) (a .cw - 2) (a .cw - 1) (2 * (a .cw - 1) + 0) (omega arith) (omega arith), c .before .before .before .before .before .before .cell-sum .ensures .0, c .before .before .before .before .before .cell-sum2 .ensures .0))
+    (omega (arith, pair-right (a .cw) v (a .bias) (a .cw - 1) (a .cw - 1) (2 * (a .cw - 1) + 1) (omega arith) refl, c .before .before .before .before .before .cell-sum2 .ensures .0))
     .eq
 
 pub last-cell-spec : {M : Type 1} → statement M
 last-cell-spec =
     tie.close
     (tie.spec
-    sub-cell
-    cell-requires
-    sub-cell-2
-    cell-requires-2
-    one-axis-requires
+    sub-cell-sum
+    cell-sum-requires
+    sub-cell-sum-2
+    cell-sum-requires-2
+    weigh-requires
     mul-out
     slice-write-out
     same-length

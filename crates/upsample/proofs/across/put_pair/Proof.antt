@@ -4,8 +4,8 @@ use borrow.Author.Needs.{needs}
 use Rattle.upsample.proofs.across.put_pair.Statement.{statement}
 use Rattle.upsample.proofs.across.put_pair.Tie as tie
 
-one-axis-requires : tie.Need-one-axis-requires
-one-axis-requires c κs = search needs
+weigh-requires : tie.Need-weigh-requires
+weigh-requires c κs = search needs
 
 mul-out : tie.Need-mul-out
 mul-out c = search needs
@@ -13,8 +13,8 @@ mul-out c = search needs
 slice-write-out : tie.Need-slice-write-out
 slice-write-out c = search needs
 
-one-axis-requires-2 : tie.Need-one-axis-requires-2
-one-axis-requires-2 c κs = search needs
+weigh-requires-2 : tie.Need-weigh-requires-2
+weigh-requires-2 c κs = search needs
 
 add-out : tie.Need-add-out
 add-out c = search needs
@@ -35,10 +35,10 @@ pub put-pair-spec : {M : Type 1} → statement M
 put-pair-spec =
     tie.close
     (tie.spec
-    one-axis-requires
+    weigh-requires
     mul-out
     slice-write-out
-    one-axis-requires-2
+    weigh-requires-2
     add-out
     mul-out-2
     slice-write-out-2

@@ -3,6 +3,7 @@
 use mathlib.Core.Path.{_∙_}
 use Prim.Native.Nat.{_*_, _/_, _<_}
 use native.Mathlib.Omega.{arith}
+use lib.Dec.{lit≤}
 use lib.ListN.{length}
 use borrow.Author.Needs.{needs}
 use Rattle.laws.proofs.Lists.{put-same}
@@ -28,14 +29,15 @@ near-inside c = let s = c .before .before .before .before in near-two (handed s)
 mul-at : tie.Need-mul-at
 mul-at c = let s = c .before .before in omega (arith, output-row (handed s) (s .args .y) (s .pre .1))
 
-mul-across-row : tie.Need-mul-across-row
-mul-across-row c = omega (arith, across-cells c .ends)
+mul-row : tie.Need-mul-row
+mul-row c = omega (arith, across-cells c .ends)
 
 across-row-requires : tie.Need-across-row-requires
 across-row-requires c κs =
     let s = c .before .before .before .before .before in
     let k = across-kind (s .args .layout) (handed s .kind) (c .before .if1 .taken) in
-    (across-cells (c .before), (doubled (s .args .layout) (handed s .size) (k .0) (k .1), output-row (handed s) (s .args .y) (s .pre .1)))
+    let row = across-cells (c .before) in
+    (row, (row, ((doubled (s .args .layout) (handed s .size) (k .0) (k .1), record { left = lit≤ tt; right = lit≤ tt }), output-row (handed s) (s .args .y) (s .pre .1))))
 
 same-length : tie.Need-same-length
 same-length c = search needs
@@ -74,13 +76,13 @@ returns-2 c =
     c .before .before .down-row .ensures
     ∙ put-same _ _ _ _ _ (λ x h. down-is (s .args .layout) (planeOf (s .args .plane .now) (s .args .stride)) (s .args .y) (c .before .before .before .before .before .before .before .before .if1 .left) (c .before .before .before .before .before .if2 .taken) _ _ (c .before .before .before .before .before .before .before .far .ensures .0) (c .before .before .before .before .one-axis-bias .ensures .0) x)
 
-both-row-requires : tie.Need-both-row-requires
-both-row-requires c κs =
+across-row-requires-2 : tie.Need-across-row-requires-2
+across-row-requires-2 c κs =
     let s = c .before .before .before .before .before .before .before .before in
     let k = both-kind (s .args .layout) (handed s .kind) (c .before .if2 .left) in
     let near = cell-row (handed s) (s .args .y / 2) (near-inside (c .before .before .before .before)) in
     let far = cell-row (handed s) (c .before .before .before .far .result) (c .before .before .before .far .ensures .1) in
-    (near, (far, (doubled (s .args .layout) (handed s .size) (k .0) (k .1), output-row (handed s) (s .args .y) (s .pre .1))))
+    (near, (far, ((doubled (s .args .layout) (handed s .size) (k .0) (k .1), record { left = lit≤ tt; right = lit≤ tt }), output-row (handed s) (s .args .y) (s .pre .1))))
 
 same-length-3 : tie.Need-same-length-3
 same-length-3 c = search needs
@@ -88,7 +90,7 @@ same-length-3 c = search needs
 returns-3 : tie.Need-returns-3
 returns-3 c =
     let s = c .before .before .before .before .before .before .before .before .before .before .before in
-    c .before .before .both-row .ensures
+    c .before .before .across-row2 .ensures
     ∙ put-same _ _ _ _ _ (λ x h. both-is (s .args .layout) (planeOf (s .args .plane .now) (s .args .stride)) (s .args .y) (c .before .before .before .before .before .before .before .if1 .left) (c .before .before .before .before .if2 .left) _ (c .before .before .before .before .before .before .far .ensures .0) x)
 
 pub triangular-row-spec : {M : Type 1} → statement M
@@ -96,7 +98,7 @@ triangular-row-spec =
     tie.close
     (tie.spec
     mul-at
-    mul-across-row
+    mul-row
     across-row-requires
     same-length
     returns
@@ -107,6 +109,6 @@ triangular-row-spec =
     down-row-requires
     same-length-2
     returns-2
-    both-row-requires
+    across-row-requires-2
     same-length-3
     returns-3)

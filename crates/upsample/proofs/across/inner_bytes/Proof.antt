@@ -1,22 +1,22 @@
 -- A loop that writes a run (`Run` of laws), two values a turn (`run-two`): cell k + 1 gives outputs 2 + 2k and 2 + 2k + 1.
--- That they are the row's is `both-even` and `both-odd` of Axis, over the sums of bytes that `byte_sum` promises.
+-- That they are the row's is `pair-left` and `pair-right` of Axis, over the sums of bytes that `byte_sum` promises.
 use mathlib.Core.Path.{refl}
 use Prim.Native.Nat.{_+_, _-_, _*_, _≤_}
 use native.Mathlib.Omega.{arith}
 use borrow.Author.Needs.{needs}
 use Rattle.laws.proofs.Lists.{Run, run-none, run-end}
-use Rattle.upsample.specs.Inner.Pairs.{sums, bothRow}
-use Rattle.upsample.proofs.Axis.{both-even, both-odd}
+use Rattle.upsample.specs.Inner.Pairs.{sums, acrossRow}
+use Rattle.upsample.proofs.Axis.{pair-left, pair-right}
 use Rattle.upsample.proofs.Inside.{cells-to}
 use Rattle.laws.proofs.Lists.{run-two}
-use Rattle.upsample.proofs.both.inner_bytes.Statement.{statement}
-use Rattle.upsample.proofs.both.inner_bytes.Tie as tie
+use Rattle.upsample.proofs.across.inner_bytes.Statement.{statement}
+use Rattle.upsample.proofs.across.inner_bytes.Tie as tie
 
 abbrev Inv-loop : tie.InvT-loop
-Inv-loop plane near far cw out₀ at n k₀ out k = (k ≤ n) × Run out₀ out at (2 * k) (λ x. bothRow cw (sums 1 plane near far) (2 + x))
+Inv-loop plane near far cw bias out₀ at n k₀ out k = (k ≤ n) × Run out₀ out at (2 * k) (λ x. acrossRow bias cw (sums 1 plane near far) (2 + x))
 
 abbrev μ-loop : tie.MeasureT-loop
-μ-loop plane near far cw out₀ at n k₀ out k = n - k
+μ-loop plane near far cw bias out₀ at n k₀ out k = n - k
 
 sub-n : tie.Need-sub-n Inv-loop μ-loop
 sub-n c = omega arith
@@ -62,8 +62,8 @@ loop-again c =
     let k = l .loop .k in (
       omega arith,
       run-two (l .loop .inv .1) _ (a .at + 2 * k) (2 * (k + 1)) _ _ (c .before .before .put-pair-u16 .ensures) refl (omega arith)
-          (omega (arith, both-even (a .cw) v k (k + 1) (2 + 2 * k) (omega arith) (omega arith), c .before .before .before .before .before .before .byte-sum .ensures .0, c .before .before .before .before .before .byte-sum2 .ensures .0))
-          (omega (arith, both-odd (a .cw) v (k + 1) (k + 2) (2 + (2 * k + 1)) (omega arith) (omega arith), c .before .before .before .before .before .byte-sum2 .ensures .0, c .before .before .before .before .byte-sum3 .ensures .0)),
+          (omega (arith, pair-left (a .cw) v (a .bias) k (k + 1) (2 + 2 * k) (omega arith) (omega arith), c .before .before .before .before .before .before .byte-sum .ensures .0, c .before .before .before .before .before .byte-sum2 .ensures .0))
+          (omega (arith, pair-right (a .cw) v (a .bias) (k + 1) (k + 2) (2 + (2 * k + 1)) (omega arith) (omega arith), c .before .before .before .before .before .byte-sum2 .ensures .0, c .before .before .before .before .byte-sum3 .ensures .0)),
     )
 
 same-length : tie.Need-same-length Inv-loop μ-loop

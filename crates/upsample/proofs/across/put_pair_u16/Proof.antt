@@ -3,8 +3,8 @@
 use native.Mathlib.Omega.{arith}
 use lib.ListN.{length-set}
 use borrow.Author.Needs.{needs}
-use Rattle.upsample.proofs.both.put_pair_u16.Statement.{statement}
-use Rattle.upsample.proofs.both.put_pair_u16.Tie as tie
+use Rattle.upsample.proofs.across.put_pair_u16.Statement.{statement}
+use Rattle.upsample.proofs.across.put_pair_u16.Tie as tie
 
 mul-out : tie.Need-mul-out
 mul-out c = search needs
