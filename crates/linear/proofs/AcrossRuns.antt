@@ -1,18 +1,19 @@
 -- Outputs between neighbouring cells: which cells and which fraction each has, shown once for any ratio.
 -- The hard step is `between-spot`: output r / 2 + m lies between cells m / r and m / r + 1, by splitting m as (m / r) * r + m % r.
 use mathlib.Core.Path.{_≡_, refl, sym, ap, _∙_}
-use mathlib.Core.List.{List}
-use Prim.Native.Nat.{ℕ, _+_, _-_, _*_, _/_, _%_, _≤_, _<_}
+use mathlib.Core.List.{List, [], _∷_}
+use Prim.Native.Nat.{ℕ, zero, suc, _+_, _-_, _*_, _/_, _%_, _≤_, _<_}
 use native.Mathlib.Nat.{mul-comm, div-add-mod', mod-lt, div-lt-iff-lt-mul, div-mul-le-self}
 use native.Mathlib.Omega.{arith}
 use lib.Arith.{digits-div, digits-mod}
 use lib.Ieee.{Float, nan}
+use lib.ListN.{getD}
 use borrow.Author.Tests.{ne-eqb, le-ltb, lt-leb}
 use Rattle.laws.specs.Lists.{put}
 use Rattle.laws.proofs.Lists.{put-same, put-after, put-chain}
 use Rattle.taps.specs.Taps.{lerpOf, fractionOf, Spot, spotAt, spotOf, tapOn, tapOf}
 use Rattle.linear.specs.Linear.{acrossBy}
-use Rattle.linear.specs.Inner.AcrossRows.{betweenAt, betweenRun, acrossRun}
+use Rattle.linear.specs.Inner.AcrossRows.{partOf, betweenAt, betweenRun, acrossRun}
 use Rattle.image.specs.Scratch.{cellAt}
 
 -- output j of pair i, as a loop that has read the pair's cells a and b stores it
@@ -23,6 +24,36 @@ between-is r s src i j m h e a b v p q k =
     let d : m / r ≡ i = ap (λ (z : ℕ). z / r) x ∙ digits-div i h in
     let t : m % r ≡ j = ap (λ (z : ℕ). z % r) x ∙ digits-mod i h in
     rw (d, t, sym p, sym q) k
+
+-- the fractions of a pair's outputs in an array of four, by their numerators over 2r
+pub parts-are : (r : ℕ) (a b c d : Float) → a ≡ fractionOf (2 * (r / 2) + 1 - r) (2 * r) → b ≡ fractionOf (2 * (r / 2) + 1 - r + 2) (2 * r)
+    → c ≡ fractionOf (2 * (r / 2) + 1 - r + 4) (2 * r) → d ≡ fractionOf (2 * (r / 2) + 1 - r + 6) (2 * r)
+    → (k : ℕ) → k < 4 → getD (a ∷ b ∷ c ∷ d ∷ []) k nan ≡ partOf r k
+parts-are r a b c d p q s t k h = go k h
+  where
+    same : (m n : ℕ) → m ≡ n → fractionOf m (2 * r) ≡ fractionOf n (2 * r)
+    same m n e = ap (λ (x : ℕ). fractionOf x (2 * r)) e
+
+    past : (k : ℕ) → suc (suc (suc (suc k))) < 4 → ⊥
+    past k h = omega arith
+
+    go : (k : ℕ) → k < 4 → getD (a ∷ b ∷ c ∷ d ∷ []) k nan ≡ partOf r k
+    go zero h = p ∙ same _ (2 * (r / 2 + 0) + 1 - r) (omega arith)
+    go (suc zero) h = q ∙ same _ (2 * (r / 2 + 1) + 1 - r) (omega arith)
+    go (suc (suc zero)) h = s ∙ same _ (2 * (r / 2 + 2) + 1 - r) (omega arith)
+    go (suc (suc (suc zero))) h = t ∙ same _ (2 * (r / 2 + 3) + 1 - r) (omega arith)
+    go (suc (suc (suc (suc k)))) h = absurd (past k h)
+
+-- a pair's outputs, put behind those of the pairs before it, from cells that those left as they were
+pub between-more : (r : ℕ) (s₀ s : List Float) (src i : ℕ) (parts : List Float) → r ≤ 4 → ((k : ℕ) → k < 4 → getD parts k nan ≡ partOf r k)
+    → getD s (src + i) nan ≡ cellAt s₀ src i → getD s (src + i + 1) nan ≡ getD s₀ (src + i + 1) nan
+    → (k : ℕ) → k < r → lerpOf (getD s (src + i) nan) (getD s (src + i + 1) nan) (getD parts k nan) ≡ betweenAt r s₀ src (r * i + k)
+between-more r s₀ s src i parts l f p q k h =
+    between-is r s₀ src i k (r * i + k) h refl (getD s (src + i) nan) (getD s (src + i + 1) nan) _ p (q ∙ ap (λ (x : ℕ). getD s₀ x nan) (next src i))
+    (ap (λ (x : Float). lerpOf (getD s (src + i) nan) (getD s (src + i + 1) nan) x) (f k (omega arith)))
+  where
+    next : (a i : ℕ) → a + i + 1 ≡ a + (i + 1)
+    next a i = omega arith
 
 -- over two lists whose cells are the same
 pub between-same : (r : ℕ) (s t : List Float) (src m : ℕ) → ((k : ℕ) → cellAt s src k ≡ cellAt t src k) → betweenAt r s src m ≡ betweenAt r t src m

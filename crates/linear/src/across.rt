@@ -1,9 +1,12 @@
 // Rows lerped across from cells that lie in scratch behind them. Between two cells the fractions of a ratio repeat, so that a loop with
 // constant fractions gives the floats of the taps; taps themselves are computed only at a row's edges, at ratio 1 and in narrow rows.
 ghost use mathlib.Core.Path.{_≡_};
-ghost use Prim.Native.Nat.{_+_, _*_, _≤_, _<_};
-ghost use lib.ListN.{length};
-ghost use Rattle.linear.specs.Inner.AcrossRows.{acrossRun, betweenRun};
+ghost use Prim.Native.Nat.{ℕ, _+_, _*_, _≤_, _<_};
+ghost use lib.Ieee.{nan};
+ghost use lib.ListN.{length, getD};
+ghost use Rattle.laws.specs.Lists.{put};
+ghost use Rattle.taps.specs.Taps.{lerpOf};
+ghost use Rattle.linear.specs.Inner.AcrossRows.{acrossRun, partOf, betweenRun};
 use crate::twos::Twos;
 use crate::twos::across_twos;
 use taps::fraction;
@@ -27,42 +30,47 @@ fn across_taps(s: &mut [f32], src: usize, cw: usize, r: usize, dst: usize, from:
     }
 }
 
-// The three outputs between each of n pairs of neighbouring cells at ratio 3.
-fn across_threes(s: &mut [f32], src: usize, n: usize, dst: usize)
-    requires { ⌜ (dst + 3 * n ≤ src) × (src + (n + 1) ≤ length (now s)) ⌝ }
-    ensures { λ _. ⌜ now (s .exit) ≡ betweenRun 3 src n dst (now (s .entry)) ⌝ }
+// The fractions of the outputs between two neighbouring cells at ratio r. An array has four places, and what stands past the ratio is no
+// output's.
+fn parts_of(r: usize) -> [f32; 4]
+    requires { ⌜ r ≤ 4 ⌝ }
+    ensures { λ f. ⌜ ((k : ℕ) → k < 4 → getD f k nan ≡ partOf r k) ⌝ }
 {
-    let f0 = fraction(0, 6);
-    let f1 = fraction(2, 6);
-    let f2 = fraction(4, 6);
-    let mut i = 0;
-    while i < n {
-        let a = s[src + i];
-        let b = s[src + (i + 1)];
-        s[dst + 3 * i] = lerp(a, b, f0);
-        s[dst + (3 * i + 1)] = lerp(a, b, f1);
-        s[dst + (3 * i + 2)] = lerp(a, b, f2);
-        i += 1;
+    let n = 2 * (r / 2) + 1 - r;
+    let d = 2 * r;
+    [
+        fraction(n, d),
+        fraction(n + 2, d),
+        fraction(n + 4, d),
+        fraction(n + 6, d),
+    ]
+}
+
+// The r outputs between the cell at src and the next, to s from dst on.
+fn put_between(s: &mut [f32], src: usize, r: usize, parts: [f32; 4], dst: usize)
+    requires { ⌜ (r ≤ 4) × (dst + r ≤ src) × (src + 1 < length (now s)) ⌝ }
+    ensures { λ _. ⌜ now (s .exit) ≡ put (now (s .entry)) dst r
+        (λ k. lerpOf (getD (now (s .entry)) src nan) (getD (now (s .entry)) (src + 1) nan) (getD parts k nan)) ⌝ }
+{
+    let a = s[src];
+    let b = s[src + 1];
+    let mut k = 0;
+    while k < r {
+        s[dst + k] = lerp(a, b, parts[k]);
+        k += 1;
     }
 }
 
-// The four outputs between each of n pairs of neighbouring cells at ratio 4.
-fn across_fours(s: &mut [f32], src: usize, n: usize, dst: usize)
-    requires { ⌜ (dst + 4 * n ≤ src) × (src + (n + 1) ≤ length (now s)) ⌝ }
-    ensures { λ _. ⌜ now (s .exit) ≡ betweenRun 4 src n dst (now (s .entry)) ⌝ }
+// The outputs between each of n pairs of neighbouring cells, r to a pair. It is called with a literal ratio, so that the compiler makes a
+// loop for each.
+fn across_each(s: &mut [f32], src: usize, r: usize, n: usize, dst: usize)
+    requires { ⌜ (r ≤ 4) × (dst + r * n ≤ src) × (src + (n + 1) ≤ length (now s)) ⌝ }
+    ensures { λ _. ⌜ now (s .exit) ≡ betweenRun r src n dst (now (s .entry)) ⌝ }
 {
-    let f0 = fraction(1, 8);
-    let f1 = fraction(3, 8);
-    let f2 = fraction(5, 8);
-    let f3 = fraction(7, 8);
+    let parts = parts_of(r);
     let mut i = 0;
     while i < n {
-        let a = s[src + i];
-        let b = s[src + (i + 1)];
-        s[dst + 4 * i] = lerp(a, b, f0);
-        s[dst + (4 * i + 1)] = lerp(a, b, f1);
-        s[dst + (4 * i + 2)] = lerp(a, b, f2);
-        s[dst + (4 * i + 3)] = lerp(a, b, f3);
+        put_between(s, src + i, r, parts, dst + r * i);
         i += 1;
     }
 }
@@ -77,10 +85,10 @@ fn across_between(s: &mut [f32], src: usize, r: usize, n: usize, dst: usize)
         return;
     }
     if r == 3 {
-        across_threes(s, src, n, dst);
+        across_each(s, src, 3, n, dst);
         return;
     }
-    across_fours(s, src, n, dst);
+    across_each(s, src, 4, n, dst);
 }
 
 // Inner: a row of w outputs at ratio r over the cw cells at src, to s from dst on. The first r / 2 outputs lie before the middle of cell 0;

@@ -11,9 +11,13 @@ use Rattle.linear.specs.Linear.{acrossBy}
 unfoldable pub acrossRun : ℕ → ℕ → ℕ → ℕ → ℕ → ℕ → List Float → List Float
 acrossRun src cw r dst from n s = put s (dst + from) n (λ i. acrossBy (tapOf r cw (from + i)) (cellAt s src))
 
+-- how far output k of a pair of neighbouring cells lies between them, at ratio r
+abbrev pub partOf : ℕ → ℕ → Float
+partOf r k = fractionOf (2 * (r / 2 + k) + 1 - r) (2 * r)
+
 -- output i of those between neighbouring cells at src, r to each pair; the first of them is output r / 2 of the row
 abbrev pub betweenAt : ℕ → List Float → ℕ → ℕ → Float
-betweenAt r s src i = lerpOf (cellAt s src (i / r)) (cellAt s src (i / r + 1)) (fractionOf (2 * (r / 2 + i % r) + 1 - r) (2 * r))
+betweenAt r s src i = lerpOf (cellAt s src (i / r)) (cellAt s src (i / r + 1)) (partOf r (i % r))
 
 -- the outputs between n pairs of neighbouring cells, put at dst
 unfoldable pub betweenRun : ℕ → ℕ → ℕ → ℕ → List Float → List Float

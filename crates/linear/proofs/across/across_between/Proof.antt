@@ -20,8 +20,8 @@ returns c =
     let a = c .before .before .before .before .before .before .args in
     c .before .before .across-twos .ensures ∙ ap (λ (k : ℕ). betweenRun k (a .src) (a .n) (a .dst) (a .s .now)) (sym (c .before .before .before .before .if1 .taken))
 
-across-threes-requires : tie.Need-across-threes-requires
-across-threes-requires c κs = let a = c .before .before .before .before .args in let e : a .r * a .n ≡ 3 * a .n = ap (λ (k : ℕ). k * a .n) (c .before .if2 .taken) in omega arith
+across-each-requires : tie.Need-across-each-requires
+across-each-requires c κs = let a = c .before .before .before .before .args in let e : a .r * a .n ≡ 3 * a .n = ap (λ (k : ℕ). k * a .n) (c .before .if2 .taken) in omega arith
 
 same-length-2 : tie.Need-same-length-2
 same-length-2 c = search needs
@@ -29,10 +29,10 @@ same-length-2 c = search needs
 returns-2 : tie.Need-returns-2
 returns-2 c =
     let a = c .before .before .before .before .before .before .before .args in
-    c .before .before .across-threes .ensures ∙ ap (λ (k : ℕ). betweenRun k (a .src) (a .n) (a .dst) (a .s .now)) (sym (c .before .before .before .before .if2 .taken))
+    c .before .before .across-each .ensures ∙ ap (λ (k : ℕ). betweenRun k (a .src) (a .n) (a .dst) (a .s .now)) (sym (c .before .before .before .before .if2 .taken))
 
-across-fours-requires : tie.Need-across-fours-requires
-across-fours-requires c κs = let a = c .before .before .before .before .args in let e : a .r * a .n ≡ 4 * a .n = ap (λ (k : ℕ). k * a .n) (four (a .r) (c .before .before .if1 .left) (c .before .if2 .left) (omega arith) (omega arith)) in omega arith
+across-each-requires-2 : tie.Need-across-each-requires-2
+across-each-requires-2 c κs = let a = c .before .before .before .before .args in let e : a .r * a .n ≡ 4 * a .n = ap (λ (k : ℕ). k * a .n) (four (a .r) (c .before .before .if1 .left) (c .before .if2 .left) (omega arith) (omega arith)) in omega arith
 
 same-length-3 : tie.Need-same-length-3
 same-length-3 c = search needs
@@ -40,7 +40,7 @@ same-length-3 c = search needs
 returns-3 : tie.Need-returns-3
 returns-3 c =
     let a = c .before .before .before .before .before .before .before .args in
-    c .before .before .across-fours .ensures ∙ ap (λ (k : ℕ). betweenRun k (a .src) (a .n) (a .dst) (a .s .now)) (sym (four (a .r) (c .before .before .before .before .before .if1 .left) (c .before .before .before .before .if2 .left) (omega arith) (omega arith)))
+    c .before .before .across-each2 .ensures ∙ ap (λ (k : ℕ). betweenRun k (a .src) (a .n) (a .dst) (a .s .now)) (sym (four (a .r) (c .before .before .before .before .before .if1 .left) (c .before .before .before .before .if2 .left) (omega arith) (omega arith)))
 
 pub across-between-spec : {M : Type 1} → statement M
 across-between-spec =
@@ -49,9 +49,9 @@ across-between-spec =
     across-twos-requires
     same-length
     returns
-    across-threes-requires
+    across-each-requires
     same-length-2
     returns-2
-    across-fours-requires
+    across-each-requires-2
     same-length-3
     returns-3)
