@@ -5,3 +5,4 @@ pub mod Claims
 pub mod LinearRows
 pub mod Lowest
 pub mod Span
+pub mod Surplus
