@@ -5,3 +5,4 @@ pub mod Chroma
 pub mod Later
 pub mod Lowest
 pub mod Painted
+pub mod Surplus
