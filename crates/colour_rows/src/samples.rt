@@ -99,7 +99,10 @@ pub fn wide_block(y: [u16; Block::LEN]) -> [u32; Block::LEN]
 // kernel's block.
 pub fn chroma_block(s: &[f32], src: usize, x: usize) -> [f32; Block::LEN]
     requires { do n ← ⟦Block::LEN⟧; ⌜ src + (x + n) ≤ length (now s) ⌝ }
-    ensures { λ r. do n ← ⟦Block::LEN⟧ .entry; ⌜ ((k : ℕ) → k < n → Centred (getD r k nan) (roundClamped 65536 (cellAt (now (s .entry)) src (x + k) ⊗ f32 256))) ⌝ }
+    ensures { λ r. do
+      n ← ⟦Block::LEN⟧ .entry
+      ⌜ ((k : ℕ) → k < n
+          → Centred (getD r k nan) (roundClamped 65536 (cellAt (now (s .entry)) src (x + k) ⊗ f32 256))) ⌝ }
 {
     let mut v = [0.0f32; Block::LEN];
     for k in 0..Block::LEN {
