@@ -14,7 +14,7 @@ use Rattle.linear.specs.Linear.{linearSample}
 
 -- ---- the exact bilinear value
 
--- a place on an axis of cells: p / q, where cell i lies at i
+-- a place among the cells of an axis: p / q, where cell i lies at i
 pub record Position : Type 0 where
   pub p : ℕ
   pub q : ℕ
@@ -23,7 +23,7 @@ pub record Position : Type 0 where
 unfoldable pub centredAt : ℕ → ℕ → ℕ → Position
 centredAt r len o = record { p = min (2 * o + 1 - r) ((len - 1) * (2 * r)); q = 2 * r }
 
--- the exact value at p / q, where f is the value of each cell, is exactBetween / q: of the cell before it q − rest parts, of the next cell rest parts
+-- the exact value at p / q, where f is the value of each cell, is exactBetween / q: rest = p mod q parts of q of the next cell, and the other q − rest of the cell at or before it
 abbrev pub exactBetween : Position → (ℕ → ℕ) → ℕ
 exactBetween s f = (s .q - s .p % s .q) * f (s .p / s .q) + s .p % s .q * f (s .p / s .q + 1)
 
