@@ -1,7 +1,7 @@
 // What the test programs share. Each of them replays a stored list of calls, a line for each, and writes a line with the call's answer
 // and a sum of what it left; the lists and the lines that must come of them are written by the scripts oracle/*-cases.
 //
-// A line is read by `words` (its numbers) and `lines` (layout, strides), planes are grown from a seed by `planes`, what a call left is
+// A line is read by `words` (its numbers) and `lines` (layout, strides), planes are grown or spelled by `planes`, what a call left is
 // summed by `checksums`, and `answer_lines` writes the line. None of it is promised to anyone: contracts say only what keeps it safe.
 mod answer_lines;
 mod checksums;
@@ -24,6 +24,7 @@ pub use lines::strides;
 pub use planes::grow;
 pub use planes::grown;
 pub use planes::plane;
+pub use planes::spelled_plane;
 pub use words::byte;
 pub use words::eight;
 pub use words::long;
