@@ -67,16 +67,11 @@ fn numbers(r: Reader) -> [usize; 16] {
     ]
 }
 
-// The lower 32 bits of a number.
-fn low(n: usize) -> u32 {
-    (n % 4_294_967_296) as u32
-}
-
 // The phase that `phase_number` makes n of.
 fn phase(n: usize) -> Phase {
     Phase {
         left: n >= 4_294_967_296,
-        f: test_support::float(low(n)),
+        f: test_support::float(test_support::low(n)),
     }
 }
 
@@ -95,43 +90,19 @@ fn reader_of(n: [usize; 16]) -> Reader {
     Reader {
         geometry,
         sample_bytes: n[5],
-        maxval: low(n[4]),
+        maxval: test_support::low(n[4]),
         place: n[1],
         h_next: n[2],
         f_next: n[3],
     }
 }
 
-// The value that a line has a number of the reader changed to, of three words. ffffffff in the lower two stands for the largest usize,
-// 2^64 - 1.
-fn value(text: &[u8]) -> usize {
-    let n = test_support::long(text, 26);
-    if n == 4_294_967_295 {
-        return 18_446_744_073_709_551_615;
-    }
-    test_support::word(text, 25) * 4_294_967_296 + n
-}
-
 // The reader that a line's call is handed: the one that the calls before it left, with one number changed where the line says which. From
 // 16 on the indices are the same once more.
 fn handed(text: &[u8], r: Reader) -> Reader {
     let mut n = numbers(r);
-    n[test_support::word(text, 24) % 16] = value(text);
+    n[test_support::word(text, 24) % 16] = test_support::value(text, 25);
     reader_of(n)
-}
-
-// A sum with a slice of 64-bit numbers added one after another, the upper half of each first.
-fn sum_numbers(sum: u32, n: &[usize]) -> u32 {
-    let mut sum = sum;
-    let mut i = 0;
-    while i < n.len() {
-        sum = test_support::added(
-            test_support::added(sum, low(n[i] / 4_294_967_296)),
-            low(n[i]),
-        );
-        i += 1;
-    }
-    sum
 }
 
 // `open` with a line's layout and strides. It has no outputs to sum.
@@ -224,25 +195,22 @@ fn row_need(reader: Reader) -> usize {
 }
 
 // Writes a call's line. The sum is of its outputs, of the reader that it gave, and of whether it changed scratch that it may not touch.
-fn write_call(done: Done, changed: bool) {
+fn write_call(done: Done, fault: u32) {
     let n = numbers(done.reader);
-    let sum = sum_numbers(done.sum, &n);
-    let fault = if changed { 1 } else { 0 };
+    let sum = test_support::sum_numbers(done.sum, &n);
     test_support::write_line(done.answer, test_support::added(sum, fault));
 }
 
-// Makes the call of a line with the reader that it is handed, and writes its line. An accepted call may touch as much of scratch as a row
-// needs, a refused one nothing.
+// Makes the call of a line with the reader that it is handed, and writes its line.
 fn written(text: &[u8], spelling: &[u8], given: Reader, s: &mut [f32]) -> Done {
     let need = row_need(given);
-    let all = test_support::sum_floats(0, s, 0);
-    let spared = test_support::sum_floats(0, s, need);
+    let before = test_support::scratch_sums(s, need);
     let done = called(text, spelling, given, s);
-    if done.answer == 0 {
-        write_call(done, test_support::sum_floats(0, s, need) != spared);
-        return done;
-    }
-    write_call(done, test_support::sum_floats(0, s, 0) != all);
+    let after = test_support::scratch_sums(s, need);
+    write_call(
+        done,
+        test_support::scratch_fault(before, after, done.answer),
+    );
     done
 }
 

@@ -86,3 +86,14 @@ pub fn size(text: &[u8], k: usize) -> usize
     }
     n
 }
+
+// Inner: words k to k+2 of a line as one number, the highest first. ffffffff in the lower two stands for the largest usize, 2^64 - 1.
+pub fn value(text: &[u8], k: usize) -> usize
+    requires { ⌜ k < 998 ⌝ }
+{
+    let n = long(text, k + 1);
+    if n == 4_294_967_295 {
+        return 18_446_744_073_709_551_615;
+    }
+    word(text, k) * 4_294_967_296 + n
+}
