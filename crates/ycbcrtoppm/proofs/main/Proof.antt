@@ -1,37 +1,15 @@
--- All but one need is found by search, since `picture` asks for nothing of what it is lent.
--- The one is that `write_outcome` finds the whole picture in out: `outcome-fits`, which follows from what `picture` promises.
+use mathlib.Core.Path.{sym}
 use native.Mathlib.Omega.{arith}
+use lib.Seq.{length-take-le}
 use borrow.Author.Needs.{needs}
-use Rattle.ycbcrtoppm.proofs.Fits.{outcome-fits}
 use Rattle.ycbcrtoppm.proofs.main.Statement.{statement}
 use Rattle.ycbcrtoppm.proofs.main.Tie as tie
 
-slice-aggregate-read-full : tie.Need-slice-aggregate-read-full
-slice-aggregate-read-full c = search needs
+slice-aggregate-read-all : tie.Need-slice-aggregate-read-all
+slice-aggregate-read-all c = search needs
 
-read-full-requires : tie.Need-read-full-requires
-read-full-requires c κs = search needs
-
-array-share-prefix-input : tie.Need-array-share-prefix-input
-array-share-prefix-input c = search needs
-
-slice-aggregate-picture : tie.Need-slice-aggregate-picture
-slice-aggregate-picture c = search needs
-
-slice-aggregate-picture-2 : tie.Need-slice-aggregate-picture-2
-slice-aggregate-picture-2 c = search needs
-
-slice-aggregate-picture-3 : tie.Need-slice-aggregate-picture-3
-slice-aggregate-picture-3 c = search needs
-
-picture-requires : tie.Need-picture-requires
-picture-requires c κs = search needs
-
-slice-aggregate-write-outcome : tie.Need-slice-aggregate-write-outcome
-slice-aggregate-write-outcome c = search needs
-
-write-outcome-requires : tie.Need-write-outcome-requires
-write-outcome-requires c κs = let w = outcome-fits _ (c .before .before .before .picture .ensures) in omega arith
+read-all-requires : tie.Need-read-all-requires
+read-all-requires c κs = search needs
 
 slice-aggregate-fail : tie.Need-slice-aggregate-fail
 slice-aggregate-fail c = search needs
@@ -42,6 +20,15 @@ fail-requires c κs = search needs
 returns : tie.Need-returns
 returns c = search needs
 
+array-share-prefix-input : tie.Need-array-share-prefix-input
+array-share-prefix-input c = search needs
+
+slice-aggregate-answer : tie.Need-slice-aggregate-answer
+slice-aggregate-answer c = sym (length-take-le _ _ (omega arith))
+
+answer-requires : tie.Need-answer-requires
+answer-requires c κs = search needs
+
 returns-2 : tie.Need-returns-2
 returns-2 c = search needs
 
@@ -49,16 +36,12 @@ pub main-spec : {M : Type 1} → statement M
 main-spec =
     tie.close
     (tie.spec
-    slice-aggregate-read-full
-    read-full-requires
-    array-share-prefix-input
-    slice-aggregate-picture
-    slice-aggregate-picture-2
-    slice-aggregate-picture-3
-    picture-requires
-    slice-aggregate-write-outcome
-    write-outcome-requires
+    slice-aggregate-read-all
+    read-all-requires
     slice-aggregate-fail
     fail-requires
     returns
+    array-share-prefix-input
+    slice-aggregate-answer
+    answer-requires
     returns-2)
