@@ -47,5 +47,5 @@ pub fn fill(
         s,
         out,
     );
-    Answer::Accepted
+    answer
 }

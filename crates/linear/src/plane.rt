@@ -86,5 +86,5 @@ pub fn linear_plane(
         return answer;
     }
     linear_rows(layout, plane, stride, s, out);
-    Answer::Accepted
+    answer
 }

@@ -1,15 +1,12 @@
 -- A refused call changes nothing. An accepted one passed all its tests, so that `ready` gives what `fill_rows` requires, and its contract for
 -- the rows 0, .. h - 1 is the promise.
-use mathlib.Core.Path.{_≡_, refl, sym, ap, _∙_}
+use mathlib.Core.Path.{_≡_, ap, _∙_}
 use Prim.Native.Nat.{ℕ, _-_}
 use native.Mathlib.Omega.{arith}
-use borrow.Author.Tests.{not-true, not-false}
 use borrow.Author.Needs.{needs}
-use Rattle.laws.specs.declared.answers.Answer.the-variants.{Accepted}
-use Rattle.laws.specs.Refusals.{accepted}
-use Rattle.laws.proofs.Refusals.{accepted-is}
+use Rattle.laws.proofs.Refusals.{Asked, kept, made, passed}
 use Rattle.image.specs.Picture.{pictureOf, planesOf}
-use Rattle.fill.specs.Tests.{FillCall, fillCall}
+use Rattle.fill.specs.Tests.{FillCall, fillCall, fillTests}
 use Rattle.fill.specs.Fill.{fillColour, pixelRows, fillScratch}
 use Rattle.fill.proofs.Acceptance.{ready}
 use Rattle.fill.proofs.calls.fill.Statement.{statement}
@@ -21,8 +18,8 @@ call c =
     let a = c .args in
     fillCall (a .layout) (planesOf (a .y .now) (a .cb .now) (a .cr .now) (a .strides)) (a .upsampling) (a .kernel) (a .size) (a .s .now) (a .out .now)
 
-passed : (c : tie.Else1) → c .before .before .fill-answer .result ≡ Accepted
-passed c = accepted-is (c .before .before .fill-answer .result) (not-false (accepted (c .before .before .fill-answer .result)) (sym (c .before .refused .ensures) ∙ c .if1 .left))
+asked : (c : tie.After-refused) → Asked (fillTests (call (c .before .before .before .before .before .before .before .before .before))) (c .before .fill-answer .result) (c .refused .result)
+asked c = record { answers = c .before .fill-answer .ensures; tells = c .refused .ensures }
 
 fill-answer-requires : tie.Need-fill-answer-requires
 fill-answer-requires c κs = search needs
@@ -37,12 +34,10 @@ same-length-2 : tie.Need-same-length-2
 same-length-2 c = search needs
 
 returns : tie.Need-returns
-returns c =
-    let e = not-true (accepted (c .before .before .fill-answer .result)) (sym (c .before .refused .ensures) ∙ c .if1 .taken) in
-    record { answers = c .before .before .fill-answer .ensures; gives = rw e refl; scratches = rw e refl }
+returns c = let a = asked (c .before) in let e = c .if1 .taken in record { answers = a .answers; gives = kept a e _ _; scratches = kept a e _ _ }
 
 fill-rows-requires : tie.Need-fill-rows-requires
-fill-rows-requires c κs = (ready (call (c .before .before .before .before .before .before .before .before .before .before .before .before)) (sym (c .before .before .before .before .fill-answer .ensures) ∙ passed (c .before .before)), (omega arith, omega arith))
+fill-rows-requires c κs = let d = c .before .before in (ready _ (passed (asked (d .before)) (d .if1 .left)), (omega arith, omega arith))
 
 same-length-3 : tie.Need-same-length-3
 same-length-3 c = search needs
@@ -52,14 +47,17 @@ same-length-4 c = search needs
 
 returns-2 : tie.Need-returns-2
 returns-2 c =
-    let k = call (c .before .before .before .before .before .before .before .before .before .before .before .before .before .before .before .before .before) in
+    let d = c .before .before .before .before .before .before .before in
+    let a = asked (d .before) in
+    let t = d .if1 .left in
+    let k = call (d .before .before .before .before .before .before .before .before .before .before) in
     let l = k .layout in
     let r = c .before .before .before .before .fill-rows .ensures in
     let e : l .h - 0 ≡ l .h = omega arith in
     record {
-      answers = sym (passed (c .before .before .before .before .before .before .before)) ∙ c .before .before .before .before .before .before .before .before .before .fill-answer .ensures;
-      gives = r .0 ∙ ap (λ (n : ℕ). pixelRows (l .w) (k .size) (fillColour (k .upsampling) (k .kernel) (pictureOf l (k .planes))) 0 n (k .out)) e;
-      scratches = r .1 ∙ ap (λ (n : ℕ). fillScratch (k .upsampling) l (k .planes) 0 n (k .scratch)) e;
+      answers = a .answers;
+      gives = made a t _ (r .0 ∙ ap (λ (n : ℕ). pixelRows (l .w) (k .size) (fillColour (k .upsampling) (k .kernel) (pictureOf l (k .planes))) 0 n (k .out)) e);
+      scratches = made a t _ (r .1 ∙ ap (λ (n : ℕ). fillScratch (k .upsampling) l (k .planes) 0 n (k .scratch)) e);
     }
 
 pub fill-spec : {M : Type 1} → statement M

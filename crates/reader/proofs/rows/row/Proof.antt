@@ -7,10 +7,8 @@ use mathlib.Core.Bool.{true}
 use Prim.Native.Nat.{_*_, _≤_}
 use native.Mathlib.Omega.{arith}
 use lib.ListN.{length}
-use borrow.Author.Tests.{not-true, not-false}
 use borrow.Author.Needs.{needs}
-use Rattle.laws.specs.Refusals.{accepted}
-use Rattle.laws.proofs.Refusals.{accepted-failed, accepted-is}
+use Rattle.laws.proofs.Refusals.{Asked, kept, made, passed, accepted-failed}
 use Rattle.image.specs.declared.layout.Layout.{Layout}
 use Rattle.image.specs.Picture.{badPlanes, planesOf}
 use Rattle.image.proofs.Layouts.{neither}
@@ -29,14 +27,12 @@ call c =
     let a = c .before .before .before .before .before .before .before .before .before .before .args in
     rowCall (a .row) (planesOf (a .y .now) (a .cb .now) (a .cr .now) (a .strides)) (a .reader) (a .s .now) (a .out-cb .now) (a .out-cr .now)
 
--- an accepted call, and what it was handed
-passed : (c : tie.Else1) → accepted (c .before .before .row-answer .result) ≡ true
-passed c = not-false (accepted (c .before .before .row-answer .result)) (sym (c .before .refused .ensures) ∙ c .if1 .left)
+asked : (c : tie.After-refused) → Asked (rowTests (call (c .before))) (c .before .row-answer .result) (c .refused .result)
+asked c = record { answers = c .before .row-answer .ensures; tells = c .refused .ensures }
 
+-- what an accepted call was handed
 handed : (c : tie.Else1) → RowHanded (call (c .before .before))
-handed c =
-    let k = call (c .before .before) in
-    row-handed k (accepted-failed (rowTests k) (sym (c .before .before .row-answer .ensures) ∙ accepted-is _ (passed c)))
+handed c = row-handed _ (accepted-failed _ (passed (asked (c .before)) (c .if1 .left)))
 
 lent : (c : tie.Else1) → (let k = call (c .before .before) in Lent (readerLayout (k .reader)) (k .planes) Both)
 unfolding badPlanes
@@ -50,9 +46,9 @@ lent c =
 abbrev calm : (c : tie.After-row-steps) → tie.Else1
 calm c = c .before .before .before
 
-made : (c : tie.After-row-steps) → c .row-steps .last .1 .1 .1 .1 .1 .1 .1 .1 .1 .0 ≡ rowScratch (call (calm c .before .before))
+made-by : (c : tie.After-row-steps) → c .row-steps .last .1 .1 .1 .1 .1 .1 .1 .1 .1 .0 ≡ rowScratch (call (calm c .before .before))
 unfolding rowScratch
-made c = rw (sym (c .before .before .reader-layout .ensures)) (c .row-steps .ensures)
+made-by c = rw (sym (c .before .before .reader-layout .ensures)) (c .row-steps .ensures)
 
 made-room : (c : tie.After-row-steps) → 3 * readerLayout (call (calm c .before .before) .reader) .w ≤ length (c .row-steps .last .1 .1 .1 .1 .1 .1 .1 .1 .1 .0)
 unfolding rowScratch
@@ -60,7 +56,7 @@ made-room c =
     let k = call (calm c .before .before) in
     let h = handed (calm c) in
     let f = front-fits (readerLayout (k .reader)) in
-    let e = ap length (made c) ∙ length-row _ _ _ _ _ _ _ in
+    let e = ap length (made-by c) ∙ length-row _ _ _ _ _ _ _ in
     omega (arith, h .room)
 
 row-answer-requires : tie.Need-row-answer-requires
@@ -80,8 +76,9 @@ same-length-3 c = search needs
 
 returns : tie.Need-returns
 returns c =
-    let f = not-true (accepted (c .before .before .row-answer .result)) (sym (c .before .refused .ensures) ∙ c .if1 .taken) in
-    record { answers = c .before .before .row-answer .ensures; leaves = rw f refl; scratches = rw f refl; cbs = rw f refl; crs = rw f refl }
+    let a = asked (c .before) in
+    let e = c .if1 .taken in
+    record { answers = a .answers; leaves = kept a e _ _; scratches = kept a e _ _; cbs = kept a e _ _; crs = kept a e _ _ }
 
 reader-layout-requires : tie.Need-reader-layout-requires
 reader-layout-requires c κs = search needs
@@ -120,13 +117,14 @@ returns-2 c =
     let d = c .before .before .before .before .before in
     let r = d .before .before .before .before .before .before in
     let e = ap (λ (l : Layout). l .w) (r .before .before .reader-layout .ensures) in
-    let a = passed (calm r) in
+    let a = asked (calm r .before) in
+    let t = calm r .if1 .left in
     record {
-      answers = calm r .before .before .row-answer .ensures;
-      leaves = rw a (c .after-row .ensures);
-      scratches = rw a (made r);
-      cbs = rw a (d .copy-rows .ensures .0 ∙ rw (e, made r) refl);
-      crs = rw a (d .copy-rows .ensures .1 ∙ rw (e, made r) refl);
+      answers = a .answers;
+      leaves = made a t _ (c .after-row .ensures);
+      scratches = made a t _ (made-by r);
+      cbs = made a t _ (d .copy-rows .ensures .0 ∙ rw (e, made-by r) refl);
+      crs = made a t _ (d .copy-rows .ensures .1 ∙ rw (e, made-by r) refl);
     }
 
 pub row-spec : {M : Type 1} → statement M

@@ -1,10 +1,13 @@
-use mathlib.Core.Path.{refl, sym, _∙_}
+use lib.ListN.{length}
 use borrow.Author.Needs.{needs}
-use borrow.Author.Tests.{not-true, not-false}
-use Rattle.laws.specs.Refusals.{accepted}
-use Rattle.laws.proofs.Refusals.{accepted-is}
+use Rattle.laws.proofs.Refusals.{Asked, kept, made, passed}
+use Rattle.image.specs.Samples.{planeOf}
+use Rattle.upsample.specs.Triangular.{triangularTests}
 use Rattle.upsample.proofs.plane.triangular_plane.Statement.{statement}
 use Rattle.upsample.proofs.plane.triangular_plane.Tie as tie
+
+asked : (c : tie.After-refused) → (let a = c .before .before .before .before .args in Asked (triangularTests (a .layout) (planeOf (a .plane .now) (a .stride)) (length (a .out .now))) (c .before .triangular-answer .result) (c .refused .result))
+asked c = record { answers = c .before .triangular-answer .ensures; tells = c .refused .ensures }
 
 triangular-answer-requires : tie.Need-triangular-answer-requires
 triangular-answer-requires c κs = search needs
@@ -13,31 +16,19 @@ refused-requires : tie.Need-refused-requires
 refused-requires c κs = search needs
 
 returns : tie.Need-returns
-returns c =
-    let e = not-true (accepted (c .before .before .triangular-answer .result)) (sym (c .before .refused .ensures) ∙ c .if1 .taken) in
-    let s = c .before .before .before .before .before in
-    record {
-      answers = c .before .before .triangular-answer .ensures;
-      leaves = rw e refl;
-    }
+returns c = let a = asked (c .before) in record { answers = a .answers; leaves = kept a (c .if1 .taken) _ _ }
 
 triangular-requires : tie.Need-triangular-requires
-triangular-requires c κs =
-    let r = c .before .before .before .triangular-answer in
-    sym (r .ensures) ∙ accepted-is (r .result) (not-false (accepted (r .result)) (sym (c .before .before .refused .ensures) ∙ c .before .if1 .left))
+triangular-requires c κs = let d = c .before in passed (asked (d .before)) (d .if1 .left)
 
 same-length : tie.Need-same-length
 same-length c = search needs
 
 returns-2 : tie.Need-returns-2
 returns-2 c =
-    let r = c .before .before .before .before .before .before .triangular-answer in
-    let e = not-false (accepted (r .result)) (sym (c .before .before .before .before .before .refused .ensures) ∙ c .before .before .before .before .if1 .left) in
-    let s = c .before .before .before .before .before .before .before .before .before in
-    record {
-      answers = r .ensures;
-      leaves = rw e (c .before .before .triangular .ensures);
-    }
+    let d = c .before .before .before .before in
+    let a = asked (d .before) in
+    record { answers = a .answers; leaves = made a (d .if1 .left) _ (c .before .before .triangular .ensures) }
 
 pub triangular-plane-spec : {M : Type 1} → statement M
 triangular-plane-spec =
