@@ -14,18 +14,18 @@ fn shaped(state: u32, shape: usize, i: usize) -> u8 {
     if shape == 0 {
         return (state / 16_777_216) as u8;
     }
+    if shape == 1 {
+        return (state / 268_435_456) as u8;
+    }
+    if shape == 2 {
+        return 77;
+    }
     if shape == 4 {
         return if i % 2 == 0 {
             (state / 16_777_216) as u8
         } else {
             0
         };
-    }
-    if shape == 1 {
-        return (state / 268_435_456) as u8;
-    }
-    if shape == 2 {
-        return 77;
     }
     (shape % 256) as u8
 }
@@ -59,8 +59,8 @@ fn spell(plane: &mut [u8], spelling: &[u8], from: usize) {
     }
 }
 
-// Inner: a plane of n bytes that a line spells from byte `from` on, at the front of a buffer like that of `grown`.
-pub fn spelled_plane(n: usize, spelling: &[u8], from: usize) -> [u8; 65_536]
+// A plane of n bytes that a line spells from byte `from` on, at the front of a buffer like that of `grown`.
+fn spelled_plane(n: usize, spelling: &[u8], from: usize) -> [u8; 65_536]
     requires { ⌜ n < 65536 ⌝ }
 {
     let mut plane = io::large_buffer();
