@@ -19,9 +19,11 @@ use kernels::YcbcrKernel;
 
 // Sixteen pixels by the exact kernel at maxval 255, of luma y and of the chroma of the columns from x on.
 fn exact_pixels(y: [u16; Block::LEN], s: &[f32], w: usize, x: usize) -> [[u8; Block::LEN]; 3]
-    requires { ⌜ (x + 16 ≤ w) × (2 * w ≤ length (now s)) ⌝ }
-    ensures { λ r. ⌜ ((k : ℕ) → k < 16 → blockPixel r k ≡ colourBy
-        Exact 255 (getD y k 0) (cellAt (now (s .entry)) 0 (x + k)) (cellAt (now (s .entry)) w (x + k))) ⌝ }
+    requires { do n ← ⟦Block::LEN⟧; ⌜ (x + n ≤ w) × (2 * w ≤ length (now s)) ⌝ }
+    ensures { λ r. do
+      n ← ⟦Block::LEN⟧ .entry
+      ⌜ ((k : ℕ) → k < n → blockPixel r k ≡ colourBy
+          Exact 255 (getD y k 0) (cellAt (now (s .entry)) 0 (x + k)) (cellAt (now (s .entry)) w (x + k))) ⌝ }
 {
     let cb = chroma_block(s, 0, x);
     let cr = chroma_block(s, w, x);
@@ -30,9 +32,11 @@ fn exact_pixels(y: [u16; Block::LEN], s: &[f32], w: usize, x: usize) -> [[u8; Bl
 
 // Sixteen pixels by the fixed kernel, of luma y and of the chroma of the columns from x on. It doesn't look at maxval, d in the contract.
 fn fixed_pixels(y: [u16; Block::LEN], s: &[f32], w: usize, x: usize) -> [[u8; Block::LEN]; 3]
-    requires { ⌜ (x + 16 ≤ w) × (2 * w ≤ length (now s)) ⌝ }
-    ensures { λ r. ⌜ ((d k : ℕ) → k < 16 → blockPixel r k ≡ colourBy
-        FixedPoint16 d (getD y k 0) (cellAt (now (s .entry)) 0 (x + k)) (cellAt (now (s .entry)) w (x + k))) ⌝ }
+    requires { do n ← ⟦Block::LEN⟧; ⌜ (x + n ≤ w) × (2 * w ≤ length (now s)) ⌝ }
+    ensures { λ r. do
+      n ← ⟦Block::LEN⟧ .entry
+      ⌜ ((d k : ℕ) → k < n → blockPixel r k ≡ colourBy
+          FixedPoint16 d (getD y k 0) (cellAt (now (s .entry)) 0 (x + k)) (cellAt (now (s .entry)) w (x + k))) ⌝ }
 {
     let cb = whole_chroma_block(s, 0, x);
     let cr = whole_chroma_block(s, w, x);
@@ -50,9 +54,11 @@ fn block_at(
     x: usize,
 ) -> [[u8; Block::LEN]; 3]
     requires { ⌜ RowLent layout (planeOf (now plane) stride) row (length (now s)) ⌝ }
-    requires { ⌜ Blocked kernel layout × (x + 16 ≤ layout .w) ⌝ }
-    ensures { λ r. ⌜ ((k : ℕ) → k < 16 → blockPixel r k ≡ rowColour
-        kernel layout (planeOf (now (plane .entry)) stride) row (now (s .entry)) (x + k)) ⌝ }
+    requires { do n ← ⟦Block::LEN⟧; ⌜ Blocked n kernel layout × (x + n ≤ layout .w) ⌝ }
+    ensures { λ r. do
+      n ← ⟦Block::LEN⟧ .entry
+      ⌜ ((k : ℕ) → k < n → blockPixel r k ≡ rowColour
+          kernel layout (planeOf (now (plane .entry)) stride) row (now (s .entry)) (x + k)) ⌝ }
 {
     let y = luma_block(layout, plane, stride, row, x);
     match kernel {
@@ -73,7 +79,7 @@ fn blocks3(
     at: usize,
 )
     requires { ⌜ RowLent layout (planeOf (now plane) stride) row (length (now s)) ⌝ }
-    requires { ⌜ Blocked kernel layout × (at + layout .w * 3 ≤ length (now out)) ⌝ }
+    requires { do n ← ⟦Block::LEN⟧; ⌜ Blocked n kernel layout × (at + layout .w * 3 ≤ length (now out)) ⌝ }
     ensures { λ _. ⌜ now (out .exit) ≡ colourRow
         kernel layout (planeOf (now (plane .entry)) stride) row (now (s .entry)) at 3 (now (out .entry)) ⌝ }
 {
@@ -100,7 +106,7 @@ fn blocks4(
     low: u32,
 )
     requires { ⌜ RowLent layout (planeOf (now plane) stride) row (length (now s)) ⌝ }
-    requires { ⌜ Blocked kernel layout × (at + layout .w * 4 ≤ length (now out)) × (low ≡ 16777215) ⌝ }
+    requires { do n ← ⟦Block::LEN⟧; ⌜ Blocked n kernel layout × (at + layout .w * 4 ≤ length (now out)) × (low ≡ 16777215) ⌝ }
     ensures { λ _. ⌜ now (out .exit) ≡ colourRow
         kernel layout (planeOf (now (plane .entry)) stride) row (now (s .entry)) at 4 (now (out .entry)) ⌝ }
 {
@@ -127,7 +133,7 @@ pub fn block_row(
     at: usize,
 )
     requires { ⌜ RowLent layout (planeOf (now plane) stride) row (length (now s)) ⌝ }
-    requires { ⌜ Blocked kernel layout × (3 ≤ size) × (size ≤ 4) × (at + layout .w * size ≤ length (now out)) ⌝ }
+    requires { do n ← ⟦Block::LEN⟧; ⌜ Blocked n kernel layout × (3 ≤ size) × (size ≤ 4) × (at + layout .w * size ≤ length (now out)) ⌝ }
     ensures { λ _. ⌜ now (out .exit) ≡ colourRow
         kernel layout (planeOf (now (plane .entry)) stride) row (now (s .entry)) at size (now (out .entry)) ⌝ }
 {

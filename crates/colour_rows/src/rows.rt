@@ -14,7 +14,7 @@ use kernels::YcbcrKernel;
 
 // Whether a row goes by blocks: it is as wide as one, and its kernel has a block. The exact kernel has one at maxval 255 only.
 fn by_blocks(layout: Layout, kernel: YcbcrKernel) -> bool
-    ensures { λ r. ⌜ (r ≡ true → Blocked kernel layout) ⌝ }
+    ensures { λ r. do n ← ⟦Block::LEN⟧ .entry; ⌜ (r ≡ true → Blocked n kernel layout) ⌝ }
 {
     if layout.w < Block::LEN {
         return false;

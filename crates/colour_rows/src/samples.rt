@@ -9,7 +9,7 @@ ghost use Rattle.fround.specs.Rounding.{roundClamped};
 ghost use Rattle.fround.specs.Inner.Rounding.{Rounded};
 ghost use Rattle.image.specs.Scratch.{cellAt};
 ghost use Rattle.kernel_blocks.specs.Inner.Floating.{Centred};
-ghost use Rattle.colour_rows.specs.Inner.Gathered.{LumaRow, Sixteen};
+ghost use Rattle.colour_rows.specs.Inner.Gathered.{LumaRow, Listed};
 use image::Layout;
 use kernel_blocks::Block;
 
@@ -45,8 +45,8 @@ pub fn whole_chroma(v: f32) -> u8
 
 // The sixteen samples of one byte from byte `at` on. The size is a constant in the loop, so that they compile to loads of many.
 fn one_byte_block(plane: &[u8], at: usize) -> [u16; Block::LEN]
-    requires { ⌜ at + 16 ≤ length (now plane) ⌝ }
-    ensures { λ r. ⌜ Sixteen r (λ k. sampleOf 1 (now (plane .entry)) (at + k)) ⌝ }
+    requires { do n ← ⟦Block::LEN⟧; ⌜ at + n ≤ length (now plane) ⌝ }
+    ensures { λ r. do n ← ⟦Block::LEN⟧ .entry; ⌜ Listed n r (λ k. sampleOf 1 (now (plane .entry)) (at + k)) ⌝ }
 {
     let mut v = [0u16; Block::LEN];
     for k in 0..Block::LEN {
@@ -57,8 +57,8 @@ fn one_byte_block(plane: &[u8], at: usize) -> [u16; Block::LEN]
 
 // The sixteen samples of two bytes from byte `at` on. The size is a constant in the loop, so that they compile to loads of many.
 fn two_byte_block(plane: &[u8], at: usize) -> [u16; Block::LEN]
-    requires { ⌜ at + 32 ≤ length (now plane) ⌝ }
-    ensures { λ r. ⌜ Sixteen r (λ k. sampleOf 2 (now (plane .entry)) (at + k * 2)) ⌝ }
+    requires { do n ← ⟦Block::LEN⟧; ⌜ at + n * 2 ≤ length (now plane) ⌝ }
+    ensures { λ r. do n ← ⟦Block::LEN⟧ .entry; ⌜ Listed n r (λ k. sampleOf 2 (now (plane .entry)) (at + k * 2)) ⌝ }
 {
     let mut v = [0u16; Block::LEN];
     for k in 0..Block::LEN {
@@ -75,8 +75,8 @@ pub fn luma_block(
     row: usize,
     x: usize,
 ) -> [u16; Block::LEN]
-    requires { ⌜ LumaRow layout (planeOf (now plane) stride) row × (x + 16 ≤ layout .w) ⌝ }
-    ensures { λ r. ⌜ Sixteen r (λ k. sampleAt (layout .«sample_bytes») (planeOf (now (plane .entry)) stride) row (x + k)) ⌝ }
+    requires { do n ← ⟦Block::LEN⟧; ⌜ LumaRow layout (planeOf (now plane) stride) row × (x + n ≤ layout .w) ⌝ }
+    ensures { λ r. do n ← ⟦Block::LEN⟧ .entry; ⌜ Listed n r (λ k. sampleAt (layout .«sample_bytes») (planeOf (now (plane .entry)) stride) row (x + k)) ⌝ }
 {
     if layout.sample_bytes == 1 {
         return one_byte_block(plane, row * stride + x);
@@ -86,7 +86,7 @@ pub fn luma_block(
 
 // Inner: sixteen samples of luma as numbers of 32 bits, which the exact kernel computes with.
 pub fn wide_block(y: [u16; Block::LEN]) -> [u32; Block::LEN]
-    ensures { λ r. ⌜ ((k : ℕ) → k < 16 → (getD r k 0 ≡ getD y k 0) × (getD r k 0 ≤ 65535)) ⌝ }
+    ensures { λ r. do n ← ⟦Block::LEN⟧ .entry; ⌜ ((k : ℕ) → k < n → (getD r k 0 ≡ getD y k 0) × (getD r k 0 ≤ 65535)) ⌝ }
 {
     let mut v = [0u32; Block::LEN];
     for k in 0..Block::LEN {
@@ -98,8 +98,11 @@ pub fn wide_block(y: [u16; Block::LEN]) -> [u32; Block::LEN]
 // Inner: chroma of the sixteen columns from x on of the finished row at src, in 256ths less 32,768 = 128 * 256, as floats for the exact
 // kernel's block.
 pub fn chroma_block(s: &[f32], src: usize, x: usize) -> [f32; Block::LEN]
-    requires { ⌜ src + (x + 16) ≤ length (now s) ⌝ }
-    ensures { λ r. ⌜ ((k : ℕ) → k < 16 → Centred (getD r k nan) (roundClamped 65536 (cellAt (now (s .entry)) src (x + k) ⊗ f32 256))) ⌝ }
+    requires { do n ← ⟦Block::LEN⟧; ⌜ src + (x + n) ≤ length (now s) ⌝ }
+    ensures { λ r. do
+      n ← ⟦Block::LEN⟧ .entry
+      ⌜ ((k : ℕ) → k < n
+          → Centred (getD r k nan) (roundClamped 65536 (cellAt (now (s .entry)) src (x + k) ⊗ f32 256))) ⌝ }
 {
     let mut v = [0.0f32; Block::LEN];
     for k in 0..Block::LEN {
@@ -110,8 +113,8 @@ pub fn chroma_block(s: &[f32], src: usize, x: usize) -> [f32; Block::LEN]
 
 // Inner: chroma of the sixteen columns from x on of the finished row at src, as whole numbers for the fixed kernel's block.
 pub fn whole_chroma_block(s: &[f32], src: usize, x: usize) -> [u8; Block::LEN]
-    requires { ⌜ src + (x + 16) ≤ length (now s) ⌝ }
-    ensures { λ r. ⌜ Sixteen r (λ k. roundClamped 255 (cellAt (now (s .entry)) src (x + k))) ⌝ }
+    requires { do n ← ⟦Block::LEN⟧; ⌜ src + (x + n) ≤ length (now s) ⌝ }
+    ensures { λ r. do n ← ⟦Block::LEN⟧ .entry; ⌜ Listed n r (λ k. roundClamped 255 (cellAt (now (s .entry)) src (x + k))) ⌝ }
 {
     let mut v = [0u8; Block::LEN];
     for k in 0..Block::LEN {

@@ -2,6 +2,6 @@
 pub mod Acceptance
 pub mod Bytes
 pub mod Chroma
-pub mod Later
 pub mod Lowest
 pub mod Painted
+pub mod Surplus

@@ -36,21 +36,13 @@ pub fn fill_answer(
         (fillCall layout (planesOf (now (y .entry)) (now (cb .entry)) (now (cr .entry)) strides)
         upsampling kernel size (now (s .entry)) (now (out .entry)))) ⌝ }
 {
-    let early = layout.answer(is_fixed(kernel));
-    if laws::refused(early) {
-        return early;
-    }
-    if image::bad_planes(layout, y, cb, cr, strides) {
-        return Answer::Refused(7);
-    }
-    if laws::outside(3, 4, size) {
-        return Answer::Refused(8);
-    }
-    if s.len() < image::scratch_need(layout) {
-        return Answer::Refused(9);
-    }
-    if out.len() < layout.w * layout.h * size {
-        return Answer::Refused(10);
-    }
-    Answer::Accepted
+    let answer = layout.answer(is_fixed(kernel));
+    let answer = laws::then(answer, image::bad_planes(layout, y, cb, cr, strides), 7);
+    let answer = laws::then(answer, laws::outside(3, 4, size), 8);
+    let answer = laws::then(answer, image::short_scratch(layout, s.len()), 9);
+    laws::then(
+        answer,
+        laws::volume_passes(layout.w, layout.h, size, out.len()),
+        10,
+    )
 }

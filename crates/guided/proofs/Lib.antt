@@ -13,6 +13,7 @@ pub mod Lowest
 pub mod Places
 pub mod Runs
 pub mod Steps
+pub mod Surplus
 pub mod Taken
 pub mod Vectors
 pub mod Window

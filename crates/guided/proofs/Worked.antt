@@ -1,13 +1,13 @@
 -- A list that meets the premise, with refused calls among accepted ones and a second picture over the first one's scratch.
--- Each answer is computed from its tests; what a call leaves passes by LeftStates. The one long computation is `computed`, a whole guided row
--- of a picture of one pixel.
+-- Each answer is computed from its tests; what a call leaves passes by LeftStates. The long computations are the guided rows of both pictures,
+-- whose numbers come from the original; their slopes are computed first, since each sample takes its slope several times.
 use mathlib.Core.Path.{_≡_, refl, _∙_}
 use mathlib.Core.Bool.{Bool, true, false, cond, _&&_}
 use mathlib.Core.List.{List, [], _∷_}
 use Prim.Native.Nat.{ℕ, zero, suc, _<_}
 use lib.Dec.{T, ltb, ltb→lt, lit<}
 use lib.ListN.{length, getD, replicate}
-use lib.Ieee.{nan, add, sub, sum, neg, mul, div, round, size, span, climb, units, odd, lt, ofInt}
+use lib.Ieee.{Float, nan, binary32, add, sub, sum, neg, mul, div, round, size, span, climb, units, odd, lt, ofInt, ofBits, ofFields}
 use lib.Count.{trailingZeros}
 use Rattle.laws.specs.declared.answers.Answer.the-variants.{Accepted, Refused}
 use Rattle.laws.specs.Floats.{f32}
@@ -18,7 +18,7 @@ use Rattle.image.specs.declared.layout.Layout.{Layout}
 use Rattle.image.specs.Tests.{badSize, badRatio, badSamples, divCeil, badChroma, layoutTests, badPlane}
 use Rattle.image.specs.Samples.{sampleOf, sampleAt}
 use Rattle.image.specs.declared.chroma.Chroma.the-variants.{Cb, Cr}
-use Rattle.image.specs.Picture.{Planes, inside, pictureOf, shortPlane, badPlanes}
+use Rattle.image.specs.Picture.{Planes, chromaPlane, inside, pictureOf, shortPlane, badPlanes}
 use Rattle.taps.specs.Taps.{spotAt, spotOf, tapOf, phaseOf}
 use Rattle.image.specs.Scratch.{scratchNeed}
 use Rattle.guided.specs.declared.state.Reader.{Reader}
@@ -54,12 +54,12 @@ rowEvent c =
 abbrev junk : Reader
 junk = record { geometry = record { w = 9; h = 9; rh = 0; rv = 7; cw = 1; ch = 1; phases = [] }; «sample_bytes» = 3; maxval = 0; place = 7; «h_next» = 7; «f_next» = 7 }
 
--- 2 by 2, both ratios 2, at a stride of 3
+-- 2 by 2, ratio 2 across and 1 down, luma at a stride of 3 and Cr at one of 2
 abbrev layoutA : Layout
-layoutA = record { w = 2; h = 2; rh = 2; rv = 2; cw = 1; ch = 1; «sample_bytes» = 1; maxval = 255 }
+layoutA = record { w = 2; h = 2; rh = 2; rv = 1; cw = 1; ch = 2; «sample_bytes» = 1; maxval = 255 }
 
 abbrev planesA : Planes
-planesA = record { y = record { bytes = 10 ∷ 20 ∷ 99 ∷ 30 ∷ 40 ∷ []; stride = 3 }; cb = record { bytes = 100 ∷ []; stride = 1 }; cr = record { bytes = 200 ∷ 77 ∷ []; stride = 9 } }
+planesA = record { y = record { bytes = 10 ∷ 20 ∷ 99 ∷ 30 ∷ 40 ∷ []; stride = 3 }; cb = record { bytes = 100 ∷ 60 ∷ []; stride = 1 }; cr = record { bytes = 200 ∷ 9 ∷ 77 ∷ []; stride = 2 } }
 
 -- 1 by 1
 abbrev layoutB : Layout
@@ -177,13 +177,13 @@ bytes-are (x ∷ l) t i = go (ltb x 256) (ltb→lt x 256) (bytes-are l) t i
 
 bytesA : Bytes openA
 unfolding Bytes
-bytesA Cb = bytes-are (100 ∷ []) tt
-bytesA Cr = bytes-are (200 ∷ 77 ∷ []) tt
+bytesA Cb = bytes-are (chromaPlane planesA Cb .bytes) tt
+bytesA Cr = bytes-are (chromaPlane planesA Cr .bytes) tt
 
 bytesB : (o : OpenCall) → o .planes ≡ planesB → Bytes o
 unfolding Bytes
-bytesB o e Cb = rw e (bytes-are (3 ∷ []) tt)
-bytesB o e Cr = rw e (bytes-are (128 ∷ []) tt)
+bytesB o e Cb = rw e (bytes-are (chromaPlane planesB Cb .bytes) tt)
+bytesB o e Cr = rw e (bytes-are (chromaPlane planesB Cr .bytes) tt)
 
 open-ran : (o : OpenCall) → Bytes o → Ran (openEvent o)
 unfolding Ran
@@ -207,18 +207,62 @@ premise =
     rw (openA-answer, badRow-answer, badOpen-answer, row0-answer, seek1-answer, row1-answer, openB-answer, row2-answer)
     ((λ _. tt), ((λ t. absurd t), ((λ t. absurd t), ((λ _. (shows-own openA, refl, refl)), ((λ _. refl), ((λ _. (shows-own openA, refl, refl)), ((λ _. tt), ((λ _. (shows-own openB, refl, refl)), tt))))))))
 
-gives : Gives openB (rowEvent row2) Start events
+-- each accepted row of it, with the open that is then current
+gives-0 : Gives openA (rowEvent row0) Start events
 unfolding next moved done
-gives =
+gives-0 = rw (openA-answer, badRow-answer, badOpen-answer, row0-answer) (later (later (later (here tt refl))))
+
+gives-1 : Gives openA (rowEvent row1) Start events
+unfolding next moved done
+gives-1 = rw (openA-answer, badRow-answer, badOpen-answer, row0-answer, seek1-answer, row1-answer) (later (later (later (later (later (here tt refl))))))
+
+gives-2 : Gives openB (rowEvent row2) Start events
+unfolding next moved done
+gives-2 =
     rw (openA-answer, badRow-answer, badOpen-answer, row0-answer, seek1-answer, row1-answer, openB-answer, row2-answer)
     (later (later (later (later (later (later (later (here tt refl))))))))
 
--- ---- and the row given is the second picture's, by its numbers
+-- ---- and the rows given are the pictures', by their numbers
 
-computed : guidedRow (pictureBy openB) Cb 0 ≡ f32 3 ∷ []
-unfolding guidedRow table guidedSample valueOf detailOf acrossTo downTo slope slopeOf mean epsilon extreme extremeOf acrossVal cellOf cellLuma lumaOf three sumTo phaseOf tapOf spotOf spotAt pictureOf inside sampleAt sampleOf add sub mul div sum neg round size span climb units odd lt ofInt trailingZeros
-computed = refl
+abbrev bits : ℕ → Float
+bits n = ofBits binary32 n
 
--- the row that the list gives
-pub worked : given openB (rowEvent row2) Cb ≡ f32 3 ∷ []
-worked = demand-3 .guided openB (rowEvent row2) events (record { ran = all-ran; premise = premise; gives = gives }) Cb ∙ computed
+-- the first picture's rows: Cb 100 and 91.525429, Cr 200 and 173.94067; below them Cb 68.474579 and 60, Cr 103.05933 and 77
+abbrev cb0 : List Float
+cb0 = bits 1120403456 ∷ bits 1119292677 ∷ []
+
+abbrev cr0 : List Float
+cr0 = bits 1128792064 ∷ bits 1127084240 ∷ []
+
+abbrev cb1 : List Float
+cb1 = bits 1116271356 ∷ bits 1114636288 ∷ []
+
+abbrev cr1 : List Float
+cr1 = bits 1120804449 ∷ bits 1117388800 ∷ []
+
+-- the first picture's slopes, as f32: about −1.7 for Cb and −5.2 for Cr
+slopes : (slope (pictureBy openA) Cb 0 0 ≡ bits 3218666231) × (slope (pictureBy openA) Cr 0 0 ≡ bits 3232155546) × (slope (pictureBy openA) Cb 1 0 ≡ bits 3218666245) × (slope (pictureBy openA) Cr 1 0 ≡ bits 3232155549)
+unfolding slope slopeOf mean epsilon acrossVal cellOf cellLuma lumaOf three sumTo pictureOf inside sampleAt sampleOf add sub mul div sum neg round size span climb units odd lt ofInt trailingZeros ofBits ofFields
+slopes = (refl, refl, refl, refl)
+
+computed-0 : (guidedRow (pictureBy openA) Cb 0 ≡ cb0) × (guidedRow (pictureBy openA) Cr 0 ≡ cr0)
+unfolding guidedRow table guidedSample valueOf detailOf acrossTo downTo extreme extremeOf acrossVal cellOf cellLuma lumaOf three sumTo phaseOf tapOf spotOf spotAt pictureOf inside sampleAt sampleOf add sub mul div sum neg round size span climb units odd lt ofInt trailingZeros ofBits ofFields
+computed-0 = (rw (slopes .0) refl, rw (slopes .1) refl)
+
+computed-1 : (guidedRow (pictureBy openA) Cb 1 ≡ cb1) × (guidedRow (pictureBy openA) Cr 1 ≡ cr1)
+unfolding guidedRow table guidedSample valueOf detailOf acrossTo downTo extreme extremeOf acrossVal cellOf cellLuma lumaOf three sumTo phaseOf tapOf spotOf spotAt pictureOf inside sampleAt sampleOf add sub mul div sum neg round size span climb units odd lt ofInt trailingZeros ofBits ofFields
+computed-1 = (rw (slopes .2) refl, rw (slopes .3) refl)
+
+computed-2 : (guidedRow (pictureBy openB) Cb 0 ≡ f32 3 ∷ []) × (guidedRow (pictureBy openB) Cr 0 ≡ f32 128 ∷ [])
+unfolding guidedRow table guidedSample valueOf detailOf acrossTo downTo slope slopeOf mean epsilon extreme extremeOf acrossVal cellOf cellLuma lumaOf three sumTo phaseOf tapOf spotOf spotAt pictureOf inside sampleAt sampleOf add sub mul div sum neg round size span climb units odd lt ofInt trailingZeros ofBits ofFields
+computed-2 = (refl, refl)
+
+-- the rows that the list gives: row 0 and row 1 of the first picture, and row 0 of the second
+pub worked-0 : (given openA (rowEvent row0) Cb ≡ cb0) × (given openA (rowEvent row0) Cr ≡ cr0)
+worked-0 = let rows = demand-3 .guided openA (rowEvent row0) events (record { ran = all-ran; premise = premise; gives = gives-0 }) in (rows Cb ∙ computed-0 .0, rows Cr ∙ computed-0 .1)
+
+pub worked-1 : (given openA (rowEvent row1) Cb ≡ cb1) × (given openA (rowEvent row1) Cr ≡ cr1)
+worked-1 = let rows = demand-3 .guided openA (rowEvent row1) events (record { ran = all-ran; premise = premise; gives = gives-1 }) in (rows Cb ∙ computed-1 .0, rows Cr ∙ computed-1 .1)
+
+pub worked-2 : (given openB (rowEvent row2) Cb ≡ f32 3 ∷ []) × (given openB (rowEvent row2) Cr ≡ f32 128 ∷ [])
+worked-2 = let rows = demand-3 .guided openB (rowEvent row2) events (record { ran = all-ran; premise = premise; gives = gives-2 }) in (rows Cb ∙ computed-2 .0, rows Cr ∙ computed-2 .1)

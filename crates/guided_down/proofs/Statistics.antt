@@ -7,6 +7,7 @@ use Prim.Native.Nat.{ℕ, _+_, _-_, _≤_, _<_}
 use native.Mathlib.Omega.{arith}
 use lib.ListN.{length, getD}
 use lib.Ieee.{Float, nan}
+use Rattle.laws.specs.Floats.{f32, _⊗_, _⊘_}
 use Rattle.laws.specs.Lists.{put}
 use Rattle.laws.proofs.Lists.{Run, run-before, run-after, run-over, put-same}
 use Rattle.image.specs.Scratch.{cellAt, scratchNeed}
@@ -71,6 +72,11 @@ stats-clear l k j =
       c = window-clear l (firstOf k + 1) (firstOf k + 3) j (omega arith) (omega arith);
       yc = window-clear l (firstOf k + 2) (firstOf k + 3) j (omega arith) (omega arith);
     }
+
+-- eps by a constant that is 16
+pub epsilon-is : (l : Layout) (e : Float) → e ≡ f32 16 → e ⊗ (f32 (l .maxval) ⊘ f32 255) ⊗ (f32 (l .maxval) ⊘ f32 255) ≡ epsilon l
+unfolding epsilon
+epsilon-is l e h = rw h refl
 
 -- the slope by its windows is the definition's
 pub slope-is : (l : Layout) (k : Chroma) (j : ℕ) (s : List Float) (i : ℕ) → slopeAt s (statsOf l k j) (epsilon l) i ≡ slopeOf l (readAcross l s) k j i

@@ -5,7 +5,6 @@ ghost use lib.Ieee.{nan};
 ghost use lib.ListN.{length, getD};
 ghost use Rattle.laws.specs.Lists.{put};
 ghost use Rattle.laws.specs.Floats.{f32, _⊕_, _⊗_, _⊘_};
-ghost use Rattle.guided.specs.Guided.{epsilon};
 ghost use Rattle.guided_down.specs.Inner.Slopes.{slopeBy, meanAt, slopeAt, slopeRun, Inside, AllInside, Clear, statsOf, slopeRow};
 ghost use Rattle.image.specs.Inner.Tests.{Sound};
 ghost use Rattle.image.specs.Scratch.{scratchNeed};
@@ -27,10 +26,11 @@ pub struct Stats {
     pub yc: Window,
 }
 
-// Inner: what is added to the variance of luma, in the picture's sample range: document 01's "eps = (16·s)·s, s = maxval/255".
+// Inner: what is added to the variance of luma, in the picture's sample range: document 01's "eps = (16·s)·s, s = maxval/255", where 16 is
+// `Geometry::EPSILON`.
 pub fn epsilon_of(layout: Layout) -> f32
     requires { ⌜ layout .maxval ≤ 65535 ⌝ }
-    ensures { λ r. ⌜ r ≡ epsilon layout ⌝ }
+    ensures { λ r. do e ← ⟦Geometry::EPSILON⟧ .entry; ⌜ r ≡ e ⊗ (f32 (layout .maxval) ⊘ f32 255) ⊗ (f32 (layout .maxval) ⊘ f32 255) ⌝ }
 {
     let s = layout.maxval as f32 / 255.0;
     Geometry::EPSILON * s * s

@@ -51,8 +51,10 @@ fn detail_block(
     requires { ⌜ LumaPixels layout (planeOf (now plane) stride) × (y < layout .h)
         × (layout .rh ≡ 2) × (i + 10 ≤ layout .cw) × (2 * i + 18 ≤ layout .w) ⌝ }
     requires { ⌜ src + layout .cw ≤ length (now s) ⌝ }
-    ensures { λ r. ⌜ ((k : ℕ) → k < 16
-        → getD r k nan ≡ detailIn layout (planeOf (now (plane .entry)) stride) y (now (s .entry)) src (2 + 2 * i + k)) ⌝ }
+    ensures { λ r. do
+      n ← ⟦Lanes::PIXELS⟧ .entry
+      ⌜ ((k : ℕ) → k < n
+          → getD r k nan ≡ detailIn layout (planeOf (now (plane .entry)) stride) y (now (s .entry)) src (2 + 2 * i + k)) ⌝ }
 {
     let mut block = [0.0f32; Lanes::PIXELS];
     for b in 0..Lanes::CELLS {

@@ -41,7 +41,7 @@ fn value_pair(layout: Layout, s: &[f32], t: ValueInputs, i: usize) -> Pair
 fn value_block(layout: Layout, s: &[f32], t: ValueInputs, i: usize) -> [f32; Lanes::PIXELS]
     requires { ⌜ (layout .rh ≡ 2) × (i + 10 ≤ layout .cw) × (2 * i + 18 ≤ layout .w) ⌝ }
     requires { ⌜ InputsInside t (3 * layout .w) (layout .cw) (length (now s)) ⌝ }
-    ensures { λ r. ⌜ ((k : ℕ) → k < 16 → getD r k nan ≡ valueAt layout (now (s .entry)) t (2 + 2 * i + k)) ⌝ }
+    ensures { λ r. do n ← ⟦Lanes::PIXELS⟧ .entry; ⌜ ((k : ℕ) → k < n → getD r k nan ≡ valueAt layout (now (s .entry)) t (2 + 2 * i + k)) ⌝ }
 {
     let mut block = [0.0f32; Lanes::PIXELS];
     for b in 0..Lanes::CELLS {

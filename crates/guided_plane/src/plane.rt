@@ -42,20 +42,10 @@ fn plane_answer(
     ensures { λ r. ⌜ r ≡ first (guidedTests layout
         (planeOf (now (y .entry)) «y_stride») (planeOf (now (c .entry)) «c_stride») space room) ⌝ }
 {
-    let early = layout.answer(false);
-    if laws::refused(early) {
-        return early;
-    }
-    if bad_pair(layout, y, y_stride, c, c_stride) {
-        return Answer::Refused(7);
-    }
-    if space < image::scratch_need(layout) {
-        return Answer::Refused(9);
-    }
-    if room < layout.w * layout.h {
-        return Answer::Refused(10);
-    }
-    Answer::Accepted
+    let answer = layout.answer(false);
+    let answer = laws::then(answer, bad_pair(layout, y, y_stride, c, c_stride), 7);
+    let answer = laws::then(answer, image::short_scratch(layout, space), 9);
+    laws::then(answer, laws::product_passes(layout.w, layout.h, room), 10)
 }
 
 // Makes one row: its steps over scratch, then the finished row rounded into out. The chroma plane is lent as both components, and only

@@ -13,10 +13,12 @@ use Rattle.image.specs.Inner.Tests.{Sound}
 use Rattle.image.specs.declared.chroma.Chroma.{Chroma}
 use Rattle.image.specs.Picture.{Picture}
 use Rattle.image.specs.Scratch.{scratchNeed, cellAt}
+use Rattle.image.proofs.Surplus.{SameBehind}
 use Rattle.guided.specs.Guided.{guidedSample}
 use Rattle.guided.specs.Scratch.{finishedAt}
 use Rattle.guided.specs.Calls.{topOf, freshH, freshF, doneH, doneF}
 use Rattle.guided.proofs.Held.{Has}
+use Rattle.guided.proofs.Surplus.{steps-behind}
 use Rattle.guided.proofs.Window.{Win, win-fresh}
 use Rattle.guided.proofs.FinishedRows.{length-row, row-window, row-finished}
 use Rattle.guided_rows.specs.CatchingUp.{beforeH, beforeF, guidedStep, guidedRows}
@@ -26,6 +28,12 @@ use Rattle.guided.proofs.Runs.{after}
 pub length-step : (p : Picture) (ks : List Chroma) (a n : ℕ) (xs : List Float) → length (guidedStep p ks a n xs) ≡ length xs
 unfolding guidedStep
 length-step p ks a n xs = length-row p ks _ _ _ (a + n) xs
+
+-- and rows leave what is behind the scratch that they need
+pub rows-behind : (p : Picture) (ks : List Chroma) (a n : ℕ) (xs : List Float) → SameBehind (p .layout) xs (guidedRows p ks a n xs)
+unfolding guidedRows guidedStep
+rows-behind p ks a zero xs i h = refl
+rows-behind p ks a (suc n) xs i h = steps-behind p ks _ _ _ (a + n) _ i h ∙ rows-behind p ks a n xs i h
 
 module _ (p : Picture) (ks : List Chroma) (s : Sound (p .layout)) (a : ℕ) (xs : List Float) (L : scratchNeed (p .layout) ≤ length xs) where
   -- after row a + n the window is that of row a + n

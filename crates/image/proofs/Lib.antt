@@ -3,3 +3,4 @@ pub mod Layouts
 pub mod Pictures
 pub mod Planes
 pub mod Quotients
+pub mod Surplus

@@ -1,12 +1,12 @@
--- Laws of refusal 7's test: what the code's divisions say of its products, and where the samples of a plane that passes stand.
--- `same-test` carries the first part: two comparisons are equal where each side's truth and falsehood give the other's; the rest is arithmetic.
+-- Laws of refusal 7's test: the steps by which the code comes to it, and where the samples of a plane that passes stand.
+-- `same-test` of laws carries the first part: two comparisons are equal where each side's truth and falsehood give the other's; the rest is arithmetic.
 use mathlib.Core.Path.{_≡_, refl, sym}
 use mathlib.Core.Bool.{Bool, true, false}
 use Prim.Native.Nat.{ℕ, _+_, _-_, _*_, _/_, _≤_, _<_}
-use native.Mathlib.Nat.{mul-zero, div-lt-iff-lt-mul, le-div-iff-mul-le}
 use native.Mathlib.Omega.{arith}
 use lib.Dec.{ltb}
 use borrow.Author.Tests.{lt-ltb, le-ltb, ltb-true, ltb-false}
+use Rattle.laws.proofs.Products.{same-test}
 use Rattle.laws.proofs.Rows.{row-fits, row-begins}
 use Rattle.image.specs.Tests.{badPlane}
 use Rattle.image.proofs.Layouts.{neither}
@@ -14,22 +14,6 @@ use lib.ListN.{length}
 use Rattle.image.specs.declared.layout.Layout.{Layout}
 use Rattle.image.specs.Samples.{Plane, place}
 use Rattle.image.specs.Picture.{shortPlane}
-
--- tests that follow from each other are equal
-same-test : (a b c d : ℕ) → (a < b → c < d) → (b ≤ a → d ≤ c) → ltb a b ≡ ltb c d
-same-test a b c d f g = go (ltb a b) (ltb-true a b) (ltb-false a b)
-  where
-    go : (t : Bool) → (t ≡ true → a < b) → (t ≡ false → b ≤ a) → t ≡ ltb c d
-    go true y z = sym (lt-ltb c d (f (y refl)))
-    go false y z = sym (le-ltb c d (g (z refl)))
-
--- n / b < a says that n < a * b
-pub divided : (a b n : ℕ) → 0 < b → ltb (n / b) a ≡ ltb n (a * b)
-divided a b n p = same-test (n / b) a n (a * b) (div-lt-iff-lt-mul p .0) (le-div-iff-mul-le p .0)
-
--- a product by 0 passes nothing
-pub divided-zero : (a b n : ℕ) → b ≡ 0 → false ≡ ltb n (a * b)
-divided-zero a b n e = sym (le-ltb n (a * b) (rw (e, mul-zero) (omega arith)))
 
 -- ---- the steps of the test: the stride is below the row; the data ends before the first row's end; it ends before the last row's
 

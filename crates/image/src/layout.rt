@@ -6,6 +6,7 @@ use laws::Answer;
 use laws::both;
 use laws::either;
 use laws::outside;
+use laws::then;
 
 // The numbers of a picture: w by h pixels, rh by rv of them to a cell, cw by ch cells, and how a sample is stored.
 pub struct Layout {
@@ -91,18 +92,9 @@ impl Layout {
     pub fn answer(self, fixed: bool) -> Answer
         ensures { λ r. ⌜ r ≡ first (layoutTests fixed self) ⌝ }
     {
-        if self.bad_size() {
-            return Answer::Refused(2);
-        }
-        if self.bad_ratio() {
-            return Answer::Refused(3);
-        }
-        if self.bad_samples(fixed) {
-            return Answer::Refused(4);
-        }
-        if self.bad_chroma() {
-            return Answer::Refused(5);
-        }
-        Answer::Accepted
+        let answer = then(Answer::Accepted, self.bad_size(), 2);
+        let answer = then(answer, self.bad_ratio(), 3);
+        let answer = then(answer, self.bad_samples(fixed), 4);
+        then(answer, self.bad_chroma(), 5)
     }
 }

@@ -1,18 +1,20 @@
 // What the calls over a picture are lent: how much scratch they ask for, and the test of its three planes.
 ghost use mathlib.Core.Path.{_≡_};
-ghost use Rattle.image.specs.Inner.Tests.{Sound};
+ghost use lib.Dec.{ltb};
 ghost use Rattle.image.specs.Picture.{badPlanes, planesOf};
 ghost use Rattle.image.specs.Scratch.{scratchNeed};
 use crate::layout::Layout;
 use crate::strides::Strides;
 
-// Inner: how many values of scratch open, row, fill and the linear and guided planes ask for. Nothing wraps, since a sound layout's sides
-// are at most `Layout::SIDE`.
-pub fn scratch_need(layout: Layout) -> usize
-    requires { ⌜ Sound layout ⌝ }
-    ensures { λ r. ⌜ r ≡ scratchNeed layout ⌝ }
+// Inner: refusal 9's test for open, row, fill and the linear and guided planes, whether `len` values of scratch are too few. It is answered
+// for every layout: by the time that 8 * w is formed it is known to be at most `len`.
+pub fn short_scratch(layout: Layout, len: usize) -> bool
+    ensures { λ r. ⌜ r ≡ ltb len (scratchNeed layout) ⌝ }
 {
-    64 * layout.cw + 8 * layout.w
+    if laws::product_passes(layout.w, 8, len) {
+        return true;
+    }
+    laws::product_passes(layout.cw, 64, len - 8 * layout.w)
 }
 
 // Inner: refusal 7's test for the three planes of a picture: luma's has w by h samples, those of Cb and Cr have cw by ch.

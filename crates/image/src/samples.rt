@@ -1,20 +1,10 @@
 // The samples of a plane, and the test on its stride and length.
 ghost use mathlib.Core.Path.{_≡_};
 ghost use Prim.Native.Nat.{_+_, _-_, _*_, _≤_, _<_};
-ghost use lib.Dec.{ltb};
 ghost use lib.ListN.{length};
 ghost use Rattle.image.specs.Tests.{badPlane};
 ghost use Rattle.image.specs.Samples.{sampleOf};
-
-// Whether a * b is more than n. It divides, since the product of two numbers that a caller hands over may be past 2^64.
-fn product_passes(a: usize, b: usize, n: usize) -> bool
-    ensures { λ r. ⌜ r ≡ ltb n (a * b) ⌝ }
-{
-    if b == 0 {
-        return false;
-    }
-    n / b < a
-}
+use laws::product_passes;
 
 // How many rows stand before the last of h rows; none where h is 0.
 fn rows_before(h: usize) -> usize

@@ -11,7 +11,7 @@ use Rattle.kernel_blocks.specs.Inner.Blocks.{BlockOf}
 use Rattle.kernels.specs.Inner.Forms.{colourOf}
 use Rattle.kernel_blocks.specs.Inner.Stores.{blockPixel}
 
-module _ {rows : List (List ℕ)} {y : List ℕ} {cb cr : List Float} (o : BlockOf rows y cb cr) (k : ℕ) (h : k < 16) {b r : ℕ} (u : Centred (getD cb k nan) b) (v : Centred (getD cr k nan) r) where
+module _ {n : ℕ} {rows : List (List ℕ)} {y : List ℕ} {cb cr : List Float} (o : BlockOf n rows y cb cr) (k : ℕ) (h : k < n) {b r : ℕ} (u : Centred (getD cb k nan) b) (v : Centred (getD cr k nan) r) where
   -- pixel k of a block is the exact kernel's
   pub block-pixel : blockPixel rows k ≡ exact255 (getD y k 0) b r
   block-pixel = rw (o .red k h b r u v, o .green k h b r u v, o .blue k h b r u v) refl

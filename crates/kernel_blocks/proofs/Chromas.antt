@@ -11,7 +11,8 @@ use lib.Dec.{T, ltb, ltb→lt, nltb→le}
 use lib.Ieee.{Float, fin, binary32, round, isNan, toBits}
 use lib.Ieee.Back.{round-whole}
 use lib.Ieee.Exact.{HasValue}
-use Rattle.laws.specs.Floats.{f32, _⊕_, _⊗_, over, under, Close, NearFraction}
+use Rattle.laws.specs.Floats.{f32, _⊕_, _⊗_, over, under}
+use Rattle.laws.specs.Inner.Floats.{Close, NearFraction}
 use Rattle.laws.proofs.Values.{whole-value, value-no-nan}
 use Rattle.laws.proofs.Operators.{add-up, add-down, sub-up, sub-down, mul-by}
 use Rattle.laws.proofs.Nearness.{mild-step}

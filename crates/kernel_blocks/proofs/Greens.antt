@@ -8,7 +8,8 @@ use native.Mathlib.Omega.{arith}
 use lib.IntN.{negsuc}
 use lib.Dec.{T, lit<}
 use lib.Ieee.{Float, fin, isNan}
-use Rattle.laws.specs.Floats.{_⊕_, _⊖_, _⊗_, NearFraction}
+use Rattle.laws.specs.Floats.{_⊕_, _⊖_, _⊗_}
+use Rattle.laws.specs.Inner.Floats.{NearFraction}
 use Rattle.laws.proofs.Nearness.{mild-step, near-chain, value-near, add-near}
 use Rattle.kernels.specs.Kernels.{centred, greenOffset}
 use Rattle.kernels.proofs.Channels.{green-biased}

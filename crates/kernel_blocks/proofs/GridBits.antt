@@ -12,7 +12,8 @@ use lib.Ieee.{Float, nan, inf, fin, binary32, up, down, round, neg, sub, isNan, 
 use lib.Ieee.Fits.{down-pos}
 use lib.Ieee.Exact.{HasValue}
 use lib.Ieee.Nearest.{closest, closest-mono}
-use Rattle.laws.specs.Floats.{_⊕_, _⊖_, over, under, Close, NearFraction}
+use Rattle.laws.specs.Floats.{_⊕_, _⊖_, over, under}
+use Rattle.laws.specs.Inner.Floats.{Close, NearFraction}
 use Rattle.laws.proofs.Halves.{Half, closest-half}
 use Rattle.laws.proofs.Values.{value-no-nan}
 use Rattle.laws.proofs.Operators.{add-up, add-down}

@@ -13,7 +13,8 @@ use lib.Ieee.{Float, binary32, add, sub, mul, ofInt, isNan, toBits}
 use lib.Ieee.Exact.{HasValue}
 use lib.Ieee.Fits.{and-l, and-r}
 use borrow.Author.Tests.{ltb-false}
-use Rattle.laws.specs.Floats.{f32, _⊕_, _⊖_, _⊗_, Close, NearFraction}
+use Rattle.laws.specs.Floats.{f32, _⊕_, _⊖_, _⊗_}
+use Rattle.laws.specs.Inner.Floats.{Close, NearFraction}
 use Rattle.laws.proofs.Nearness.{mild-step, near-chain, value-near, add-near}
 use Rattle.kernels.specs.Kernels.{centred}
 use Rattle.kernels.specs.Inner.Forms.{chromaOffset, Suits, raised}

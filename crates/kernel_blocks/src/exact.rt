@@ -37,8 +37,8 @@ fn lower(y: u32) -> i32
 
 // The luma of a block less the grid's bits, once for all three rows.
 fn lowered(y: [u32; Block::LEN]) -> [i32; Block::LEN]
-    requires { ⌜ ((k : ℕ) → k < 16 → getD y k 0 ≤ 65535) ⌝ }
-    ensures { λ r. ⌜ ((k : ℕ) → k < 16 → Lowered (getD r k (pos 0)) (getD y k 0)) ⌝ }
+    requires { do n ← ⟦Block::LEN⟧; ⌜ ((k : ℕ) → k < n → getD y k 0 ≤ 65535) ⌝ }
+    ensures { λ r. do n ← ⟦Block::LEN⟧ .entry; ⌜ ((k : ℕ) → k < n → Lowered (getD r k (pos 0)) (getD y k 0)) ⌝ }
 {
     let mut row = [0i32; Block::LEN];
     for i in 0..Block::LEN {
@@ -49,12 +49,14 @@ fn lowered(y: [u32; Block::LEN]) -> [i32; Block::LEN]
 
 // The red or the blue row of a block, by its multiplier k; x is the chroma that it takes.
 fn chroma_row(k: f32, tie: f32, y: [i32; Block::LEN], x: [f32; Block::LEN]) -> [u8; Block::LEN]
-    requires { ⌜ IsMultiplier k tie × ((i : ℕ) → i < 16 → Luma (getD y i (pos 0)) × Chroma (getD x i nan)) ⌝ }
-    ensures { λ r. ⌜ ((i : ℕ) → i < 16 → (m l c : ℕ)
-        → Multiplier k tie m
-        → Lowered (getD y i (pos 0)) l
-        → Centred (getD x i nan) c
-        → getD r i 0 ≡ plusChroma m l c) ⌝ }
+    requires { do n ← ⟦Block::LEN⟧; ⌜ IsMultiplier k tie × ((i : ℕ) → i < n → Luma (getD y i (pos 0)) × Chroma (getD x i nan)) ⌝ }
+    ensures { λ r. do
+      n ← ⟦Block::LEN⟧ .entry
+      ⌜ ((i : ℕ) → i < n → (m l c : ℕ)
+          → Multiplier k tie m
+          → Lowered (getD y i (pos 0)) l
+          → Centred (getD x i nan) c
+          → getD r i 0 ≡ plusChroma m l c) ⌝ }
 {
     let mut row = [0u8; Block::LEN];
     for i in 0..Block::LEN {
@@ -65,8 +67,8 @@ fn chroma_row(k: f32, tie: f32, y: [i32; Block::LEN], x: [f32; Block::LEN]) -> [
 
 // 0 where green is sure at every pixel of a block. The pixels' doubts are joined without a branch, sixteen at a time.
 fn doubt(cb: [f32; Block::LEN], cr: [f32; Block::LEN]) -> u32
-    requires { ⌜ ((i : ℕ) → i < 16 → Chroma (getD cb i nan) × Chroma (getD cr i nan)) ⌝ }
-    ensures { λ r. ⌜ (r ≡ 0 → (i : ℕ) → i < 16 → Sure (getD cb i nan) (getD cr i nan)) ⌝ }
+    requires { do n ← ⟦Block::LEN⟧; ⌜ ((i : ℕ) → i < n → Chroma (getD cb i nan) × Chroma (getD cr i nan)) ⌝ }
+    ensures { λ r. do n ← ⟦Block::LEN⟧ .entry; ⌜ (r ≡ 0 → (i : ℕ) → i < n → Sure (getD cb i nan) (getD cr i nan)) ⌝ }
 {
     let mut d = 0u32;
     for i in 0..Block::LEN {
@@ -77,8 +79,8 @@ fn doubt(cb: [f32; Block::LEN], cr: [f32; Block::LEN]) -> u32
 
 // The green row of a block, whose doubt decides the form of all sixteen.
 fn green_row(y: [i32; Block::LEN], cb: [f32; Block::LEN], cr: [f32; Block::LEN]) -> [u8; Block::LEN]
-    requires { ⌜ Pixels y cb cr ⌝ }
-    ensures { λ r. ⌜ Greens r y cb cr ⌝ }
+    requires { do n ← ⟦Block::LEN⟧; ⌜ Pixels n y cb cr ⌝ }
+    ensures { λ r. do n ← ⟦Block::LEN⟧ .entry; ⌜ Greens n r y cb cr ⌝ }
 {
     let d = doubt(cb, cr);
     let mut row = [0u8; Block::LEN];
@@ -94,8 +96,8 @@ pub fn rgb_block(
     cb: [f32; Block::LEN],
     cr: [f32; Block::LEN],
 ) -> [[u8; Block::LEN]; 3]
-    requires { ⌜ InLimits y cb cr ⌝ }
-    ensures { λ r. ⌜ BlockOf r y cb cr ⌝ }
+    requires { do n ← ⟦Block::LEN⟧; ⌜ InLimits n y cb cr ⌝ }
+    ensures { λ r. do n ← ⟦Block::LEN⟧ .entry; ⌜ BlockOf n r y cb cr ⌝ }
 {
     let low = lowered(y);
     let red = chroma_row(Multipliers::RED, Multipliers::NO_TIE, low, cr);

@@ -82,7 +82,7 @@ pub fn fixed_block(
     cb: [u8; Block::LEN],
     cr: [u8; Block::LEN],
 ) -> [[u8; Block::LEN]; 3]
-    ensures { λ r. ⌜ ((k : ℕ) → k < 16 → blockPixel r k ≡ fixed255 (getD y k 0) (getD cb k 0) (getD cr k 0)) ⌝ }
+    ensures { λ r. do n ← ⟦Block::LEN⟧ .entry; ⌜ ((k : ℕ) → k < n → blockPixel r k ≡ fixed255 (getD y k 0) (getD cb k 0) (getD cr k 0)) ⌝ }
 {
     let mut red = [0u8; Block::LEN];
     let mut green = [0u8; Block::LEN];

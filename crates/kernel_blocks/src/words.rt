@@ -28,9 +28,11 @@ fn fourth(dst: &[u8], p: usize, low: u32) -> u32
 
 // The words of a block's pixels, with the fourth bytes that dst holds.
 fn words(dst: &[u8], at: usize, low: u32, rows: [[u8; Block::LEN]; 3]) -> [u32; Block::LEN]
-    requires { ⌜ (low ≡ 16777215) × (at + 64 ≤ length (now dst)) ⌝ }
-    ensures { λ r. ⌜ ((k : ℕ) → k < 16
-        → Word (getD r k 0) (blockPixel rows k) (getD (now (dst .entry)) (at + k * 4 + 3) 0)) ⌝ }
+    requires { do n ← ⟦Block::LEN⟧; ⌜ (low ≡ 16777215) × (at + n * 4 ≤ length (now dst)) ⌝ }
+    ensures { λ r. do
+      n ← ⟦Block::LEN⟧ .entry
+      ⌜ ((k : ℕ) → k < n
+          → Word (getD r k 0) (blockPixel rows k) (getD (now (dst .entry)) (at + k * 4 + 3) 0)) ⌝ }
 {
     let mut w = [0u32; Block::LEN];
     for i in 0..Block::LEN {
@@ -56,8 +58,8 @@ fn put_word(dst: &mut [u8], p: usize, w: u32)
 
 // Inner: stores the pixels of a block from `at` on, four bytes each, by words; `low` is 2^24 - 1, as its caller computed it.
 pub fn put_words(dst: &mut [u8], at: usize, low: u32, rows: [[u8; Block::LEN]; 3])
-    requires { ⌜ (low ≡ 16777215) × (at + 64 ≤ length (now dst)) ⌝ }
-    ensures { λ _. ⌜ now (dst .exit) ≡ pixels (now (dst .entry)) at 4 (blockPixel rows) 16 ⌝ }
+    requires { do n ← ⟦Block::LEN⟧; ⌜ (low ≡ 16777215) × (at + n * 4 ≤ length (now dst)) ⌝ }
+    ensures { λ _. do n ← ⟦Block::LEN⟧ .entry; ⌜ now (dst .exit) ≡ pixels (now (dst .entry)) at 4 (blockPixel rows) n ⌝ }
 {
     let w = words(dst, at, low, rows);
     for i in 0..Block::LEN {

@@ -2,14 +2,14 @@
 -- Equal channels make equal colours, and chroma may be limited first since `centred` limits it anyway (`centred-limited`). That both forms
 -- agree at maxval 255 (`same-255`) is by their quotients of natural numbers, in which 255 cancels.
 use mathlib.Core.Path.{_≡_, refl}
-use mathlib.Core.Bool.{Bool, false, _||_}
-use mathlib.Core.List.{List, [], _∷_}
+use mathlib.Core.Bool.{_||_}
 use Prim.Native.Nat.{ℕ, _≤_, min}
 use native.Mathlib.Omega.{arith}
 use lib.Dec.{ltb}
 use borrow.Author.Tests.{ltb-false}
-use Rattle.laws.specs.Refusals.{Test, first}
-use Rattle.laws.proofs.Refusals.{Failed, accepted-failed}
+use Rattle.laws.specs.declared.answers.Answer.the-variants.{Accepted}
+use Rattle.laws.specs.Refusals.{first}
+use Rattle.laws.proofs.Refusals.{accepted-failed}
 use Rattle.laws.specs.Numbers.{outsideOf}
 use Rattle.image.proofs.Layouts.{neither}
 use Rattle.kernels.specs.Kernels.{redOffset, blueOffset, exact255, exactAt, fixedRed, fixedBlue, fixed255}
@@ -36,25 +36,20 @@ module _ (y cb cr : ℕ) {r g b : ℕ} where
 
 -- ---- refusal 13
 
--- a list whose only test fails is passed
-passed : (ts : List Test) (t : Bool) → ts ≡ (t, 13) ∷ [] → t ≡ false → Failed ts
-unfolding first
-passed ts t e f = accepted-failed ts (rw (e, f) refl)
-
-pub exact-passed : (d y cb cr : ℕ) (t : Bool) → exactTests d y cb cr ≡ (t, 13) ∷ [] → t ≡ false → (y ≤ 65535) × (cb ≤ 16776960) × (cr ≤ 16776960) × (1 ≤ d) × (d ≤ 65535)
+pub exact-passed : (d y cb cr : ℕ) → first (exactTests d y cb cr) ≡ Accepted → (y ≤ 65535) × (cb ≤ 16776960) × (cr ≤ 16776960) × (1 ≤ d) × (d ≤ 65535)
 unfolding exactTests
-exact-passed d y cb cr t e f =
-    let n = passed (exactTests d y cb cr) t e f .0 in
+exact-passed d y cb cr e =
+    let n = accepted-failed (exactTests d y cb cr) e .0 in
     let p = neither (ltb 65535 y) (ltb 16776960 cb || (ltb 16776960 cr || outsideOf 1 65535 d)) n in
     let q = neither (ltb 16776960 cb) (ltb 16776960 cr || outsideOf 1 65535 d) (p .1) in
     let r = neither (ltb 16776960 cr) (outsideOf 1 65535 d) (q .1) in
     let s = neither (ltb d 1) (ltb 65535 d) (r .1) in
     (ltb-false _ _ (p .0), ltb-false _ _ (q .0), ltb-false _ _ (r .0), ltb-false _ _ (s .0), ltb-false _ _ (s .1))
 
-pub fixed-passed : (y cb cr : ℕ) (t : Bool) → fixedTests y cb cr ≡ (t, 13) ∷ [] → t ≡ false → (y ≤ 65535) × (cb ≤ 65535) × (cr ≤ 65535)
+pub fixed-passed : (y cb cr : ℕ) → first (fixedTests y cb cr) ≡ Accepted → (y ≤ 65535) × (cb ≤ 65535) × (cr ≤ 65535)
 unfolding fixedTests
-fixed-passed y cb cr t e f =
-    let n = passed (fixedTests y cb cr) t e f .0 in
+fixed-passed y cb cr e =
+    let n = accepted-failed (fixedTests y cb cr) e .0 in
     let p = neither (ltb 65535 y) (ltb 65535 cb || ltb 65535 cr) n in
     let q = neither (ltb 65535 cb) (ltb 65535 cr) (p .1) in
     (ltb-false _ _ (p .0), ltb-false _ _ (q .0), ltb-false _ _ (q .1))

@@ -21,8 +21,8 @@ impl Lanes {
 
 // Inner: stores a block of values in s, from `at` on.
 pub fn put_block(s: &mut [f32], at: usize, block: [f32; Lanes::PIXELS])
-    requires { ⌜ at + 16 ≤ length (now s) ⌝ }
-    ensures { λ _. ⌜ now (s .exit) ≡ put (now (s .entry)) at 16 (λ k. getD block k nan) ⌝ }
+    requires { do n ← ⟦Lanes::PIXELS⟧; ⌜ at + n ≤ length (now s) ⌝ }
+    ensures { λ _. do n ← ⟦Lanes::PIXELS⟧ .entry; ⌜ now (s .exit) ≡ put (now (s .entry)) at n (λ k. getD block k nan) ⌝ }
 {
     for k in 0..Lanes::PIXELS {
         s[at + k] = block[k];

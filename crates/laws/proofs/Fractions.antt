@@ -5,7 +5,7 @@ use mathlib.Core.Path.{_≡_, ap}
 use Prim.Native.Nat.{ℕ, _+_, _*_, _≤_, _<_}
 use native.Mathlib.Nat.{mul-le-mul-right, le-of-mul-le-mul-right, mul-pos}
 use native.Mathlib.Omega.{arith}
-use Rattle.laws.specs.Floats.{Close}
+use Rattle.laws.specs.Inner.Floats.{Close}
 
 module _ (P N D p n c e : ℕ) where
   pub flip : Close P N D p n c e → Close N P D n p c e

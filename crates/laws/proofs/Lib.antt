@@ -12,3 +12,4 @@ pub mod Nearness
 pub mod Grids
 pub mod Units
 pub mod Operators
+pub mod Products

@@ -13,8 +13,8 @@ use lib.Ieee.Digits.{size-le}
 use lib.Ieee.Fits.{round-is, down-pos}
 use lib.Ieee.Exact.{HasValue, units-val, round-exact}
 use lib.Ieee.Nearest.{closest}
-use Rattle.laws.specs.Floats.{f32, Close, NearFraction, over, under}
-use Rattle.laws.specs.Inner.Floats.{IsFraction}
+use Rattle.laws.specs.Floats.{f32, over, under}
+use Rattle.laws.specs.Inner.Floats.{Close, NearFraction, IsFraction}
 use Rattle.laws.proofs.Halves.{Half, closest-half}
 use Rattle.laws.proofs.Values.{whole-value}
 use Rattle.laws.proofs.Fractions.{plus, chain, widen, aim, times, shift, flip, Takes}

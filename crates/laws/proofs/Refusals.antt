@@ -1,16 +1,18 @@
 -- Laws of refusal lists: what acceptance and a number say of the tests.
 -- Each is an induction along the list that splits on the first test, by a local `go` over its outcome, at which `first` computes.
 -- Only `refused-lowest` needs more: that the places rise along the list (`above`).
-use mathlib.Core.Path.{_≡_, refl, sym, ap, subst}
+use mathlib.Core.Path.{_≡_, refl, sym, ap, subst, _∙_}
 use mathlib.Core.Logic.{_⊎_, inl, inr}
-use mathlib.Core.Bool.{Bool, true, false}
+use mathlib.Core.Bool.{Bool, true, false, not, cond}
 use mathlib.Core.List.{List, [], _∷_, _++_}
 use Prim.Native.Nat.{ℕ, _≤_}
 use native.Mathlib.Omega.{arith}
 use lib.Dec.{T}
+use borrow.Author.Tests.{not-true, not-false}
 use Rattle.laws.specs.declared.answers.Answer.{Answer}
 use Rattle.laws.specs.declared.answers.Answer.the-variants.{Accepted, Refused}
 use Rattle.laws.specs.Refusals.{Test, first, pickAnswer, accepted, placeOf, Ascending, Applies, Lowest}
+use Rattle.laws.specs.Inner.Refusals.{thenOf, folded}
 
 -- every test of the list failed
 abbrev pub Failed : List Test → Type 0
@@ -134,3 +136,61 @@ passed-early (t ∷ ts) us e = go (t .0) (passed-early ts us) e
 pub failed-both : (ts us : List Test) → Failed (ts ++ us) → Failed ts × Failed us
 failed-both [] us h = (tt, h)
 failed-both (t ∷ ts) us h = let w = failed-both ts us (h .1) in ((h .0, w .0), w .1)
+
+-- ---- tests asked one after another by `then`
+
+refused-stays : (n : ℕ) (ts : List Test) → folded (Refused n) ts ≡ Refused n
+unfolding thenOf
+refused-stays n [] = refl
+refused-stays n (t ∷ ts) = refused-stays n ts
+
+-- by the tests of a list acceptance becomes the first of the list,
+pub first-folded : (ts : List Test) → first ts ≡ folded Accepted ts
+unfolding first thenOf
+first-folded [] = refl
+first-folded (t ∷ ts) = go (t .0) (first-folded ts)
+  where
+    go : (b : Bool) → first ts ≡ folded Accepted ts → pickAnswer b (Refused (t .1)) (first ts) ≡ folded (pickAnswer b (Refused (t .1)) Accepted) ts
+    go true e = sym (refused-stays (t .1) ts)
+    go false e = e
+
+-- and so does the answer of the list's first part by the others
+pub first-further : (ts us : List Test) → first (ts ++ us) ≡ folded (first ts) us
+unfolding first
+first-further [] us = first-folded us
+first-further (t ∷ ts) us = go (t .0) (first-further ts us)
+  where
+    go : (b : Bool) → first (ts ++ us) ≡ folded (first ts) us → pickAnswer b (Refused (t .1)) (first (ts ++ us)) ≡ folded (pickAnswer b (Refused (t .1)) (first ts)) us
+    go true e = sym (refused-stays (t .1) us)
+    go false e = e
+
+-- behind an answer lists count only where it is accepted
+pub folded-same : (a : Answer) (ts us : List Test) → (accepted a ≡ true → first ts ≡ first us) → folded a ts ≡ folded a us
+folded-same Accepted ts us e = sym (first-folded ts) ∙ e refl ∙ first-folded us
+folded-same (Refused n) ts us e = refused-stays n ts ∙ sym (refused-stays n us)
+
+-- ---- a call that asks, refuses, works and accepts: it asks for its answer, hands a refusal back with all as it was, and works otherwise
+
+-- its answer, as the function that looks at its tests promises it, and what `refused` told of that
+pub record Asked (ts : List Test) (answer : Answer) (told : Bool) : Type 0 where
+  pub answers : answer ≡ first ts
+  pub tells : told ≡ not (accepted answer)
+
+module _ {ts : List Test} {answer : Answer} {told : Bool} (a : Asked ts answer told) where
+  turned-down : told ≡ true → accepted answer ≡ false
+  turned-down e = not-true (accepted answer) (sym (a .tells) ∙ e)
+
+  taken : told ≡ false → accepted answer ≡ true
+  taken e = not-false (accepted answer) (sym (a .tells) ∙ e)
+
+  -- refused, it leaves a part of what it was lent as it was;
+  pub kept : told ≡ true → {A : Type 0} (new old : A) → old ≡ cond (accepted answer) new old
+  kept e new old = rw (turned-down e) refl
+
+  -- accepted, it leaves there what its work leaves,
+  pub made : told ≡ false → {A : Type 0} {after new : A} (old : A) → after ≡ new → after ≡ cond (accepted answer) new old
+  made e old h = rw (taken e) h
+
+  -- which may rely on every test having failed
+  pub passed : told ≡ false → first ts ≡ Accepted
+  passed e = sym (a .answers) ∙ accepted-is answer (taken e)

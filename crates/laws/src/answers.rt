@@ -2,6 +2,7 @@
 ghost use mathlib.Core.Path.{_≡_};
 ghost use mathlib.Core.Bool.{not};
 ghost use Rattle.laws.specs.Refusals.{accepted};
+ghost use Rattle.laws.specs.Inner.Refusals.{thenOf};
 
 // What a call answers that gives nothing besides: accepted, or turned down with a number of document 01's table.
 pub enum Answer {
@@ -16,5 +17,22 @@ pub fn refused(answer: Answer) -> bool
     match answer {
         Answer::Accepted => false,
         Answer::Refused(_) => true,
+    }
+}
+
+// Inner: an answer with one test more: a refusal stays, and what was accepted so far is refused by `number` where the test applies.
+// A call's tests are asked one after another by this function, in the order of its list, so that no branches meet.
+pub fn then(answer: Answer, bad: bool, number: u8) -> Answer
+    ensures { λ r. ⌜ r ≡ thenOf answer bad number ⌝ }
+{
+    match answer {
+        Answer::Accepted => {
+            if bad {
+                Answer::Refused(number)
+            } else {
+                Answer::Accepted
+            }
+        }
+        Answer::Refused(n) => Answer::Refused(n),
     }
 }

@@ -8,7 +8,10 @@ mod numbers;
 
 pub use answers::Answer;
 pub use answers::refused;
+pub use answers::then;
 pub use numbers::both;
 pub use numbers::either;
 pub use numbers::least;
 pub use numbers::outside;
+pub use numbers::product_passes;
+pub use numbers::volume_passes;

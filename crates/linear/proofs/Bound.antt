@@ -1,4 +1,4 @@
--- The linear float lies within 1 / 16 of the exact bilinear value: a lerp of floats within e / 256 is within (4 + 3e) / 256 (`lerp-bound`).
+-- The linear float lies within 1 / 16 of the exact value between the cells of its taps: a lerp of floats within e / 256 is within (4 + 3e) / 256 (`lerp-bound`).
 -- Down from exact samples that is 4 / 256, then across 16 / 256. The work is that each rounding is of a number up to 2^16, and adds 1 / 256 at most.
 use mathlib.Core.Path.{_≡_, ap, _∙_, subst}
 use Prim.Native.Nat.{ℕ, _+_, _-_, _*_, _≤_, _<_}
@@ -6,16 +6,19 @@ use native.Mathlib.Nat.{le-trans, le-of-lt, mul-le-mul-right, mul-le-mul, mul-po
 use native.Mathlib.Omega.{arith}
 use lib.Dec.{lit≤}
 use lib.Ieee.{Float, binary32, sub, mul}
-use Rattle.laws.specs.Floats.{f32, NearFraction}
+use Rattle.laws.specs.Floats.{f32}
+use Rattle.laws.specs.Inner.Floats.{NearFraction}
 use Rattle.laws.proofs.Nearness.{Mild, Part, Step, mild-step, add-near, sub-near, mul-near, whole-near, near-widen, near-aim}
 use Rattle.taps.specs.Taps.{Spot, lerpOf, fractionOf, tapOn}
-use Rattle.linear.specs.Linear.{downBy}
-use Rattle.linear.specs.Linear.{acrossBy}
-use Rattle.linear.specs.Bound.{mix, exactNum, exactDen}
+use Rattle.linear.specs.Linear.{downBy, acrossBy}
 use Rattle.taps.proofs.Spots.{Valid}
 use Rattle.taps.proofs.Table.{tap-fraction}
 
 -- ---- lerp
+
+-- p and q in the parts d - k and k: (p * (d - k) + q * k) / d is the exact value between them, k / d of the way
+abbrev pub mix : ℕ → ℕ → ℕ → ℕ → ℕ
+mix p q k d = p * (d - k) + q * k
 
 -- p in the parts d - k and k
 split : (p k d : ℕ) → k ≤ d → p * d ≡ p * (d - k) + p * k
@@ -91,6 +94,15 @@ lerp-bound a b f p q c k d e zc zd l pl ql h v g w =
 
 -- ---- down, then across
 
+-- the exact value between four cells, down by v and then across by h, is spotNum / spotDen
+abbrev pub spotNum : (ℕ → ℕ → ℕ) → Spot → Spot → ℕ
+spotNum c v h =
+    mix (mix (c (v .near) (h .near)) (c (v .far) (h .near)) (v .k) (v .d))
+    (mix (c (v .near) (h .far)) (c (v .far) (h .far)) (v .k) (v .d)) (h .k) (h .d)
+
+abbrev pub spotDen : Spot → Spot → ℕ
+spotDen v h = v .d * h .d
+
 -- two cells of a column are exact, so that their lerp is within 4 / 256
 down-near : (a b k d : ℕ) → a ≤ 65535 → b ≤ 65535 → k < d → d < 9 → NearFraction (lerpOf (f32 a) (f32 b) (fractionOf k d)) (mix a b k d) 0 d 4
 down-near a b k d al bl h l =
@@ -98,7 +110,7 @@ down-near a b k d al bl h l =
     (lerp-bound (f32 a) (f32 b) (fractionOf k d) a b 1 k d 0 (lit≤ tt) (omega arith) (le-of-lt h) al bl (lit≤ tt) (tap-fraction k d h l .part) (whole-near a (le-trans al (lit≤ tt))) (whole-near b (le-trans bl (lit≤ tt))))
 
 -- four cells by any two taps of the table, within 16 / 256
-pub bilinear-near : (c : ℕ → ℕ → ℕ) → ((j i : ℕ) → c j i ≤ 65535) → (v h : Spot) → Valid v → Valid h → NearFraction (acrossBy (tapOn h) (downBy (tapOn v) c)) (exactNum c v h) 0 (exactDen v h) 16
+pub bilinear-near : (c : ℕ → ℕ → ℕ) → ((j i : ℕ) → c j i ≤ 65535) → (v h : Spot) → Valid v → Valid h → NearFraction (acrossBy (tapOn h) (downBy (tapOn v) c)) (spotNum c v h) 0 (spotDen v h) 16
 bilinear-near c b v h p q =
     let column : (i : ℕ) → NearFraction (downBy (tapOn v) c i) (mix (c (v .near) i) (c (v .far) i) (v .k) (v .d)) 0 (v .d) 4 =
     λ i. down-near (c (v .near) i) (c (v .far) i) (v .k) (v .d) (b (v .near) i) (b (v .far) i) (p .part) (p .small) in

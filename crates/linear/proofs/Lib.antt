@@ -4,4 +4,7 @@ pub mod Bound
 pub mod Claims
 pub mod LinearRows
 pub mod Lowest
+pub mod Positions
 pub mod Span
+pub mod Surplus
+pub mod Vectors

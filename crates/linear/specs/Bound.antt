@@ -1,25 +1,58 @@
 -- What is claimed of linear floats: "Its float lies within 1/16 of the exact bilinear value, a fraction of whole numbers, for samples up to 65,535", and that it never leaves the span of its cells. Statements only.
 use mathlib.Core.Path.{_≡_}
-use Prim.Native.Nat.{ℕ, _+_, _-_, _*_, _≤_, _<_}
+use mathlib.Core.Bool.{false}
+use Prim.Native.Nat.{ℕ, _+_, _-_, _*_, _/_, _%_, _≤_, _<_, min}
 use lib.Dec.{T}
-use lib.Ieee.{Float, le}
-use Rattle.laws.specs.Floats.{f32, NearFraction}
+use lib.Ieee.{Float, nan, inf, fin, up, down, le}
+use Rattle.laws.specs.declared.answers.Answer.the-variants.{Accepted}
+use Rattle.laws.specs.Floats.{f32, over, under}
+use Rattle.laws.specs.Refusals.{first}
 use Rattle.image.specs.declared.layout.Layout.{Layout}
+use Rattle.image.specs.Tests.{layoutTests}
 use Rattle.taps.specs.Taps.{Spot, spotOf}
 use Rattle.linear.specs.Linear.{linearSample}
 
--- p and q in the parts d - k and k: (p * (d - k) + q * k) / d is the exact value between them, k / d of the way
-abbrev pub mix : ℕ → ℕ → ℕ → ℕ → ℕ
-mix p q k d = p * (d - k) + q * k
+-- ---- the exact bilinear value
 
--- the exact bilinear value between four cells is exactNum / exactDen: down by v, then across by h
-abbrev pub exactNum : (ℕ → ℕ → ℕ) → Spot → Spot → ℕ
-exactNum c v h =
-    mix (mix (c (v .near) (h .near)) (c (v .far) (h .near)) (v .k) (v .d))
-    (mix (c (v .near) (h .far)) (c (v .far) (h .far)) (v .k) (v .d)) (h .k) (h .d)
+-- a place among the cells of an axis: p / q, where cell i lies at i
+pub record Position : Type 0 where
+  pub p : ℕ
+  pub q : ℕ
 
-abbrev pub exactDen : Spot → Spot → ℕ
-exactDen v h = v .d * h .d
+-- "For ratio r, output o sits at u = (2o+1−r)/(2r). Below 0 it takes cell 0, at or past the last cell it takes the last": u over len cells, limited to 0 .. len − 1
+unfoldable pub centredAt : ℕ → ℕ → ℕ → Position
+centredAt r len o = record { p = min (2 * o + 1 - r) ((len - 1) * (2 * r)); q = 2 * r }
+
+-- the exact value at p / q, where f is the value of each cell, is exactBetween / q: rest = p mod q parts of q of the next cell, and the other q − rest of the cell at or before it
+abbrev pub exactBetween : Position → (ℕ → ℕ) → ℕ
+exactBetween s f = (s .q - s .p % s .q) * f (s .p / s .q) + s .p % s .q * f (s .p / s .q + 1)
+
+-- "the exact bilinear value, a fraction of whole numbers", is exactNum / exactDen: down by v, then across by h, where c j i is cell i of row j
+abbrev pub exactNum : (ℕ → ℕ → ℕ) → Position → Position → ℕ
+exactNum c v h = exactBetween h (λ i. exactBetween v (λ j. c j i))
+
+abbrev pub exactDen : Position → Position → ℕ
+exactDen v h = v .q * h .q
+
+-- the place of row y down and of column x across
+abbrev pub rowPosition : Layout → ℕ → Position
+rowPosition l y = centredAt (l .rv) (l .ch) y
+
+abbrev pub columnPosition : Layout → ℕ → Position
+columnPosition l x = centredAt (l .rh) (l .cw) x
+
+-- (P − N) / D and num / den differ by a sixteenth at most, multiplied out
+pub record SixteenthApart (P N D num den : ℕ) : Type 0 where
+  pub above : 16 * (P * den) ≤ 16 * (N * den + num * D) + D * den
+  pub below : 16 * (N * den + num * D) ≤ 16 * (P * den) + D * den
+
+-- "Its float lies within 1/16": the float is finite, and within a sixteenth of num / den
+abbrev pub Sixteenth : Float → ℕ → ℕ → Type 0
+Sixteenth nan num den = ⊥
+Sixteenth (inf s) num den = ⊥
+Sixteenth (fin s m e) num den = SixteenthApart (over s (m * up e)) (under s (m * up e)) (down e) num den
+
+-- ---- the span
 
 abbrev pub rowSpot : Layout → ℕ → Spot
 rowSpot l y = spotOf 1 (l .rv) (l .ch) y
@@ -34,11 +67,12 @@ pub record Spanned (c : ℕ → ℕ → ℕ) (v h : Spot) (lo hi : ℕ) : Type 0
   pub near-far : (lo ≤ c (v .near) (h .far)) × (c (v .near) (h .far) ≤ hi)
   pub far-far : (lo ≤ c (v .far) (h .far)) × (c (v .far) (h .far) ≤ hi)
 
--- at every row and column, ratios 1 to 4, for samples up to 65,535
+-- ---- the claims
+
 pub record LinearClaims : Type 0 where
-  -- the float is within 16 / 256 of exactNum / exactDen
-  pub within : (l : Layout) (c : ℕ → ℕ → ℕ) → ((j i : ℕ) → c j i ≤ 65535) → (0 < l .rh) × (l .rh ≤ 4) → (0 < l .rv) × (l .rv ≤ 4) → (y x : ℕ)
-      → NearFraction (linearSample l c y x) (exactNum c (rowSpot l y) (columnSpot l x)) 0 (exactDen (rowSpot l y) (columnSpot l x)) 16
-  -- the float lies between any two whole numbers that its four cells lie between
+  -- at every row and column of a layout that no call refuses, for samples up to 65,535
+  pub within : (l : Layout) → first (layoutTests false l) ≡ Accepted → (c : ℕ → ℕ → ℕ) → ((j i : ℕ) → c j i ≤ 65535) → (y x : ℕ) → y < l .h → x < l .w
+      → Sixteenth (linearSample l c y x) (exactNum c (rowPosition l y) (columnPosition l x)) (exactDen (rowPosition l y) (columnPosition l x))
+  -- the float lies between any two whole numbers that its four cells lie between, ratios 1 to 4
   pub spanned : (l : Layout) (c : ℕ → ℕ → ℕ) → (0 < l .rh) × (l .rh ≤ 4) → (0 < l .rv) × (l .rv ≤ 4) → (y x lo hi : ℕ) → hi ≤ 65535
       → Spanned c (rowSpot l y) (columnSpot l x) lo hi → T (le (f32 lo) (linearSample l c y x)) × T (le (linearSample l c y x) (f32 hi))

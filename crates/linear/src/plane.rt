@@ -38,26 +38,17 @@ pub fn linear_answer(
 ) -> Answer
     ensures { λ r. ⌜ r ≡ first (linearTests layout (planeOf (now (plane .entry)) stride) space room) ⌝ }
 {
-    let early = layout.answer(false);
-    if laws::refused(early) {
-        return early;
-    }
-    if image::bad_plane(
+    let answer = layout.answer(false);
+    let short = image::bad_plane(
         layout.sample_bytes,
         layout.cw,
         layout.ch,
         stride,
         plane.len(),
-    ) {
-        return Answer::Refused(7);
-    }
-    if space < image::scratch_need(layout) {
-        return Answer::Refused(9);
-    }
-    if room < layout.w * layout.h {
-        return Answer::Refused(10);
-    }
-    Answer::Accepted
+    );
+    let answer = laws::then(answer, short, 7);
+    let answer = laws::then(answer, image::short_scratch(layout, space), 9);
+    laws::then(answer, laws::product_passes(layout.w, layout.h, room), 10)
 }
 
 // Every row of the plane, each lerped into scratch at 0 and then rounded into out.

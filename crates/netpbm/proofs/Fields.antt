@@ -16,7 +16,7 @@ use Rattle.netpbm.specs.declared.pgm.Field.{Field}
 use Rattle.netpbm.specs.declared.pgm.Image.{Image}
 use Rattle.netpbm.specs.Bytes.{hasBlank, pastBlanks}
 use Rattle.netpbm.specs.Images.{hasMagic, hasNumber, fieldEnd, widthOf, widthEnd, heightOf, heightEnd, maxvalOf, maxvalEnd, rowsAt, imageEnd, imageTests}
-use Rattle.netpbm.specs.Inner.Held.{held, fieldHeld, HeaderHeld, imageHeld}
+use Rattle.netpbm.specs.Inner.Held.{held, fieldHeld, HeaderHeld, heldTests, imageHeld}
 use Rattle.netpbm.proofs.Runs.{blank-inside, blanks-most, digits-most}
 use Rattle.netpbm.proofs.Products.{kept, held-product, held-over, held-equal}
 
@@ -33,19 +33,6 @@ header-of {s} {at} {w} {h} {m} a b c =
     let e : h .end ≡ fieldEnd s (w .end) = ap (λ (f : Field). f .end) b in
     let g : h .end ≡ fieldEnd s (fieldEnd s (at + 2)) = e ∙ ap (fieldEnd s) d in
     record { width-is = a; height-is = b ∙ ap (fieldHeld s) d; maxval-is = c ∙ ap (fieldHeld s) g }
-
--- the tests on the numbers as they are held
-unfoldable pub heldTests : List ℕ → ℕ → Field → Field → Field → List Test
-heldTests s at w h m =
-    (not (hasMagic s at), 14)
-    ∷ (not (w .good), 14)
-    ∷ (ltb 128 (w .value), 15)
-    ∷ (not (h .good), 14)
-    ∷ (not (m .good), 14)
-    ∷ (not (eqb (m .value) 255), 14)
-    ∷ (not (hasBlank s (m .end)), 14)
-    ∷ (ltb (length s - (m .end + 1)) (w .value * h .value), 15)
-    ∷ []
 
 module _ {s : List ℕ} {at : ℕ} {w h m : Field} (e : HeaderHeld s at w h m) where
   pub value-w : w .value ≡ held (widthOf s at)

@@ -13,7 +13,8 @@ use borrow.Author.Tests.{le-ltb, lt-ltb, ltb-false, eqb-false}
 use Rattle.laws.specs.declared.answers.Answer.{Answer}
 use Rattle.laws.specs.declared.answers.Answer.the-variants.{Accepted, Refused as Turned}
 use Rattle.laws.specs.Refusals.{Test, first, accepted}
-use Rattle.laws.proofs.Refusals.{accepted-is, accepted-failed, refused-early, passed-early, refused-here, passed-over}
+use Rattle.laws.specs.Inner.Refusals.{folded}
+use Rattle.laws.proofs.Refusals.{accepted-is, accepted-failed, failed-accepted, failed-both, refused-early, passed-early, refused-here, passed-over, first-further, folded-same}
 use Rattle.image.specs.declared.layout.Layout.{Layout}
 use Rattle.laws.specs.Numbers.{outsideOf}
 use Rattle.image.specs.Tests.{badSize}
@@ -24,22 +25,12 @@ use Rattle.netpbm.specs.declared.reading.Reading.the-variants.{Read, Ref
 use Rattle.netpbm.specs.Images.{widthOf, heightOf, rowsAt, imageEnd, imageTests}
 use Rattle.netpbm.specs.Reading.{cbAt, crAt, ratioFor, inputLayout, noRatio, imagesTests, wholeTests, readingTests}
 use Rattle.netpbm.specs.Inner.Reading.{pickReading, readingOf}
-use Rattle.netpbm.specs.Inner.HeldInput.{layoutHeld, orAnswer, answerHeld}
+use Rattle.netpbm.specs.Inner.HeldInput.{layoutHeld, answerHeld}
 use Rattle.netpbm.specs.Inner.Held.{held, imageHeld, imageBehind, pickImage}
 use Rattle.netpbm.proofs.Runs.{differ}
 use Rattle.netpbm.proofs.Products.{held-over, held-under}
 use Rattle.netpbm.proofs.Ratios.{ratio-held, ratio-fits}
 use Rattle.netpbm.proofs.Fields.{ImageInside, image-inside}
-
--- ---- an answer, and what is asked behind it
-
-pub pick-refused : (a b : Answer) → accepted a ≡ false → a ≡ orAnswer a b
-pick-refused Accepted b e = differ true refl e
-pick-refused (Turned n) b e = refl
-
-pub pick-accepted : (a b : Answer) → accepted a ≡ true → b ≡ orAnswer a b
-pick-accepted Accepted b e = refl
-pick-accepted (Turned n) b e = differ false e refl
 
 -- ---- one image behind another
 
@@ -230,21 +221,19 @@ module _ {s : List ℕ} {y cb cr : Image} (l : length s ≤ 49152) (t : Three s 
   -- what is answered from what is held is the reading
   read-is : (a : Answer) → a ≡ answerHeld (cr .answer) (ltb (cr .end) (length s)) (layoutHeld y cb cr) → pickReading a (Read (layoutHeld y cb cr) (y .rows) (cb .rows) (cr .rows)) ≡ readingOf s
   unfolding answerHeld readingOf
-  read-is a e = go (accepted (cr .answer)) refl
+  read-is a e = rw answered (pick-same (first (readingTests s)) _ _ (λ h.
+      let f = failed-both (imagesTests s) (wholeTests s) (accepted-failed (imagesTests s ++ wholeTests s) (sym later ∙ h)) in
+      let p = places l t (ap accepted (images-first ∙ failed-accepted (imagesTests s) (f .0))) in
+      let u : y .rows ≡ rowsAt s 0 = ap (λ (i : Image). i .rows) (p .y-is) ∙ rows-is s 0 in
+      let v : cb .rows ≡ rowsAt s (cbAt s) = ap (λ (i : Image). i .rows) (p .cb-is) ∙ rows-is s (cbAt s) in
+      let w : cr .rows ≡ rowsAt s (crAt s) = ap (λ (i : Image). i .rows) (p .cr-is) ∙ rows-is s (crAt s) in
+      rw (layout-same p (failed-accepted (wholeTests s) (f .1)), u, v, w) refl))
     where
-      go : (u : Bool) → accepted (cr .answer) ≡ u → pickReading a (Read (layoutHeld y cb cr) (y .rows) (cb .rows) (cr .rows)) ≡ pickReading (first (readingTests s)) (Read (inputLayout s) (rowsAt s 0) (rowsAt s (cbAt s)) (rowsAt s (crAt s)))
-      go false k =
-          let q : first (readingTests s) ≡ cr .answer = later ∙ refused-early (imagesTests s) (wholeTests s) (sym (ap accepted images-first) ∙ k) ∙ sym images-first in
-          let d : a ≡ first (readingTests s) = e ∙ sym (pick-refused (cr .answer) _ k) ∙ sym q in
-          rw d (pick-same (first (readingTests s)) _ _ (λ h. differ (accepted (cr .answer)) (ap accepted (sym q ∙ h)) k))
-      go true k =
-          let p = places l t k in
-          let q : first (readingTests s) ≡ first (wholeTests s) = later ∙ passed-early (imagesTests s) (wholeTests s) (sym (ap accepted images-first) ∙ k) in
-          let d : a ≡ first (readingTests s) = e ∙ sym (pick-accepted (cr .answer) _ k) ∙ sizes-first p ∙ sym q in
-          let u : y .rows ≡ rowsAt s 0 = ap (λ (i : Image). i .rows) (p .y-is) ∙ rows-is s 0 in
-          let v : cb .rows ≡ rowsAt s (cbAt s) = ap (λ (i : Image). i .rows) (p .cb-is) ∙ rows-is s (cbAt s) in
-          let w : cr .rows ≡ rowsAt s (crAt s) = ap (λ (i : Image). i .rows) (p .cr-is) ∙ rows-is s (crAt s) in
-          rw d (pick-same (first (readingTests s)) _ _ (λ h. rw (layout-same p (sym q ∙ h), u, v, w) refl))
+      -- where the images are accepted, the tests behind them give the same over what is held
+      answered : a ≡ first (readingTests s)
+      answered =
+          e ∙ folded-same (cr .answer) _ (wholeTests s) (λ k. sizes-first (places l t k))
+          ∙ sym (later ∙ first-further (imagesTests s) (wholeTests s) ∙ ap (λ (b : Answer). folded b (wholeTests s)) (sym images-first))
 
   pub reading-is : (a : Answer) (k : Layout) → k ≡ layoutHeld y cb cr → a ≡ answerHeld (cr .answer) (ltb (cr .end) (length s)) k → pickReading a (Read k (y .rows) (cb .rows) (cr .rows)) ≡ readingOf s
   reading-is a k f e =

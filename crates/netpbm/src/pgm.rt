@@ -1,17 +1,18 @@
 // One PGM image of the input: its header, the first thing that is wrong with it, and where its rows stand.
 ghost use mathlib.Core.Path.{_≡_};
 ghost use mathlib.Core.Bool.{true};
-ghost use Prim.Native.Nat.{_≤_};
+ghost use Prim.Native.Nat.{_-_, _≤_};
+ghost use lib.Dec.{ltb};
 ghost use lib.ListN.{length};
 ghost use Rattle.laws.specs.Refusals.{first, accepted};
-ghost use Rattle.netpbm.specs.Images.{imageTests};
-ghost use Rattle.netpbm.specs.Inner.Held.{fieldHeld, imageHeld, imageBehind, HeaderHeld};
+ghost use Rattle.netpbm.specs.Inner.Held.{fieldHeld, heldTests, imageHeld, imageBehind};
 use crate::scan::blank_at;
 use crate::scan::digit_at;
 use crate::scan::magic_at;
 use crate::scan::number_at;
 use crate::scan::skip_blanks;
 use laws::Answer;
+use laws::then;
 
 // A number of a header: whether whitespace and digits stand where it should, the digits' value, and where they end.
 pub struct Field {
@@ -51,38 +52,31 @@ fn field_at(input: &[u8], at: usize) -> Field
     }
 }
 
+// Whether fewer than `area` bytes of `len` stand from `rows` on, which may lie past the end.
+fn rows_missing(len: usize, rows: usize, area: usize) -> bool
+    ensures { λ r. ⌜ r ≡ ltb (len - rows) area ⌝ }
+{
+    if len < rows {
+        return 0 < area;
+    }
+    len - rows < area
+}
+
 // The first thing that is wrong with the image whose magic stands at `at` and whose header holds these numbers. They were read before
 // any was tested, which is safe because a number is read at every place, past the end too.
 fn image_answer(input: &[u8], at: usize, width: Field, height: Field, maxval: Field) -> Answer
-    requires { ⌜ length (now input) ≤ 49152 ⌝ }
-    requires { ⌜ HeaderHeld (now input) at width height maxval ⌝ }
-    ensures { λ r. ⌜ r ≡ first (imageTests (now (input .entry)) at) ⌝ }
+    requires { ⌜ (width .value ≤ 65536) × (height .value ≤ 65536) × (maxval .end ≤ 49154) ⌝ }
+    ensures { λ r. ⌜ r ≡ first (heldTests (now (input .entry)) at width height maxval) ⌝ }
 {
-    if !magic_at(input, at) {
-        return Answer::Refused(14);
-    }
-    if !width.good {
-        return Answer::Refused(14);
-    }
-    if Image::WIDTH < width.value {
-        return Answer::Refused(15);
-    }
-    if !height.good {
-        return Answer::Refused(14);
-    }
-    if !maxval.good {
-        return Answer::Refused(14);
-    }
-    if maxval.value != Image::MAXVAL {
-        return Answer::Refused(14);
-    }
-    if !blank_at(input, maxval.end) {
-        return Answer::Refused(14);
-    }
-    if input.len() - (maxval.end + 1) < width.value * height.value {
-        return Answer::Refused(15);
-    }
-    Answer::Accepted
+    let answer = then(Answer::Accepted, !magic_at(input, at), 14);
+    let answer = then(answer, !width.good, 14);
+    let answer = then(answer, Image::WIDTH < width.value, 15);
+    let answer = then(answer, !height.good, 14);
+    let answer = then(answer, !maxval.good, 14);
+    let answer = then(answer, maxval.value != Image::MAXVAL, 14);
+    let answer = then(answer, !blank_at(input, maxval.end), 14);
+    let missing = rows_missing(input.len(), maxval.end + 1, width.value * height.value);
+    then(answer, missing, 15)
 }
 
 // Inner: the image whose magic stands at `at`, with the answer to it.

@@ -8,6 +8,7 @@ use crate::sizes::layout_of;
 use crate::sizes::no_ratio;
 use image::Layout;
 use laws::Answer;
+use laws::then;
 
 // What was read: the layout, and where in the input the rows of Y, Cb and Cr begin; or the number of the refusal.
 pub enum Reading {
@@ -24,19 +25,9 @@ impl Reading {
 fn whole_answer(images: Answer, left: bool, layout: Layout) -> Answer
     ensures { λ r. ⌜ r ≡ answerHeld images left layout ⌝ }
 {
-    if laws::refused(images) {
-        return images;
-    }
-    if left {
-        return Answer::Refused(14);
-    }
-    if layout.bad_size() {
-        return Answer::Refused(2);
-    }
-    if no_ratio(layout) {
-        return Answer::Refused(5);
-    }
-    Answer::Accepted
+    let answer = then(images, left, 14);
+    let answer = then(answer, layout.bad_size(), 2);
+    then(answer, no_ratio(layout), 5)
 }
 
 // What was read where the answer is that it is accepted, and the refusal's number otherwise.

@@ -36,7 +36,7 @@ fn written(
         (now (input .entry)) (now (s .entry)) (now (out .entry))
         r (now (s .exit)) (now (out .exit)) ⌝ }
 {
-    if s.len() < image::scratch_need(layout) {
+    if image::short_scratch(layout, s.len()) {
         return Outcome::Refused(9);
     }
     let header = netpbm::ppm_header(layout.w, layout.h);

@@ -25,26 +25,14 @@ pub fn row_answer(
         (rowCall row (planesOf (now (y .entry)) (now (cb .entry)) (now (cr .entry)) strides) reader
         (now (s .entry)) (now («out_cb» .entry)) (now («out_cr» .entry)))) ⌝ }
 {
-    if reader_state::bad_state(reader) {
-        return Answer::Refused(1);
-    }
     let layout = reader_state::reader_layout(reader);
-    if image::bad_planes(layout, y, cb, cr, strides) {
-        return Answer::Refused(7);
-    }
-    if s.len() < image::scratch_need(layout) {
-        return Answer::Refused(9);
-    }
-    if laws::either(out_cb.len() < layout.w, out_cr.len() < layout.w) {
-        return Answer::Refused(10);
-    }
-    if layout.h <= row {
-        return Answer::Refused(11);
-    }
-    if row < reader.place {
-        return Answer::Refused(12);
-    }
-    Answer::Accepted
+    let answer = laws::then(Answer::Accepted, reader_state::bad_state(reader), 1);
+    let answer = laws::then(answer, image::bad_planes(layout, y, cb, cr, strides), 7);
+    let answer = laws::then(answer, image::short_scratch(layout, s.len()), 9);
+    let short = laws::either(out_cb.len() < layout.w, out_cr.len() < layout.w);
+    let answer = laws::then(answer, short, 10);
+    let answer = laws::then(answer, layout.h <= row, 11);
+    laws::then(answer, row < reader.place, 12)
 }
 
 // Inner: the state that an accepted row call leaves at row y.

@@ -1,7 +1,9 @@
 // Open: the checks of a picture and its planes, and the state at row 0.
 ghost use mathlib.Core.Path.{_≡_};
 ghost use Rattle.image.specs.Inner.Tests.{Sound};
-ghost use Rattle.guided.specs.Calls.{afterOpen, openCall, OpenGiven};
+ghost use Rattle.laws.specs.Refusals.{first};
+ghost use Rattle.guided.specs.declared.state.Reader.{Reader};
+ghost use Rattle.guided.specs.Calls.{afterOpen, openCall, openTests, OpenGiven};
 ghost use Rattle.image.specs.Picture.{planesOf};
 use guided::Reader;
 use guided::Reply;
@@ -26,6 +28,23 @@ fn after_open(layout: Layout) -> Reader
     }
 }
 
+// The lowest refusal of `open` that applies, whatever state it is handed. It writes nothing.
+fn open_answer(
+    layout: Layout,
+    y: &[u8],
+    cb: &[u8],
+    cr: &[u8],
+    strides: Strides,
+    s: &[f32],
+) -> Answer
+    ensures { λ r. ⌜ ((reader : Reader) → r ≡ first (openTests
+        (openCall layout (planesOf (now (y .entry)) (now (cb .entry)) (now (cr .entry)) strides) (now (s .entry)) reader))) ⌝ }
+{
+    let answer = layout.answer(false);
+    let answer = laws::then(answer, image::bad_planes(layout, y, cb, cr, strides), 7);
+    laws::then(answer, image::short_scratch(layout, s.len()), 9)
+}
+
 // Opens a picture: its reader is at row 0, and nothing of an earlier picture is left in it. Refusals 2, 3, 4, 5, 7 and 9.
 // `s` is the scratch that the row calls will be lent. `reader` comes back where the picture is refused.
 pub fn open(
@@ -41,24 +60,12 @@ pub fn open(
         (openCall layout (planesOf (now (y .entry)) (now (cb .entry)) (now (cr .entry)) strides) (now (s .entry)) reader)
         r ⌝ }
 {
-    let answer = layout.answer(false);
+    let answer = open_answer(layout, y, cb, cr, strides, s);
     if laws::refused(answer) {
         return Reply { answer, reader };
     }
-    if image::bad_planes(layout, y, cb, cr, strides) {
-        return Reply {
-            answer: Answer::Refused(7),
-            reader,
-        };
-    }
-    if s.len() < image::scratch_need(layout) {
-        return Reply {
-            answer: Answer::Refused(9),
-            reader,
-        };
-    }
     Reply {
-        answer: Answer::Accepted,
+        answer,
         reader: after_open(layout),
     }
 }

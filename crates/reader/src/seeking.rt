@@ -2,7 +2,8 @@
 ghost use mathlib.Core.Path.{_≡_};
 ghost use Prim.Native.Nat.{_<_};
 ghost use Rattle.image.specs.Inner.Tests.{Sound};
-ghost use Rattle.guided.specs.Calls.{readerLayout, afterSeek, seekCall, SeekGiven};
+ghost use Rattle.laws.specs.Refusals.{first};
+ghost use Rattle.guided.specs.Calls.{readerLayout, afterSeek, seekCall, seekTests, SeekGiven};
 use guided::Reader;
 use guided::Reply;
 use laws::Answer;
@@ -25,25 +26,25 @@ fn after_seek(reader: Reader, y: usize) -> Reader
     }
 }
 
+// The lowest refusal of `seek` that applies.
+fn seek_answer(reader: Reader, y: usize) -> Answer
+    ensures { λ r. ⌜ r ≡ first (seekTests (seekCall y reader)) ⌝ }
+{
+    let g = reader.geometry;
+    let answer = laws::then(Answer::Accepted, reader_state::bad_state(reader), 1);
+    laws::then(answer, g.h <= y, 11)
+}
+
 // Moves a reader to any row, back as well. Refusals 1 and 11.
 pub fn seek(reader: Reader, y: usize) -> Reply
     ensures { λ r. ⌜ SeekGiven (seekCall y reader) r ⌝ }
 {
-    if reader_state::bad_state(reader) {
-        return Reply {
-            answer: Answer::Refused(1),
-            reader,
-        };
-    }
-    let g = reader.geometry;
-    if g.h <= y {
-        return Reply {
-            answer: Answer::Refused(11),
-            reader,
-        };
+    let answer = seek_answer(reader, y);
+    if laws::refused(answer) {
+        return Reply { answer, reader };
     }
     Reply {
-        answer: Answer::Accepted,
+        answer,
         reader: after_seek(reader, y),
     }
 }

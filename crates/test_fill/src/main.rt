@@ -2,7 +2,8 @@
 // oracle/fill-cases made the list and what must be written for it: a line of 122 bytes for each call, a kind and 24 words of four hex
 // digits. A fill's:
 // w h rh rv cw ch sample_bytes maxval(2) y_stride cb_stride cr_stride y_len cb_len cr_len seed y_shape cb_shape cr_shape
-// kernel size space(2) room. A pixel's: y(2) cb(2) cr(2) maxval(2), sixteen of 0.
+// kernel size space(2) room. A pixel's: y(2) cb(2) cr(2) maxval(2), sixteen of 0. A line that is no call spells the bytes that planes of
+// shape 3 have in the calls behind it.
 ghost use Prim.Native.Nat.{_<_};
 use fill::ChromaUpsampling;
 use kernels::Pixel;
@@ -105,10 +106,10 @@ fn fill_marked(text: &[u8], y: &[u8], cb: &[u8], cr: &[u8]) {
 }
 
 // Makes the call of a fill with the three planes that its line speaks of.
-fn fill(text: &[u8]) {
-    let y = test_support::plane(text, 0);
-    let cb = test_support::plane(text, 1);
-    let cr = test_support::plane(text, 2);
+fn fill(text: &[u8], spelling: &[u8]) {
+    let y = test_support::plane(text, spelling, 0);
+    let cb = test_support::plane(text, spelling, 1);
+    let cr = test_support::plane(text, spelling, 2);
     let y_len = test_support::word(text, 12);
     let cb_len = test_support::word(text, 13);
     let cr_len = test_support::word(text, 14);
@@ -116,21 +117,26 @@ fn fill(text: &[u8]) {
 }
 
 // Makes the call that a line's kind names.
-fn replay(text: &[u8]) {
+fn replay(text: &[u8; 122], spelling: &[u8; 122]) {
     match test_support::byte(text, 0) {
         b'e' => exact(text),
         b'f' => fixed(text),
-        _ => fill(text),
+        _ => fill(text, spelling),
     }
 }
 
-// A line has 122 bytes, its newline too; the list ends where fewer are left.
+// A line has 122 bytes, its newline too; the list ends where fewer are left. A line of kind `b` is no call: it is kept as the spelling.
 fn main() {
     let mut text = [0u8; 122];
+    let mut spelling = [0u8; 122];
     for _ in 0..65_536usize {
         if io::read_full(STDIN_FILENO, &mut text) < 122 {
             break;
         }
-        replay(&text);
+        if test_support::byte(&text, 0) == b'b' {
+            spelling = text;
+            continue;
+        }
+        replay(&text, &spelling);
     }
 }

@@ -2,6 +2,7 @@
 // what it left. oracle/plane-cases made the list and what must be written for it: a line of 77 bytes for each call, a kind and 15 words of
 // four hex digits:
 // w h rh rv cw ch sample_bytes maxval(2) stride plane_len space(2) room seed.
+// The plane of a line is chroma; in a guided call of kind `y` it is luma.
 use laws::Answer;
 use libc::STDIN_FILENO;
 
@@ -15,27 +16,25 @@ fn unwritten() -> [u16; 65_536] {
     [42_405; 65_536]
 }
 
-// The seed that luma's bytes are grown from, the same for all lines.
-const LUMA: usize = 7;
+// The seed that the other plane's bytes are grown from, the same for all lines.
+const OTHER: usize = 7;
 
-// How far apart luma's rows begin, with room for samples of two bytes. A picture wider than 8,192 is refused whatever the stride is.
-fn luma_stride(w: usize) -> usize {
+// How far apart the other plane's rows begin, with room for samples of two bytes. A picture wider than 8,192 is refused whatever the stride
+// is.
+fn other_stride(w: usize) -> usize {
     if w <= 8_192 { 2 * w } else { 0 }
 }
 
-// The answer to a guided plane, whose luma is the same 20,000 bytes for all lines.
+// The answer to a guided plane. The plane that isn't the line's, luma but for kind `y`, is the same 20,000 bytes for all lines.
 fn guided(text: &[u8], plane: &[u8], s: &mut [f32], out: &mut [u16]) -> Answer {
-    let luma = test_support::grown(20_000, LUMA, 0);
+    let other = test_support::grown(20_000, OTHER, 0);
     let layout = test_support::layout(text);
-    reconstruction::guided_plane(
-        layout,
-        &luma[..20_000],
-        luma_stride(layout.w),
-        plane,
-        test_support::size(text, 9),
-        s,
-        out,
-    )
+    let stride = test_support::size(text, 9);
+    let apart = other_stride(layout.w);
+    if test_support::byte(text, 0) == b'y' {
+        return reconstruction::guided_plane(layout, plane, stride, &other[..20_000], apart, s, out);
+    }
+    reconstruction::guided_plane(layout, &other[..20_000], apart, plane, stride, s, out)
 }
 
 // The answer to the call that a line's kind names.

@@ -4,6 +4,7 @@
 // digits:
 // w h rh rv cw ch sample_bytes maxval(2) y_stride cb_stride cr_stride y_len cb_len cr_len seed y_shape cb_shape cr_shape
 // space(2) room_cb room_cr row change value(3).
+// A line that is no call spells the bytes that planes of shape 3 have in the calls behind it.
 use guided::Geometry;
 use guided::Reader;
 use guided::Reply;
@@ -66,16 +67,11 @@ fn numbers(r: Reader) -> [usize; 16] {
     ]
 }
 
-// The lower 32 bits of a number.
-fn low(n: usize) -> u32 {
-    (n % 4_294_967_296) as u32
-}
-
 // The phase that `phase_number` makes n of.
 fn phase(n: usize) -> Phase {
     Phase {
         left: n >= 4_294_967_296,
-        f: test_support::float(low(n)),
+        f: test_support::float(test_support::low(n)),
     }
 }
 
@@ -94,45 +90,19 @@ fn reader_of(n: [usize; 16]) -> Reader {
     Reader {
         geometry,
         sample_bytes: n[5],
-        maxval: low(n[4]),
+        maxval: test_support::low(n[4]),
         place: n[1],
         h_next: n[2],
         f_next: n[3],
     }
 }
 
-// The value that a line has a number of the reader changed to, of three words. ffffffff in the lower two stands for the largest usize,
-// 2^64 - 1.
-fn value(text: &[u8]) -> usize {
-    let n = test_support::long(text, 26);
-    if n == 4_294_967_295 {
-        return 18_446_744_073_709_551_615;
-    }
-    test_support::word(text, 25) * 4_294_967_296 + n
-}
-
-// The reader that a line's call is handed: the one that the calls before it left, with one number changed where the line says which.
+// The reader that a line's call is handed: the one that the calls before it left, with one number changed where the line says which. From
+// 16 on the indices are the same once more.
 fn handed(text: &[u8], r: Reader) -> Reader {
-    let change = test_support::word(text, 24);
     let mut n = numbers(r);
-    if change < 16 {
-        n[change] = value(text);
-    }
+    n[test_support::word(text, 24) % 16] = test_support::value(text, 25);
     reader_of(n)
-}
-
-// A sum with a slice of 64-bit numbers added one after another, the upper half of each first.
-fn sum_numbers(sum: u32, n: &[usize]) -> u32 {
-    let mut sum = sum;
-    let mut i = 0;
-    while i < n.len() {
-        sum = test_support::added(
-            test_support::added(sum, low(n[i] / 4_294_967_296)),
-            low(n[i]),
-        );
-        i += 1;
-    }
-    sum
 }
 
 // `open` with a line's layout and strides. It has no outputs to sum.
@@ -207,54 +177,75 @@ fn lent(text: &[u8], given: Reader, y: &[u8], cb: &[u8], cr: &[u8], s: &mut [f32
     }
 }
 
-// A line's call, lent the three planes that the line speaks of. They are grown for `seek` too, which has no use for them.
-fn called(text: &[u8], given: Reader, s: &mut [f32]) -> Done {
-    let y = test_support::plane(text, 0);
-    let cb = test_support::plane(text, 1);
-    let cr = test_support::plane(text, 2);
+// A line's call, lent the three planes that the line speaks of. They are made for `seek` too, which has no use for them.
+fn called(text: &[u8], spelling: &[u8], given: Reader, s: &mut [f32]) -> Done {
+    let y = test_support::plane(text, spelling, 0);
+    let cb = test_support::plane(text, spelling, 1);
+    let cr = test_support::plane(text, spelling, 2);
     let y_len = test_support::word(text, 12);
     let cb_len = test_support::word(text, 13);
     let cr_len = test_support::word(text, 14);
     lent(text, given, &y[..y_len], &cb[..cb_len], &cr[..cr_len], s)
 }
 
-// Writes a call's line. The sum is of its outputs, of the reader that it gave, and of whether it was refused and changed scratch all the
-// same.
-fn write_call(done: Done, changed: bool) {
+// How many floats at the front of scratch an accepted row call may touch: 64·cw + 8·w, where neither is past 8,192.
+fn row_need(reader: Reader) -> usize {
+    let g = reader.geometry;
+    64 * laws::least(g.cw, 8_192) + 8 * laws::least(g.w, 8_192)
+}
+
+// Writes a call's line. The sum is of its outputs, of the reader that it gave, and of whether it changed scratch that it may not touch.
+fn write_call(done: Done, fault: u32) {
     let n = numbers(done.reader);
-    let sum = sum_numbers(done.sum, &n);
-    let fault = if changed && done.answer != 0 { 1 } else { 0 };
+    let sum = test_support::sum_numbers(done.sum, &n);
     test_support::write_line(done.answer, test_support::added(sum, fault));
 }
 
-// Makes a line's call and gives the reader for the next line: the one that the call gave, or, where a number was changed for this call, the
-// one from before it.
-fn replayed(text: &[u8], reader: Reader, s: &mut [f32]) -> Reader {
-    let before = test_support::sum_floats(0, s, 0);
-    let done = called(text, handed(text, reader), s);
-    write_call(done, test_support::sum_floats(0, s, 0) != before);
-    if test_support::word(text, 24) != 0 {
+// Makes the call of a line with the reader that it is handed, and writes its line.
+fn written(text: &[u8], spelling: &[u8], given: Reader, s: &mut [f32]) -> Done {
+    let need = row_need(given);
+    let before = test_support::scratch_sums(s, need);
+    let done = called(text, spelling, given, s);
+    let after = test_support::scratch_sums(s, need);
+    write_call(
+        done,
+        test_support::scratch_fault(before, after, done.answer),
+    );
+    done
+}
+
+// Makes a line's call and gives the reader for the next line: the one that the call gave, or, where a number was changed by an index below
+// 16, the one from before it.
+fn replayed(text: &[u8], spelling: &[u8], reader: Reader, s: &mut [f32]) -> Reader {
+    let done = written(text, spelling, handed(text, reader), s);
+    let change = test_support::word(text, 24);
+    if laws::both(0 < change, change < 16) {
         return reader;
     }
     done.reader
 }
 
 // Makes a line's call with as much of the front of scratch as the line says, and gives the reader for the next line.
-fn replay(text: &[u8], reader: Reader, s: &mut [f32]) -> Reader {
+fn replay(text: &[u8; 142], spelling: &[u8; 142], reader: Reader, s: &mut [f32]) -> Reader {
     let space = laws::least(test_support::long(text, 19), s.len());
-    replayed(text, reader, &mut s[..space])
+    replayed(text, spelling, reader, &mut s[..space])
 }
 
 // Makes the calls of all lines, which have 142 bytes each, the newline too. The list ends where fewer are left. The first reader has 0
-// throughout, which no open gave.
+// throughout, which no open gave. A line of kind `b` is no call: it is kept as the spelling.
 fn replay_all(s: &mut [f32]) {
     let mut text = [0u8; 142];
+    let mut spelling = [0u8; 142];
     let mut reader = reader_of([0; 16]);
     for _ in 0..65_536usize {
         if io::read_full(STDIN_FILENO, &mut text) < 142 {
             break;
         }
-        reader = replay(&text, reader, s);
+        if test_support::byte(&text, 0) == b'b' {
+            spelling = text;
+            continue;
+        }
+        reader = replay(&text, &spelling, reader, s);
     }
 }
 

@@ -1,4 +1,5 @@
-// The planes that calls are handed, grown from a seed by a generator that oracle/*-cases has too, so that a line needn't spell them.
+// The planes that calls are handed: grown from a seed by a generator that oracle/*-cases has too, or, where no seed gives the bytes that are
+// wanted, spelled by a line of their own.
 ghost use Prim.Native.Nat.{_<_};
 
 // The next state of a linear congruential generator, modulo 2^32.
@@ -6,11 +7,19 @@ fn next(state: u32) -> u32 {
     ((state as u64 * 1_103_515_245 + 12_345) % 4_294_967_296) as u32
 }
 
-// A byte of a plane by its shape. Shape 0 gives all values, from the state's upper eight bits; shape 1 the sixteen smallest, from its
-// upper four; shape 2 always 77; any other always the shape's own low byte.
-fn shaped(state: u32, shape: usize) -> u8 {
+// Byte i of a plane by its shape. Shape 0 gives all values, from the state's upper eight bits; shape 1 the sixteen smallest, from its
+// upper four; shape 2 always 77; shape 4 all values at even places and 0 at odd ones, which are samples of two bytes up to 255; any other
+// always the shape's own low byte.
+fn shaped(state: u32, shape: usize, i: usize) -> u8 {
     if shape == 0 {
         return (state / 16_777_216) as u8;
+    }
+    if shape == 4 {
+        return if i % 2 == 0 {
+            (state / 16_777_216) as u8
+        } else {
+            0
+        };
     }
     if shape == 1 {
         return (state / 268_435_456) as u8;
@@ -27,7 +36,7 @@ pub fn grow(plane: &mut [u8], seed: usize, shape: usize) {
     let mut i = 0;
     while i < plane.len() {
         state = next(state);
-        plane[i] = shaped(state, shape);
+        plane[i] = shaped(state, shape, i);
         i += 1;
     }
 }
@@ -41,11 +50,42 @@ pub fn grown(n: usize, seed: usize, shape: usize) -> [u8; 65_536]
     plane
 }
 
-// Inner: plane k of the three that a line speaks of: 0 is Y, 1 Cb and 2 Cr. Their seeds follow each other, so that no two are alike.
-pub fn plane(text: &[u8], k: usize) -> [u8; 65_536]
+// Fills a plane with the bytes that a line spells, from byte `from` of those on.
+fn spell(plane: &mut [u8], spelling: &[u8], from: usize) {
+    let mut i = 0;
+    while i < plane.len() {
+        plane[i] = crate::words::spelled(spelling, from, i);
+        i += 1;
+    }
+}
+
+// Inner: a plane of n bytes that a line spells from byte `from` on, at the front of a buffer like that of `grown`.
+pub fn spelled_plane(n: usize, spelling: &[u8], from: usize) -> [u8; 65_536]
+    requires { ⌜ n < 65536 ⌝ }
+{
+    let mut plane = io::large_buffer();
+    spell(&mut plane[..n], spelling, from);
+    plane
+}
+
+// Where plane k begins among spelled bytes: the three stand one after another.
+fn start(text: &[u8], k: usize) -> usize {
+    match k {
+        0 => 0,
+        1 => crate::words::word(text, 12),
+        _ => crate::words::word(text, 12) + crate::words::word(text, 13),
+    }
+}
+
+// Inner: plane k of the three that a line speaks of: 0 is Y, 1 Cb and 2 Cr. Shape 3 is spelled by `spelling`, a line of its own; the seeds of
+// the others follow each other, so that no two are alike.
+pub fn plane(text: &[u8], spelling: &[u8], k: usize) -> [u8; 65_536]
     requires { ⌜ k < 3 ⌝ }
 {
     let n = crate::words::word(text, 12 + k);
-    let seed = crate::words::word(text, 15) + k;
-    grown(n, seed, crate::words::word(text, 16 + k))
+    let shape = crate::words::word(text, 16 + k);
+    if shape == 3 {
+        return spelled_plane(n, spelling, start(text, k));
+    }
+    grown(n, crate::words::word(text, 15) + k, shape)
 }

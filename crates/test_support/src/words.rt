@@ -61,6 +61,13 @@ pub fn word(text: &[u8], k: usize) -> usize
     four(text, 2 + 5 * k)
 }
 
+// Inner: of the bytes that the words of a line spell, two each, the one that stands i places behind `from`. Past the line's end it is 0: no
+// line has a thousand of them.
+pub fn spelled(text: &[u8], from: usize, i: usize) -> u8 {
+    let at = laws::least(from, 1_000) + laws::least(i, 1_000);
+    two(text, 2 + at / 2 * 5 + at % 2 * 2) as u8
+}
+
 // Inner: words k and k+1 of a line as one number, the upper half first.
 pub fn long(text: &[u8], k: usize) -> usize
     requires { ⌜ k < 999 ⌝ }
@@ -78,4 +85,15 @@ pub fn size(text: &[u8], k: usize) -> usize
         return 18_446_744_073_709_551_615;
     }
     n
+}
+
+// Inner: words k to k+2 of a line as one number, the highest first. ffffffff in the lower two stands for the largest usize, 2^64 - 1.
+pub fn value(text: &[u8], k: usize) -> usize
+    requires { ⌜ k < 998 ⌝ }
+{
+    let n = long(text, k + 1);
+    if n == 4_294_967_295 {
+        return 18_446_744_073_709_551_615;
+    }
+    word(text, k) * 4_294_967_296 + n
 }

@@ -27,23 +27,14 @@ pub fn triangular_answer(layout: Layout, plane: &[u8], stride: usize, room: usiz
     ensures { λ r. ⌜ r ≡ first (triangularTests layout (planeOf (now (plane .entry)) stride) room) ⌝ }
 {
     let answer = layout.answer(false);
-    if laws::refused(answer) {
-        return answer;
-    }
-    if bad_triangular(layout) {
-        return Answer::Refused(6);
-    }
-    if image::bad_plane(
+    let answer = laws::then(answer, bad_triangular(layout), 6);
+    let short = image::bad_plane(
         layout.sample_bytes,
         layout.cw,
         layout.ch,
         stride,
         plane.len(),
-    ) {
-        return Answer::Refused(7);
-    }
-    if room < layout.w * layout.h {
-        return Answer::Refused(10);
-    }
-    Answer::Accepted
+    );
+    let answer = laws::then(answer, short, 7);
+    laws::then(answer, laws::product_passes(layout.w, layout.h, room), 10)
 }

@@ -15,6 +15,6 @@ pub record LumaRow (l : Layout) (p : Plane) (row : ℕ) : Type 0 where
   pub plane : shortPlane l (l .w) (l .h) p ≡ false
   pub inside : row < l .h
 
--- v holds sixteen numbers, f 0, .. f 15
-abbrev pub Sixteen : List ℕ → (ℕ → ℕ) → Type 0
-Sixteen v f = (k : ℕ) → k < 16 → getD v k 0 ≡ f k
+-- v holds the n numbers f 0, .. f (n - 1)
+abbrev pub Listed : ℕ → List ℕ → (ℕ → ℕ) → Type 0
+Listed n v f = (k : ℕ) → k < n → getD v k 0 ≡ f k

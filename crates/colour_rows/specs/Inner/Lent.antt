@@ -12,7 +12,7 @@ pub record RowLent (l : Layout) (p : Plane) (row space : ℕ) : Type 0 where
   pub luma : LumaRow l p row
   pub rows : 2 * l .w ≤ space
 
--- a row that goes by blocks: it is as wide as one, and the exact kernel has a block at maxval 255 only
-pub record Blocked (kernel : YcbcrKernel) (l : Layout) : Type 0 where
-  pub wide : 16 ≤ l .w
+-- a row that goes by blocks of n pixels: it is as wide as one, and the exact kernel has a block at maxval 255 only
+pub record Blocked (n : ℕ) (kernel : YcbcrKernel) (l : Layout) : Type 0 where
+  pub wide : n ≤ l .w
   pub exact : kernel ≡ Exact → l .maxval ≡ 255

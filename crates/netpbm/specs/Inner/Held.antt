@@ -1,15 +1,17 @@
 -- What the inner functions hold of one image: the definitions of Bytes and Images, with numbers past 65,536 held as 65,536, so that no
 -- product of two wraps. proofs/Products says why no test is changed by that. Definitions only.
 use mathlib.Core.Path.{_≡_}
-use mathlib.Core.Bool.{Bool, true, false}
-use mathlib.Core.List.{List}
-use Prim.Native.Nat.{ℕ, _+_, _*_, min}
-use Rattle.laws.specs.Refusals.{first, accepted}
+use mathlib.Core.Bool.{Bool, true, false, not}
+use mathlib.Core.List.{List, [], _∷_}
+use Prim.Native.Nat.{ℕ, _+_, _-_, _*_, min}
+use lib.Dec.{ltb, eqb}
+use lib.ListN.{length}
+use Rattle.laws.specs.Refusals.{Test, first, accepted}
 use Rattle.netpbm.specs.declared.scan.Number.{Number}
 use Rattle.netpbm.specs.declared.pgm.Field.{Field}
 use Rattle.netpbm.specs.declared.pgm.Image.{Image}
-use Rattle.netpbm.specs.Bytes.{pastDigits, numberAt}
-use Rattle.netpbm.specs.Images.{hasNumber, fieldOf, fieldEnd, widthOf, widthEnd, heightOf, heightEnd, rowsAt, imageTests}
+use Rattle.netpbm.specs.Bytes.{hasBlank, pastDigits, numberAt}
+use Rattle.netpbm.specs.Images.{hasMagic, hasNumber, fieldOf, fieldEnd, widthOf, widthEnd, heightOf, heightEnd, rowsAt, imageTests}
 
 -- a number as it is held: 65,536 is `Number::MOST`
 abbrev pub held : ℕ → ℕ
@@ -28,6 +30,19 @@ pub record HeaderHeld (s : List ℕ) (at : ℕ) (width height maxval : Field) : 
   pub width-is : width ≡ fieldHeld s (at + 2)
   pub height-is : height ≡ fieldHeld s (widthEnd s at)
   pub maxval-is : maxval ≡ fieldHeld s (heightEnd s at)
+
+-- the tests on the numbers as they are held
+unfoldable pub heldTests : List ℕ → ℕ → Field → Field → Field → List Test
+heldTests s at w h m =
+    (not (hasMagic s at), 14)
+    ∷ (not (w .good), 14)
+    ∷ (ltb 128 (w .value), 15)
+    ∷ (not (h .good), 14)
+    ∷ (not (m .good), 14)
+    ∷ (not (eqb (m .value) 255), 14)
+    ∷ (not (hasBlank s (m .end)), 14)
+    ∷ (ltb (length s - (m .end + 1)) (w .value * h .value), 15)
+    ∷ []
 
 -- the image whose magic stands at `at`
 unfoldable pub imageHeld : List ℕ → ℕ → Image

@@ -2,8 +2,7 @@
 use mathlib.Core.Bool.{Bool}
 use mathlib.Core.List.{[], _∷_}
 use Rattle.laws.specs.declared.answers.Answer.{Answer}
-use Rattle.laws.specs.declared.answers.Answer.the-variants.{Accepted, Refused}
-use Rattle.laws.specs.Refusals.{first}
+use Rattle.laws.specs.Inner.Refusals.{folded}
 use Rattle.image.specs.declared.layout.Layout.{Layout}
 use Rattle.image.specs.Tests.{badSize}
 use Rattle.netpbm.specs.declared.pgm.Image.{Image}
@@ -22,11 +21,6 @@ layoutHeld y cb cr = record {
   maxval = 255;
 }
 
--- the first answer where it is a refusal, and the second where the first is accepted
-abbrev pub orAnswer : Answer → Answer → Answer
-orAnswer Accepted a = a
-orAnswer (Refused n) a = Refused n
-
 -- the answer to the whole input: the images' own, then the tests for bytes left over, for the sides and for the ratios
 unfoldable pub answerHeld : Answer → Bool → Layout → Answer
-answerHeld a left l = orAnswer a (first ((left, 14) ∷ (badSize l, 2) ∷ (noRatio l, 5) ∷ []))
+answerHeld a left l = folded a ((left, 14) ∷ (badSize l, 2) ∷ (noRatio l, 5) ∷ [])

@@ -2,9 +2,13 @@
 -- picture. On refusal nothing has been written, so that the slices are as they were by `refl`; otherwise they are what `put_ppm` promises.
 -- No product wraps, since what was read has 49,152 pixels at most (`pixels-most`).
 use mathlib.Core.Path.{refl, sym, _∙_, ap}
+use Prim.Native.Nat.{_≤_}
 use native.Mathlib.Omega.{arith}
+use lib.ListN.{length}
+use borrow.Author.Tests.{ltb-true, ltb-false}
 use borrow.Author.Needs.{needs}
 use Rattle.image.specs.declared.layout.Layout.{Layout}
+use Rattle.image.specs.Scratch.{scratchNeed}
 use Rattle.fill.specs.declared.options.ChromaUpsampling.the-variants.{LumaGuided}
 use Rattle.fill.specs.Fill.{fillScratch}
 use Rattle.netpbm.specs.Lines.{ppmHeader}
@@ -16,14 +20,18 @@ use Rattle.picture.proofs.Readings.{layout-sound, pixels-most, scratch-
 use Rattle.picture.proofs.written.Statement.{statement}
 use Rattle.picture.proofs.written.Tie as tie
 
-scratch-need-requires : tie.Need-scratch-need-requires
-scratch-need-requires c κs = layout-sound (taken _ _ _ _ _ (c .before .before .before .pre))
+-- behind the first test scratch is long enough
+long : (c : tie.Else1) → (let a = c .before .before .before .before .before .args in scratchNeed (a .layout) ≤ length (a .s .now))
+long c = ltb-false _ _ (sym (c .before .short-scratch .ensures) ∙ c .if1 .left)
+
+short-scratch-requires : tie.Need-short-scratch-requires
+short-scratch-requires c κs = search needs
 
 returns : tie.Need-returns
 returns c =
     let s = c .before .before .before .before .before in
     let a = s .args in
-    record { answers = scratch-short (read-accepted _ _ _ _ _ (s .pre)) (a .s .now) (a .out .now) (rw (sym (c .before .scratch-need .ensures)) (c .if1 .taken)); gives = refl; scratches = refl }
+    record { answers = scratch-short (read-accepted _ _ _ _ _ (s .pre)) (a .s .now) (a .out .now) (ltb-true _ _ (sym (c .before .short-scratch .ensures) ∙ c .if1 .taken)); gives = refl; scratches = refl }
 
 ppm-header-requires : tie.Need-ppm-header-requires
 ppm-header-requires c κs = let t = taken _ _ _ _ _ (c .before .before .before .before .before .pre) in let o = layout-sound t in (t .width, o .h-most)
@@ -49,13 +57,13 @@ returns-2 c =
     let s = c .before .before .before .before .before .before .before .before .before in
     let a = s .args in
     let n = ppm-length (a .layout) _ (c .before .before .before .ppm-header .ensures) in
-    record { answers = out-short (read-accepted _ _ _ _ _ (s .pre)) (a .s .now) (a .out .now) (rw (sym (c .before .before .before .before .before .scratch-need .ensures)) (c .before .before .before .before .if1 .left)) (rw (sym n) (c .if2 .taken)); gives = refl; scratches = refl }
+    record { answers = out-short (read-accepted _ _ _ _ _ (s .pre)) (a .s .now) (a .out .now) (long (c .before .before .before .before)) (rw (sym n) (c .if2 .taken)); gives = refl; scratches = refl }
 
 put-ppm-requires : tie.Need-put-ppm-requires
 put-ppm-requires c κs =
     let s = c .before .before .before .before .before .before .before .before .before .before .before in
     let e = c .before .before .before .before .before .ppm-header .ensures in
-    (s .pre, (e, (rw (sym (c .before .before .before .before .before .before .before .scratch-need .ensures)) (c .before .before .before .before .before .before .if1 .left), rw (sym (ppm-length (s .args .layout) _ e)) (c .before .before .if2 .left))))
+    (s .pre, (e, (long (c .before .before .before .before .before .before), rw (sym (ppm-length (s .args .layout) _ e)) (c .before .before .if2 .left))))
 
 same-length : tie.Need-same-length
 same-length c = search needs
@@ -71,7 +79,7 @@ returns-3 c =
     let n = ppm-length (a .layout) _ (c .before .before .before .before .before .before .before .before .before .before .ppm-header .ensures) in
     let w = c .before .before .before .before .put-ppm .ensures in
     record {
-      answers = ap Written n ∙ both-long t (a .s .now) (a .out .now) (rw (sym (c .before .before .before .before .before .before .before .before .before .before .before .before .scratch-need .ensures)) (c .before .before .before .before .before .before .before .before .before .before .before .if1 .left)) (rw (sym n) (c .before .before .before .before .before .before .before .if2 .left));
+      answers = ap Written n ∙ both-long t (a .s .now) (a .out .now) (long (c .before .before .before .before .before .before .before .before .before .before .before)) (rw (sym n) (c .before .before .before .before .before .before .before .if2 .left));
       gives = w .0;
       scratches = w .1 ∙ ap (λ (l : Layout). fillScratch LumaGuided l (inputPlanes (a .input .now)) 0 (l .h) (a .s .now)) (t .layout-is);
     }
@@ -80,7 +88,7 @@ pub written-spec : {M : Type 1} → statement M
 written-spec =
     tie.close
     (tie.spec
-    scratch-need-requires
+    short-scratch-requires
     returns
     ppm-header-requires
     mul-len

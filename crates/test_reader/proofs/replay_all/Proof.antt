@@ -9,10 +9,10 @@ use Rattle.test_reader.proofs.replay_all.Statement.{statement}
 use Rattle.test_reader.proofs.replay_all.Tie as tie
 
 abbrev Inv-loop : tie.InvT-loop
-Inv-loop s₀ text₀ reader₀ counter₀ s text reader counter = (counter ≤ 65536) × (length text ≡ 142) × (length s ≡ length s₀)
+Inv-loop s₀ text₀ spelling₀ reader₀ counter₀ s text spelling reader counter = (counter ≤ 65536) × (length text ≡ 142) × (length s ≡ length s₀)
 
 abbrev μ-loop : tie.MeasureT-loop
-μ-loop s₀ text₀ reader₀ counter₀ s text reader counter = 65536 - counter
+μ-loop s₀ text₀ spelling₀ reader₀ counter₀ s text spelling reader counter = 65536 - counter
 
 reader-of-requires : tie.Need-reader-of-requires Inv-loop μ-loop
 reader-of-requires c κs = search needs
@@ -26,11 +26,11 @@ slice-aggregate-read-full c = omega arith
 read-full-requires : tie.Need-read-full-requires Inv-loop μ-loop
 read-full-requires c κs = search needs
 
-slice-aggregate-replay : tie.Need-slice-aggregate-replay Inv-loop μ-loop
-slice-aggregate-replay c = omega arith
+slice-aggregate-byte : tie.Need-slice-aggregate-byte Inv-loop μ-loop
+slice-aggregate-byte c = omega arith
 
-replay-requires : tie.Need-replay-requires Inv-loop μ-loop
-replay-requires c κs = search needs
+byte-requires : tie.Need-byte-requires Inv-loop μ-loop
+byte-requires c κs = search needs
 
 add-counter : tie.Need-add-counter Inv-loop μ-loop
 add-counter c = omega arith
@@ -40,6 +40,18 @@ loop-less c = omega arith
 
 loop-again : tie.Need-loop-again Inv-loop μ-loop
 loop-again c = omega arith
+
+replay-requires : tie.Need-replay-requires Inv-loop μ-loop
+replay-requires c κs = search needs
+
+add-counter-2 : tie.Need-add-counter-2 Inv-loop μ-loop
+add-counter-2 c = omega arith
+
+loop-less-2 : tie.Need-loop-less-2 Inv-loop μ-loop
+loop-less-2 c = omega arith
+
+loop-again-2 : tie.Need-loop-again-2 Inv-loop μ-loop
+loop-again-2 c = omega arith
 
 same-length : tie.Need-same-length Inv-loop μ-loop
 same-length c = omega arith
@@ -63,11 +75,15 @@ replay-all-spec =
     loop-holds
     slice-aggregate-read-full
     read-full-requires
-    slice-aggregate-replay
-    replay-requires
+    slice-aggregate-byte
+    byte-requires
     add-counter
     loop-less
     loop-again
+    replay-requires
+    add-counter-2
+    loop-less-2
+    loop-again-2
     same-length
     returns
     same-length-2

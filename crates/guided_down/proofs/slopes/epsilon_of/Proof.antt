@@ -1,4 +1,3 @@
-use Rattle.guided.specs.Guided.{epsilon}
 use Rattle.laws.proofs.Values.{in-float}
 use mathlib.Core.Path.{refl}
 use lib.Ieee.{ofBits, ofInt}
@@ -10,7 +9,7 @@ int-to-float-s : tie.Need-int-to-float-s
 int-to-float-s c = in-float (c .before .args .layout .maxval) (omega arith)
 
 returns : tie.Need-returns
-unfolding epsilon ofBits ofInt
+unfolding ofBits ofInt
 returns c = refl
 
 pub epsilon-of-spec : {M : Type 1} → statement M

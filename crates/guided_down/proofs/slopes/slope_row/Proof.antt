@@ -1,5 +1,6 @@
-use Rattle.guided_down.proofs.Statistics.{row-ready, row-slopes}
-use mathlib.Core.Path.{_∙_}
+use Rattle.guided_down.proofs.Statistics.{row-ready, row-slopes, epsilon-is}
+use mathlib.Core.Path.{refl, _∙_}
+use lib.Ieee.{ofBits, ofInt}
 use native.Mathlib.Omega.{arith}
 use borrow.Author.Needs.{needs}
 use Rattle.guided_down.proofs.slopes.slope_row.Statement.{statement}
@@ -27,9 +28,10 @@ same-length : tie.Need-same-length
 same-length c = search needs
 
 returns : tie.Need-returns
+unfolding ofBits ofInt
 returns c =
     let a = c .before .before .before .before .before .before .before .before .before .args in
-    c .before .before .slope-cells .ensures ∙ row-slopes (a .layout) (a .k) (a .j) _ _ _ (c .before .before .before .before .before .before .first-of .ensures .0) (c .before .before .before .before .before .before .before .stats-at .ensures) (c .before .before .before .before .before .slot-at .ensures .is) _ (a .s .now) (c .before .before .before .epsilon-of .ensures)
+    c .before .before .slope-cells .ensures ∙ row-slopes (a .layout) (a .k) (a .j) _ _ _ (c .before .before .before .before .before .before .first-of .ensures .0) (c .before .before .before .before .before .before .before .stats-at .ensures) (c .before .before .before .before .before .slot-at .ensures .is) _ (a .s .now) (c .before .before .before .epsilon-of .ensures ∙ epsilon-is (a .layout) _ refl)
 
 pub slope-row-spec : {M : Type 1} → statement M
 slope-row-spec =

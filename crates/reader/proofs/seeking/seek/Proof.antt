@@ -1,41 +1,39 @@
-use mathlib.Core.Bool.{false}
-use lib.Dec.{leb}
-use Rattle.laws.specs.Refusals.{first}
-use Rattle.laws.proofs.Refusals.{refused-here, passed-over}
-use Rattle.guided.specs.Calls.{badState, seekTests}
-use Rattle.guided.proofs.Acceptance.{fine}
-use mathlib.Core.Path.{_≡_, refl, sym, _∙_}
-use borrow.Author.Tests.{le-leb, lt-leb}
-use native.Mathlib.Omega.{arith}
 use borrow.Author.Needs.{needs}
+use Rattle.laws.proofs.Refusals.{Asked, kept, made, passed, accepted-failed}
+use Rattle.guided.specs.Calls.{SeekCall, seekCall, seekTests}
+use Rattle.guided.proofs.Acceptance.{fine, seek-handed}
 use Rattle.reader.proofs.seeking.seek.Statement.{statement}
 use Rattle.reader.proofs.seeking.seek.Tie as tie
 
-bad-state-requires : tie.Need-bad-state-requires
-bad-state-requires c κs = search needs
+-- the call, as the specification has it
+abbrev call : (c : tie.After-refused) → SeekCall
+call c = let a = c .before .before .args in seekCall (a .y) (a .reader)
+
+asked : (c : tie.After-refused) → Asked (seekTests (call c)) (c .before .seek-answer .result) (c .refused .result)
+asked c = record { answers = c .before .seek-answer .ensures; tells = c .refused .ensures }
+
+seek-answer-requires : tie.Need-seek-answer-requires
+seek-answer-requires c κs = search needs
+
+refused-requires : tie.Need-refused-requires
+refused-requires c κs = search needs
 
 returns : tie.Need-returns
-unfolding seekTests
-returns c = record { answers = sym (refused-here (badState (c .before .before .args .reader)) 1 _ (sym (c .before .bad-state .ensures) ∙ c .if1 .taken)); leaves = refl }
-
-passed : (c : tie.Else1) → badState (c .before .before .args .reader) ≡ false
-passed c = sym (c .before .bad-state .ensures) ∙ c .if1 .left
-
-returns-2 : tie.Need-returns-2
-unfolding seekTests
-returns-2 c =
-    let a = c .before .before .before .before .before .args in
-    record { answers = sym (passed-over (badState (a .reader)) 1 _ (passed (c .before .before .before)) ∙ refused-here (leb (a .reader .geometry .h) (a .y)) 11 _ (le-leb (a .reader .geometry .h) (a .y) (c .if2 .taken))); leaves = refl }
+returns c = let a = asked (c .before) in record { answers = a .answers; leaves = kept a (c .if1 .taken) _ _ }
 
 after-seek-requires : tie.Need-after-seek-requires
-after-seek-requires c κs = (fine (c .before .before .before .before .before .args .reader) (passed (c .before .before .before)) .sound, omega arith)
+after-seek-requires c κs =
+    let k = call (c .before) in
+    let h = seek-handed k (accepted-failed (seekTests k) (passed (asked (c .before)) (c .if1 .left))) in
+    (fine _ (h .state) .sound, h .inside)
 
-returns-3 : tie.Need-returns-3
-unfolding seekTests first
-returns-3 c =
-    let a = c .before .before .before .before .before .before .args in
-    record { answers = rw (passed (c .before .before .before .before), lt-leb (a .reader .geometry .h) (a .y) (c .before .if2 .left)) refl; leaves = c .after-seek .ensures }
+returns-2 : tie.Need-returns-2
+returns-2 c =
+    let d = c .before in
+    let a = asked (d .before) in
+    record { answers = a .answers; leaves = made a (d .if1 .left) _ (c .after-seek .ensures) }
 
 pub seek-spec : {M : Type 1} → statement M
 seek-spec =
-    tie.close (tie.spec bad-state-requires returns returns-2 after-seek-requires returns-3)
+    tie.close
+    (tie.spec seek-answer-requires refused-requires returns after-seek-requires returns-2)

@@ -4,8 +4,8 @@ use Prim.Native.Nat.{_-_, _≤_}
 use native.Mathlib.Omega.{arith}
 use lib.ListN.{length}
 use borrow.Author.Needs.{needs}
-use Rattle.test_reader.proofs.sum_numbers.Statement.{statement}
-use Rattle.test_reader.proofs.sum_numbers.Tie as tie
+use Rattle.test_support.proofs.checksums.sum_numbers.Statement.{statement}
+use Rattle.test_support.proofs.checksums.sum_numbers.Tie as tie
 
 abbrev Inv-loop : tie.InvT-loop
 Inv-loop sum n sum₀ i₀ sum' i = i ≤ length n

@@ -1,8 +1,8 @@
+use native.Mathlib.Omega.{arith}
 use borrow.Author.Needs.{needs}
-use Rattle.image.proofs.Quotients.{pos-of}
-use Rattle.image.proofs.Planes.{divided, divided-zero}
-use Rattle.image.proofs.samples.product_passes.Statement.{statement}
-use Rattle.image.proofs.samples.product_passes.Tie as tie
+use Rattle.laws.proofs.Products.{divided, divided-zero}
+use Rattle.laws.proofs.numbers.product_passes.Statement.{statement}
+use Rattle.laws.proofs.numbers.product_passes.Tie as tie
 
 returns : tie.Need-returns
 returns c = let a = c .before .args in divided-zero (a .a) (a .b) (a .n) (c .if1 .taken)
@@ -11,7 +11,7 @@ div-result : tie.Need-div-result
 div-result c = search needs
 
 returns-2 : tie.Need-returns-2
-returns-2 c = let a = c .before .args in divided (a .a) (a .b) (a .n) (pos-of (a .b) (c .if1 .left))
+returns-2 c = let a = c .before .args in divided (a .a) (a .b) (a .n) (omega arith)
 
 pub product-passes-spec : {M : Type 1} → statement M
 product-passes-spec = tie.close (tie.spec returns div-result returns-2)

@@ -1,0 +1,35 @@
+use borrow.Author.Needs.{needs}
+use Rattle.laws.proofs.Refusals.{first-folded}
+use Rattle.kernels.specs.Pixels.{exactTests}
+use Rattle.kernels.proofs.calls.exact_answer.Statement.{statement}
+use Rattle.kernels.proofs.calls.exact_answer.Tie as tie
+
+outside-requires : tie.Need-outside-requires
+outside-requires c κs = search needs
+
+either-requires : tie.Need-either-requires
+either-requires c κs = search needs
+
+either-requires-2 : tie.Need-either-requires-2
+either-requires-2 c κs = search needs
+
+either-requires-3 : tie.Need-either-requires-3
+either-requires-3 c κs = search needs
+
+then-requires : tie.Need-then-requires
+then-requires c κs = search needs
+
+returns : tie.Need-returns
+unfolding exactTests
+returns c = rw first-folded (cc)
+
+pub exact-answer-spec : {M : Type 1} → statement M
+exact-answer-spec =
+    tie.close
+    (tie.spec
+    outside-requires
+    either-requires
+    either-requires-2
+    either-requires-3
+    then-requires
+    returns)

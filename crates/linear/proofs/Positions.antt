@@ -1,0 +1,92 @@
+-- The exact bilinear value by positions is the exact value between the cells of the taps, so that what is near the one is near the other.
+-- An output's spot and its position are held against each other by the cases of `spotOf` (`spot-position`): on a cell the position is a whole
+-- number of cells, and between two cells it is the spot's own fraction.
+use mathlib.Core.Path.{_≡_, refl, sym, ap, _∙_, subst}
+use Prim.Native.Nat.{ℕ, _+_, _-_, _*_, _/_, _%_, _≤_, _<_}
+use native.Mathlib.Nat.{mul-div-cancel, mul-mod-left, div-lt-iff-lt-mul, le-div-iff-mul-le}
+use native.Mathlib.Omega.{arith}
+use lib.Ieee.{Float, nan, inf, fin, up, down}
+use Rattle.laws.specs.Inner.Floats.{NearFraction}
+use Rattle.laws.proofs.Nearness.{near-widen, near-aim}
+use Rattle.taps.specs.Taps.{Spot, onCell, spotAt, spotOf}
+use Rattle.taps.proofs.Spots.{between, by-spot, by-place}
+use Rattle.linear.specs.Bound.{Position, centredAt, exactBetween, exactNum, exactDen, Sixteenth}
+use Rattle.linear.proofs.Bound.{mix, spotNum, spotDen}
+
+-- the position's value is the spot's, both parts of the fraction times n
+record Same (s : Spot) (t : Position) : Type 0 where
+  n : ℕ
+  den : t .q ≡ s .d * n
+  num : (f : ℕ → ℕ) → exactBetween t f ≡ mix (f (s .near)) (f (s .far)) (s .k) (s .d) * n
+
+-- i cells of q parts each: on cell i
+on-cell : (i q p : ℕ) → 0 < q → p ≡ i * q → Same (onCell i) (record { p = p; q = q })
+on-cell i q p z e = record { n = q; den = omega arith; num = λ f. rw (e, mul-div-cancel i z, mul-mod-left i q) (whole (f i) (f (i + 1)) (q - 0) (omega arith)) }
+  where
+    whole : (a b d : ℕ) → d ≡ q → d * a + 0 * b ≡ (a * 1 + a * 0) * q
+    whole a b d e = omega (arith, ap (λ (x : ℕ). x * a) e)
+
+-- m parts of which d make a cell: between the cells of its quotient
+in-between : (m d p : ℕ) → p ≡ m → Same (between m d) (record { p = p; q = d })
+in-between m d p e = record { n = 1; den = omega arith; num = λ f. rw e (same (f (m / d)) (f (m / d + 1)) (d - m % d) (m % d)) }
+  where
+    same : (a b j k : ℕ) → j * a + k * b ≡ (a * j + b * k) * 1
+    same a b j k = omega arith
+
+-- an output's spot and its position
+spot-position : (r len o : ℕ) → 0 < r → 0 < len → o < len * r → Same (spotOf 1 r len o) (centredAt r len o)
+unfolding centredAt
+spot-position r len o z L O =
+    by-spot (λ (s : Spot). Same s (centredAt r len o)) 1 r len o (λ e. on-cell o (2 * r) (centredAt r len o .p) (omega arith) (one e)) (λ h. on-cell 0 (2 * r) (centredAt r len o .p) (omega arith) (none h))
+    (λ h. by-place (λ (s : Spot). Same s (centredAt r len o)) ((2 * o + 1) * 1 - r) (2 * r) len
+    (λ g. on-cell (len - 1) (2 * r) (centredAt r len o .p) (omega arith) (past (le-div-iff-mul-le (omega arith) .0 g)))
+    (λ g. in-between ((2 * o + 1) * 1 - r) (2 * r) (centredAt r len o .p) (before (div-lt-iff-lt-mul (omega arith) .0 g))))
+  where
+    one : 1 ≡ r → centredAt r len o .p ≡ o * (2 * r)
+    one e =
+        let h : o < len * 1 = subst (λ (x : ℕ). o < len * x) (sym e) O in
+        subst (λ (x : ℕ). centredAt x len o .p ≡ o * (2 * x)) e (omega arith)
+
+    none : (2 * o + 1) * 1 < r → centredAt r len o .p ≡ 0 * (2 * r)
+    none h = omega arith
+
+    past : (len - 1) * (2 * r) ≤ (2 * o + 1) * 1 - r → centredAt r len o .p ≡ (len - 1) * (2 * r)
+    past h = omega arith
+
+    before : (2 * o + 1) * 1 - r < (len - 1) * (2 * r) → centredAt r len o .p ≡ (2 * o + 1) * 1 - r
+    before h = omega arith
+
+-- sixteen 256ths are a sixteenth
+sixteenth : (x : Float) (num den : ℕ) → NearFraction x num 0 den 16 → Sixteenth x num den
+sixteenth nan num den h = h
+sixteenth (inf s) num den h = h
+sixteenth (fin s m e) num den h = record { above = omega arith; below = omega arith }
+
+module _ (c : ℕ → ℕ → ℕ) (v h : Spot) (p q : Position) (a : Same v p) (b : Same h q) where
+  -- the cells of column i, down
+  column : (i : ℕ) → exactBetween p (λ j. c j i) ≡ mix (c (v .near) i) (c (v .far) i) (v .k) (v .d) * a .n
+  column i = a .num (λ j. c j i)
+
+  num-is : exactNum c p q ≡ spotNum c v h * (a .n * b .n)
+  num-is = b .num (λ i. exactBetween p (λ j. c j i)) ∙ rw (column (h .near), column (h .far)) (regroup _ _ (h .d - h .k) (h .k) (a .n) (b .n))
+    where
+      regroup : (x y j k s t : ℕ) → (x * s * j + y * s * k) * t ≡ (x * j + y * k) * (s * t)
+      regroup x y j k s t = omega arith
+
+  den-is : exactDen p q ≡ spotDen v h * (a .n * b .n)
+  den-is = rw (a .den, b .den) (regroup (v .d) (h .d) (a .n) (b .n))
+    where
+      regroup : (x y s t : ℕ) → x * s * (y * t) ≡ x * y * (s * t)
+      regroup x y s t = omega arith
+
+  near-sixteenth : (x : Float) → NearFraction x (spotNum c v h) 0 (spotDen v h) 16 → Sixteenth x (exactNum c p q) (exactDen p q)
+  near-sixteenth x g =
+      let n = a .n * b .n in
+      rw (num-is, den-is) (sixteenth x (spotNum c v h * n) (spotDen v h * n) (near-aim x (spotNum c v h * n) (0 * n) (spotDen v h * n) 16 (spotNum c v h * n) 0 (omega arith) (near-widen x (spotNum c v h) 0 (spotDen v h) 16 n g)))
+
+-- what is within 16 / 256 of the value by two outputs' spots is within a sixteenth of the value by their positions
+pub position-sixteenth : (c : ℕ → ℕ → ℕ) (rv ch y rh cw x : ℕ) → 0 < rv → 0 < ch → y < ch * rv → 0 < rh → 0 < cw → x < cw * rh
+    → (z : Float) → NearFraction z (spotNum c (spotOf 1 rv ch y) (spotOf 1 rh cw x)) 0 (spotDen (spotOf 1 rv ch y) (spotOf 1 rh cw x)) 16
+    → Sixteenth z (exactNum c (centredAt rv ch y) (centredAt rh cw x)) (exactDen (centredAt rv ch y) (centredAt rh cw x))
+position-sixteenth c rv ch y rh cw x a b Y d e X z g =
+    near-sixteenth c (spotOf 1 rv ch y) (spotOf 1 rh cw x) (centredAt rv ch y) (centredAt rh cw x) (spot-position rv ch y a b Y) (spot-position rh cw x d e X) z g
