@@ -9,7 +9,7 @@ use Prim.Native.Nat.{ℕ, _≤_, _<_}
 use native.Mathlib.Omega.{arith}
 use lib.Dec.{ltb, eqb}
 use lib.ListN.{length}
-use borrow.Author.Tests.{le-ltb, lt-ltb, ltb-false, eqb-false}
+use borrow.Author.Tests.{le-ltb, lt-ltb, eqb-false}
 use Rattle.laws.specs.declared.answers.Answer.{Answer}
 use Rattle.laws.specs.declared.answers.Answer.the-variants.{Accepted, Refused as Turned}
 use Rattle.laws.specs.Refusals.{Test, first, accepted}
@@ -18,7 +18,7 @@ use Rattle.laws.proofs.Refusals.{accepted-is, accepted-failed, failed-accepted,
 use Rattle.image.specs.declared.layout.Layout.{Layout}
 use Rattle.laws.specs.Numbers.{outsideOf}
 use Rattle.image.specs.Tests.{badSize}
-use Rattle.image.proofs.Layouts.{neither}
+use Rattle.image.proofs.Layouts.{neither, within}
 use Rattle.netpbm.specs.declared.pgm.Image.{Image}
 use Rattle.netpbm.specs.declared.reading.Reading.{Reading}
 use Rattle.netpbm.specs.declared.reading.Reading.the-variants.{Read, Refused}
@@ -157,7 +157,7 @@ module _ {s : List ℕ} {y cb cr : Image} (p : Places s y cb cr) where
   unfolding badSize inputLayout
   sides e =
       let n = neither (outsideOf 1 8192 (widthOf s 0)) (outsideOf 1 8192 (heightOf s 0)) e in
-      (ltb-false 8192 (widthOf s 0) (neither (ltb (widthOf s 0) 1) (ltb 8192 (widthOf s 0)) (n .0) .1), ltb-false 8192 (heightOf s 0) (neither (ltb (heightOf s 0) 1) (ltb 8192 (heightOf s 0)) (n .1) .1))
+      (within 1 8192 (widthOf s 0) (n .0) .1, within 1 8192 (heightOf s 0) (n .1) .1)
 
   -- where 2 doesn't apply, sides as they are held have the ratios of the real ones
   ratio-w : badSize (inputLayout s) ≡ false → ratioFor (y .w) (cb .w) (cr .w) ≡ ratioFor (widthOf s 0) (widthOf s (cbAt s)) (widthOf s (crAt s))

@@ -22,11 +22,6 @@ use Rattle.netpbm.proofs.Digits.{three-most, four-most}
 use Rattle.picture.specs.Picture.{ppmLength, inputPicture, ppmOver}
 use Rattle.picture.proofs.Readings.{to-end}
 
--- a header fits a line
-pub header-most : (w h : ℕ) → w ≤ 128 → length (ppmHeader w h) ≤ 16
-unfolding ppmHeader
-header-most w h l = simp length-append (omega (arith, three-most w (omega arith), four-most h))
-
 -- ---- a line that holds a text, put to the front of out
 
 pub line-length : (t : List ℕ) (line : Line) → line ≡ lineOf t → line .len ≡ length t

@@ -1,46 +1,46 @@
--- The loop's invariant: s is s₀ with the first k numbers of v, as a `Run` from `at` on; `run-more` is a turn, `run-end` at eight the promise.
--- v is an array by value, which no store changes, so that a turn's value is itself (`refl`).
+-- As put_block's, each byte as a float.
 use mathlib.Core.Path.{refl}
 use Prim.Native.Nat.{_-_, _≤_}
-use lib.Ieee.{nan}
-use Rattle.laws.proofs.Lists.{Run, run-none, run-more, run-end}
 use native.Mathlib.Omega.{arith}
 use lib.ListN.{getD}
-use Rattle.guided_down.proofs.slopes.store_eight.Statement.{statement}
-use Rattle.guided_down.proofs.slopes.store_eight.Tie as tie
+use borrow.Author.Needs.{needs}
+use Rattle.laws.specs.Floats.{f32}
+use Rattle.laws.proofs.Lists.{Run, run-end, run-more, run-none}
+use Rattle.lanes.proofs.put_bytes.Statement.{statement}
+use Rattle.lanes.proofs.put_bytes.Tie as tie
 
 abbrev Inv-loop : tie.InvT-loop
-Inv-loop s₀ at v k₀ s k = (k ≤ 8) × Run s₀ s at k (λ m. getD v m nan)
+Inv-loop s₀ at block i₀ s i = (i ≤ 16) × Run s₀ s at i (λ k. f32 (getD block k 0))
 
 abbrev μ-loop : tie.MeasureT-loop
-μ-loop s₀ at v k₀ s k = 8 - k
+μ-loop s₀ at block i₀ s i = 16 - i
 
 loop-holds : tie.Need-loop-holds Inv-loop μ-loop
 loop-holds c = (omega arith, run-none _ _ _)
 
-mul-s : tie.Need-mul-s Inv-loop μ-loop
-mul-s c = omega arith
-
 array-read-s : tie.Need-array-read-s Inv-loop μ-loop
 array-read-s c = omega arith
+
+int-to-float-s : tie.Need-int-to-float-s Inv-loop μ-loop
+int-to-float-s c = search needs
 
 add-s : tie.Need-add-s Inv-loop μ-loop
 add-s c = omega arith
 
-mul-s-2 : tie.Need-mul-s-2 Inv-loop μ-loop
-mul-s-2 c = omega arith
+mul-s : tie.Need-mul-s Inv-loop μ-loop
+mul-s c = omega arith
 
 slice-write-s : tie.Need-slice-write-s Inv-loop μ-loop
 slice-write-s c = omega arith
 
-add-k : tie.Need-add-k Inv-loop μ-loop
-add-k c = omega arith
+add-i : tie.Need-add-i Inv-loop μ-loop
+add-i c = omega arith
 
 loop-less : tie.Need-loop-less Inv-loop μ-loop
 loop-less c = omega arith
 
 loop-again : tie.Need-loop-again Inv-loop μ-loop
-loop-again c = (omega arith, run-more (c .before .loop .inv .1) _ refl)
+loop-again c = (omega arith, run-more (c .before .before .loop .inv .1) _ refl)
 
 same-length : tie.Need-same-length Inv-loop μ-loop
 same-length c = c .before .loop .inv .1 .len
@@ -48,19 +48,19 @@ same-length c = c .before .loop .inv .1 .len
 returns : tie.Need-returns Inv-loop μ-loop
 returns c = run-end (c .before .loop .inv .1) _ (omega arith) (omega arith)
 
-pub store-eight-spec : {M : Type 1} → statement M
-store-eight-spec =
+pub put-bytes-spec : {M : Type 1} → statement M
+put-bytes-spec =
     tie.close
     (tie.spec
     Inv-loop
     μ-loop
     loop-holds
-    mul-s
     array-read-s
+    int-to-float-s
     add-s
-    mul-s-2
+    mul-s
     slice-write-s
-    add-k
+    add-i
     loop-less
     loop-again
     same-length
