@@ -62,9 +62,10 @@ unfolding lt
 values-compare x y a b p q =
     both-finite (λ x y. (T (lt x y) → a < b) × (T (not (lt x y)) → b ≤ a)) x y a 1 b 1 p q (λ m e n d u v.
     let l : m * up e * down d ≡ a * (down e * down d) = cross m (up e) a (down d) (down e) u in
-    let r : n * up d * down e ≡ b * (down e * down d) = cross n (up d) b (down e) (down d) v ∙ ap (λ (z : ℕ). b * z) (mul-comm (down d) (down e)) in
-    (λ t. lt-of-mul-lt-mul-right (down e * down d) (subst₂ (λ (x y : ℕ). x < y) l r (ltb→lt (m * up e * down d) (n * up d * down e) t)),
-     λ t. le-of-mul-le-mul-right (subst₂ (λ (x y : ℕ). y ≤ x) l r (nltb→le (m * up e * down d) (n * up d * down e) t)) (mul-pos (down-pos e) (down-pos d))))
+    let r : n * up d * down e ≡ b * (down e * down d) = cross n (up d) b (down e) (down d) v ∙ ap (λ (z : ℕ). b * z) (mul-comm (down d) (down e)) in (
+      λ t. lt-of-mul-lt-mul-right (down e * down d) (subst₂ (λ (x y : ℕ). x < y) l r (ltb→lt (m * up e * down d) (n * up d * down e) t)),
+      λ t. le-of-mul-le-mul-right (subst₂ (λ (x y : ℕ). y ≤ x) l r (nltb→le (m * up e * down d) (n * up d * down e) t)) (mul-pos (down-pos e) (down-pos d)),
+    ))
   where
     cross : (m u a d e : ℕ) → m * u * 1 ≡ a * e → m * u * d ≡ a * (e * d)
     cross m u a d e p = rw (← mul-assoc a e d, ← p, mul-one (m * u)) refl
@@ -117,10 +118,11 @@ cross-less x y dx dy a c b c' D D' p q h = lt-of-not-le (λ (g : y * dx ≤ x * 
 -- and where it is negative, the negative of some rounded fraction
 pub sub-lt : (f : Format) (x y : Float) (a c b c' : ℕ) → HasValue x false a c → HasValue y false b c' → a * c' < b * c → (n : ℕ) × (d : ℕ) × (sub f x y ≡ round f true n d)
 sub-lt f x y a c b c' p q h =
-    both-finite (λ x y. (n : ℕ) × (d : ℕ) × (sub f x y ≡ round f true n d)) x y a c b c' p q (λ m e n d u v.
-    (n * up d * down e - m * up e * down d,
-     down e * down d,
-     opened f m e n d ∙ pick-lt f (m * up e * down d) (n * up d * down e) (down e * down d) (cross-less (m * up e) (n * up d) (down e) (down d) a c b c' (down-pos e) (down-pos d) u v h)))
+    both-finite (λ x y. (n : ℕ) × (d : ℕ) × (sub f x y ≡ round f true n d)) x y a c b c' p q (λ m e n d u v. (
+      n * up d * down e - m * up e * down d,
+      down e * down d,
+      opened f m e n d ∙ pick-lt f (m * up e * down d) (n * up d * down e) (down e * down d) (cross-less (m * up e) (n * up d) (down e) (down d) a c b c' (down-pos e) (down-pos d) u v h),
+    ))
 
 -- ---- what it takes to be an f32, taken apart
 
