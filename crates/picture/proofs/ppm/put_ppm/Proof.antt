@@ -1,6 +1,7 @@
 -- `ppm-is` of Fronts carries it: the line at the front and what `put_pixels` left in the part behind it are `ppmOver` together.
 -- The needs before it are sums of lengths: the header has 16 bytes at most (`header-most`), and out room for it and the pixels (`ppm-covers`).
-use mathlib.Core.Path.{_∙_, ap}
+use mathlib.Core.Path.{_≡_, ap, _∙_}
+use Prim.Native.Nat.{_+_, _*_, _≤_}
 use native.Mathlib.Omega.{arith}
 use lib.ListN.{length-drop, length}
 use borrow.Author.Needs.{needs}
