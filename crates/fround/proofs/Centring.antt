@@ -3,12 +3,12 @@
 -- larger of two floats (`max-val`) and the last difference, whose sign `less-centre` splits on.
 use mathlib.Core.Path.{_≡_, refl, sym, ap, _∙_, subst}
 use Prim.Native.Nat.{ℕ, _+_, _-_, _*_, _/_, _%_, _≤_, _<_, max, compare, Ordering, Ordering·lt, Ordering·eq, Ordering·gt}
-use native.Mathlib.Nat.{le-trans, le-of-eq, zero-lt-suc, mul-one, add-mul-div-right, add-mul-mod-self-right, div-add-mod', mod-lt, lt-of-mul-lt-mul-right, le-of-mul-le-mul-right, mul-pos}
+use native.Mathlib.Nat.{le-trans, le-of-eq, zero-lt-suc, mul-one, add-mul-div-right, add-mul-mod-self-right, div-add-mod', mod-lt}
 use native.Mathlib.Omega.{arith}
-use mathlib.Core.Bool.{Bool, true, false, not, cond, true≢false}
+use mathlib.Core.Bool.{Bool, true, false, not, cond}
 use lib.IntN.{ℤ, pos}
 use lib.Dec.{T, ltb, ltb→lt, nltb→le}
-use lib.Ieee.{Float, nan, inf, fin, binary32, up, down, nearest, round, lt}
+use lib.Ieee.{Float, fin, binary32, up, down, nearest, round, lt}
 use lib.Ieee.Fits.{down-pos}
 use lib.Ieee.Back.{round-whole}
 use lib.Ieee.Exact.{HasValue}
@@ -17,7 +17,7 @@ use Rattle.laws.specs.Floats.{f32, _⊕_, _⊖_}
 use Rattle.laws.specs.Rounding.{halfUp}
 use Rattle.laws.proofs.Halves.{Cmp, cmp, up-le, up-mono, below-half, closest-shift}
 use Rattle.laws.proofs.Operators.{sub-up, sub-down}
-use Rattle.laws.proofs.Values.{whole-value}
+use Rattle.laws.proofs.Values.{whole-value, values-compare}
 use Rattle.fround.specs.Rounding.{fmax, roundClamped}
 use Rattle.fround.proofs.Limits.{Limited}
 use Rattle.fround.proofs.OnGrid.{two23, t-val, two23-val}
@@ -65,27 +65,11 @@ both a d D =
 
 -- ---- the larger of two whole numbers that are not negative
 max-val : (x y : Float) (a b : ℕ) → HasValue x false a 1 → HasValue y false b 1 → HasValue (fmax x y) false (max a b) 1
-unfolding lt
-max-val nan y a b v w = absurd v
-max-val (inf s) y a b v w = absurd v
-max-val (fin true m e) y a b v w = absurd (true≢false (v .0))
-max-val (fin false m e) nan a b v w = absurd w
-max-val (fin false m e) (inf s) a b v w = absurd w
-max-val (fin false m e) (fin true n d) a b v w = absurd (true≢false (w .0))
-max-val (fin false m e) (fin false n d) a b v w =
-    go (ltb (n * up d * down e) (m * up e * down d))
-    (λ t. lt-of-mul-lt-mul-right (down d * down e) (less (m * up e) (down e) (n * up d) (down d) (v .1) (w .1) (ltb→lt (n * up d * down e) (m * up e * down d) t)))
-    (λ t. le-of-mul-le-mul-right (most (m * up e) (down e) (n * up d) (down d) (v .1) (w .1) (nltb→le (n * up d * down e) (m * up e * down d) t)) (mul-pos (down-pos d) (down-pos e)))
+max-val x y a b v w = let c = values-compare y x b a w v in go (lt y x) (c .0) (c .1)
   where
-    less : (X u Y z : ℕ) → X * 1 ≡ a * u → Y * 1 ≡ b * z → Y * u < X * z → b * (z * u) < a * (z * u)
-    less X u Y z p q h = omega (arith, ap (λ (k : ℕ). k * z) p, ap (λ (k : ℕ). k * u) q)
-
-    most : (X u Y z : ℕ) → X * 1 ≡ a * u → Y * 1 ≡ b * z → X * z ≤ Y * u → a * (z * u) ≤ b * (z * u)
-    most X u Y z p q h = omega (arith, ap (λ (k : ℕ). k * z) p, ap (λ (k : ℕ). k * u) q)
-
-    go : (t : Bool) → (T t → b < a) → (T (not t) → a ≤ b) → HasValue (cond t (fin false m e) (fin false n d)) false (max a b) 1
-    go true f g = let l = f tt in let i : a ≡ max a b = omega arith in subst (λ (z : ℕ). HasValue (fin false m e) false z 1) i v
-    go false f g = let l = g tt in let i : b ≡ max a b = omega arith in subst (λ (z : ℕ). HasValue (fin false n d) false z 1) i w
+    go : (t : Bool) → (T t → b < a) → (T (not t) → a ≤ b) → HasValue (cond t x y) false (max a b) 1
+    go true f g = let l = f tt in let i : a ≡ max a b = omega arith in subst (λ (z : ℕ). HasValue x false z 1) i v
+    go false f g = let l = g tt in let i : b ≡ max a b = omega arith in subst (λ (z : ℕ). HasValue y false z 1) i w
 
 -- ---- less the grid and the centre: the difference of two whole numbers
 less-centre : (u : Float) (h : ℕ) → h ≤ 65536 → HasValue u false (8388608 + h) 1 → u ⊖ centre ≡ f32 h ⊖ f32 32768

@@ -1,19 +1,17 @@
 -- Every guided sample lies within the extremes of the nine chroma cells round its own, and is no not-a-number.
 -- The last two operations of a value are its limits, so that it lies between them whatever came before (`between`). The hard step is that the
 -- limits are floats: up to 65,535 whole numbers are exact as f32, so that they compare as numbers do (`values-compare`).
-use mathlib.Core.Path.{_≡_, refl, sym, ap, _∙_, subst₂}
-use mathlib.Core.Bool.{Bool, true, false, not, cond, true≢false}
-use Prim.Native.Nat.{ℕ, _+_, _-_, _*_, _/_, _≤_, _<_, min, max}
-use native.Mathlib.Nat.{mul-one, mul-assoc, mul-comm, mul-pos, mul-le-mul-right, lt-of-mul-lt-mul-right, le-of-mul-le-mul-right, le-trans, min-le-left, le-max-left}
+use mathlib.Core.Path.{_≡_, refl, sym, ap}
+use mathlib.Core.Bool.{Bool, true, false, not, cond}
+use Prim.Native.Nat.{ℕ, _+_, _-_, _/_, _≤_, _<_, min, max}
+use native.Mathlib.Nat.{mul-le-mul-right, le-trans, min-le-left, le-max-left}
 use native.Mathlib.Omega.{arith}
-use lib.Dec.{T, ltb→lt, nltb→le, lit<}
-use lib.Ieee.{Float, nan, inf, fin, binary32, up, down, lt, le, isNan, ofInt}
-use lib.Ieee.Exact.{HasValue}
-use lib.Ieee.Fits.{down-pos}
+use lib.Dec.{T, lit<}
+use lib.Ieee.{Float, nan, inf, fin, binary32, lt, le, isNan, ofInt}
 use lib.Ieee.Order.{round-mono}
 use Rattle.laws.specs.Floats.{f32}
 use Rattle.laws.proofs.Order.{not-nan-right}
-use Rattle.laws.proofs.Values.{whole-value}
+use Rattle.laws.proofs.Values.{whole-value, values-compare}
 use Rattle.image.specs.declared.layout.Layout.{Layout}
 use Rattle.image.specs.declared.chroma.Chroma.{Chroma}
 use Rattle.image.specs.Picture.{Picture}
@@ -27,25 +25,6 @@ use Rattle.guided.specs.Events.{threeN, nine, Within}
 whole-mono : (m n : ℕ) → m ≤ n → T (le (f32 m) (f32 n))
 unfolding ofInt
 whole-mono m n h = round-mono binary32 m 1 n 1 (lit< tt) (lit< tt) (mul-le-mul-right 1 h)
-
-cross : (m u a d e : ℕ) → m * u * 1 ≡ a * e → m * u * d ≡ a * (e * d)
-cross m u a d e p = rw (← mul-assoc a e d, ← p, mul-one (m * u)) refl
-
--- two floats that are whole numbers compare as these do
-values-compare : (x y : Float) (a b : ℕ) → HasValue x false a 1 → HasValue y false b 1 → (T (lt x y) → a < b) × (T (not (lt x y)) → b ≤ a)
-unfolding lt
-values-compare nan y a b p q = absurd p
-values-compare (inf s) y a b p q = absurd p
-values-compare (fin true m e) y a b p q = absurd (true≢false (p .0))
-values-compare (fin false m e) nan a b p q = absurd q
-values-compare (fin false m e) (inf t) a b p q = absurd q
-values-compare (fin false m e) (fin true n d) a b p q = absurd (true≢false (q .0))
-values-compare (fin false m e) (fin false n d) a b p q =
-    let l : m * up e * down d ≡ a * (down e * down d) = cross m (up e) a (down d) (down e) (p .1) in
-    let r : n * up d * down e ≡ b * (down e * down d) = cross n (up d) b (down e) (down d) (q .1) ∙ ap (λ (z : ℕ). b * z) (mul-comm (down d) (down e)) in (
-      λ t. lt-of-mul-lt-mul-right (down e * down d) (subst₂ (λ (x y : ℕ). x < y) l r (ltb→lt (m * up e * down d) (n * up d * down e) t)),
-      λ t. le-of-mul-le-mul-right (subst₂ (λ (x y : ℕ). y ≤ x) l r (nltb→le (m * up e * down d) (n * up d * down e) t)) (mul-pos (down-pos e) (down-pos d)),
-    )
 
 whole-compare : (a b : ℕ) → a ≤ 65535 → b ≤ 65535 → (T (lt (f32 a) (f32 b)) → a < b) × (T (not (lt (f32 a) (f32 b))) → b ≤ a)
 whole-compare a b h k = values-compare (f32 a) (f32 b) a b (whole-value a (omega arith)) (whole-value b (omega arith))

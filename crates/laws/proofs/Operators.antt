@@ -4,16 +4,15 @@
 use mathlib.Core.Path.{_≡_, refl, sym, ap, _∙_}
 use mathlib.Core.Bool.{Bool, true, false, cond, true≢false}
 use Prim.Native.Nat.{ℕ, _+_, _-_, _*_, _≤_, _<_}
-use native.Mathlib.Nat.{lt-of-not-le, not-le-of-lt, mul-assoc, mul-comm, mul-mul-mul-comm, mul-pos, mul-sub, mul-le-mul-right, mul-lt-mul-of-pos-right}
+use native.Mathlib.Nat.{mul-assoc, mul-comm, mul-mul-mul-comm, mul-pos, mul-sub, mul-le-mul-right, mul-lt-mul-of-pos-right}
 use native.Mathlib.Omega.{arith}
 use lib.Dec.{ltb, lt→ltb}
 use lib.Ieee.{Float, nan, inf, fin, Format, up, down, unlike, round, neg, sum, add, sub, mul}
 use lib.Ieee.Bits.{is-true}
 use lib.Ieee.Fits.{down-pos}
 use lib.Ieee.Exact.{HasValue}
-use lib.Ieee.Order.{transfer}
 use lib.Ieee.Scale.{round-same}
-use Rattle.laws.proofs.Values.{sub-ge}
+use Rattle.laws.proofs.Values.{both-finite, cross-less, sub-ge}
 
 -- (a - b) / c, written with every part c times as large
 sub-cancel : (a b c : ℕ) → (a * c - b * c) * c ≡ (a - b) * (c * c)
@@ -36,14 +35,9 @@ add-down f x (fin true n d) a b c z p q h = sub-up f x (fin false n d) a b c z p
 -- a sum of two that are not negative
 pub add-up : (f : Format) (x y : Float) (a b c : ℕ) → 0 < c → HasValue x false a c → HasValue y false b c → add f x y ≡ round f false (a + b) c
 unfolding add sum
-add-up f nan y a b c z p q = absurd p
-add-up f (inf s) y a b c z p q = absurd p
-add-up f (fin true m e) y a b c z p q = absurd (true≢false (p .0))
-add-up f (fin false m e) nan a b c z p q = absurd q
-add-up f (fin false m e) (inf t) a b c z p q = absurd q
-add-up f (fin false m e) (fin true n d) a b c z p q = absurd (true≢false (q .0))
-add-up f (fin false m e) (fin false n d) a b c z p q =
-    round-same f false (m * up e * down d + n * up d * down e) (down e * down d) (a + b) c (mul-pos (down-pos e) (down-pos d)) z (go (m * up e) (n * up d) (down e) (down d) (p .1) (q .1))
+add-up f x y a b c z p q =
+    both-finite (λ x y. add f x y ≡ round f false (a + b) c) x y a c b c p q (λ m e n d u v.
+    round-same f false (m * up e * down d + n * up d * down e) (down e * down d) (a + b) c (mul-pos (down-pos e) (down-pos d)) z (go (m * up e) (n * up d) (down e) (down d) u v))
   where
     go : (X Y u v : ℕ) → X * c ≡ a * u → Y * c ≡ b * v → (X * v + Y * u) * c ≡ (a + b) * (u * v)
     go X Y u v p q = omega (arith, ap (λ (z : ℕ). z * v) p, ap (λ (z : ℕ). z * u) q)
@@ -51,23 +45,13 @@ add-up f (fin false m e) (fin false n d) a b c z p q =
 -- a difference that is negative
 pub sub-down : (f : Format) (x y : Float) (a b c : ℕ) → 0 < c → HasValue x false a c → HasValue y false b c → a < b → sub f x y ≡ round f true (b - a) c
 unfolding sub add neg sum
-sub-down f nan y a b c z p q h = absurd p
-sub-down f (inf s) y a b c z p q h = absurd p
-sub-down f (fin true m e) y a b c z p q h = absurd (true≢false (p .0))
-sub-down f (fin false m e) nan a b c z p q h = absurd q
-sub-down f (fin false m e) (inf t) a b c z p q h = absurd q
-sub-down f (fin false m e) (fin true n d) a b c z p q h = absurd (true≢false (q .0))
-sub-down f (fin false m e) (fin false n d) a b c z p q h =
+sub-down f x y a b c z p q h =
+    both-finite (λ x y. sub f x y ≡ round f true (b - a) c) x y a c b c p q (λ m e n d u v.
     let A = m * up e * down d in
     let B = n * up d * down e in
-    ap (λ (t : Bool). cond t (round f true (B - A) (down e * down d)) (round f false (A - B) (down e * down d))) (is-true (ltb A B) (lt→ltb A B less))
-    ∙ round-same f true (B - A) (down e * down d) (b - a) c (mul-pos (down-pos e) (down-pos d)) z (go (m * up e) (n * up d) (down e) (down d) (p .1) (q .1))
+    ap (λ (t : Bool). cond t (round f true (B - A) (down e * down d)) (round f false (A - B) (down e * down d))) (is-true (ltb A B) (lt→ltb A B (cross-less (m * up e) (n * up d) (down e) (down d) a c b c (down-pos e) (down-pos d) u v (mul-lt-mul-of-pos-right h z))))
+    ∙ round-same f true (B - A) (down e * down d) (b - a) c (mul-pos (down-pos e) (down-pos d)) z (go (m * up e) (n * up d) (down e) (down d) u v))
   where
-    less : m * up e * down d < n * up d * down e
-    less =
-        lt-of-not-le (λ (g : n * up d * down e ≤ m * up e * down d).
-        not-le-of-lt (mul-lt-mul-of-pos-right h z) (transfer b a c c (n * up d) (m * up e) (down d) (down e) (down-pos d) (down-pos e) (sym (q .1)) (sym (p .1)) g))
-
     go : (X Y u v : ℕ) → X * c ≡ a * u → Y * c ≡ b * v → (Y * u - X * v) * c ≡ (b - a) * (u * v)
     go X Y u v p q =
         let l : c * (X * v) ≡ u * v * a = omega (arith, ap (λ (z : ℕ). z * v) p) in

@@ -2,7 +2,7 @@
 -- `closest-half` puts it within half a step, and `step-small`, the hard part, bounds the step by the number's digits. The order is the
 -- library's `round-mono`, read back as fractions by `values-le`.
 use mathlib.Core.Path.{_≡_, refl, sym, ap, _∙_, subst}
-use mathlib.Core.Bool.{Bool, true, false, true≢false}
+use mathlib.Core.Bool.{Bool, false}
 use Prim.Native.Nat.{ℕ, zero, suc, _+_, _-_, _*_, _/_, _^_, _≤_, _<_}
 use native.Mathlib.Nat.{le-trans, le-of-eq, lt-of-le-of-lt, mul-one, one-mul, mul-assoc, mul-pos, mul-le-mul-right, le-of-mul-le-mul-right, eq-of-mul-eq-mul-right, div-mul-le-self}
 use native.Mathlib.Omega.{arith}
@@ -18,7 +18,7 @@ use lib.Ieee.Order.{drop, kept, transfer, round-mono}
 use lib.Ieee.Scale.{grid}
 use Rattle.laws.proofs.Halves.{Half, closest-half}
 use Rattle.laws.proofs.Order.{le-cross}
-use Rattle.laws.proofs.Values.{fits-says, divides}
+use Rattle.laws.proofs.Values.{both-finite, fits-says, divides}
 
 -- ---- how far above R / C its rounding can lie: 2 ^ -24 of it, and half a unit
 
@@ -59,14 +59,9 @@ round-value s R C h =
 
 -- the order of two floats that are not negative, by their values
 pub values-le : (x y : Float) (a c b d : ℕ) → HasValue x false a c → HasValue y false b d → T (le x y) → a * d ≤ b * c
-values-le nan y a c b d p q t = absurd p
-values-le (inf s) y a c b d p q t = absurd p
-values-le (fin true m e) y a c b d p q t = absurd (true≢false (p .0))
-values-le (fin false m e) nan a c b d p q t = absurd q
-values-le (fin false m e) (inf s) a c b d p q t = absurd q
-values-le (fin false m e) (fin true n g) a c b d p q t = absurd (true≢false (q .0))
-values-le (fin false m e) (fin false n g) a c b d p q t =
-    transfer a b c d (m * up e) (n * up g) (down e) (down g) (down-pos e) (down-pos g) (sym (p .1)) (sym (q .1)) (le-cross m e n g t)
+values-le x y a c b d p q t =
+    both-finite (λ x y. T (le x y) → a * d ≤ b * c) x y a c b d p q (λ m e n g u v t.
+    transfer a b c d (m * up e) (n * up g) (down e) (down g) (down-pos e) (down-pos g) (sym u) (sym v) (le-cross m e n g t)) t
 
 -- X units are a number that rounding keeps
 pub record Kept (X : ℕ) : Type 0 where

@@ -1,15 +1,16 @@
--- The value of a float as a fraction: whole numbers, differences, and roundings that are exact.
+-- The value of a float as a fraction: whole numbers, their order, differences, and roundings that are exact.
+-- Two floats with values that are not negative are finite with no minus sign, by `both-finite`, so that a law of two has one case to look at.
 -- The differences are the hard part: the definition subtracts over the floats' own denominators, and `same-diff` shows that fraction equal
 -- to the one of the given values, so that `round-same` rounds both alike.
-use mathlib.Core.Path.{_≡_, refl, sym, ap, _∙_}
+use mathlib.Core.Path.{_≡_, refl, sym, ap, _∙_, subst₂}
 use Prim.Native.Nat.{ℕ, zero, suc, _-_, _*_, _%_, _^_, _≤_, _<_}
-use native.Mathlib.Nat.{le-trans, le-of-eq, le-antisymm, lt-of-lt-of-le, lt-of-not-le, not-le-of-lt, lt-irrefl, le-of-suc-le-suc, mul-one, one-mul, mul-comm, mul-assoc, mul-right-comm, mul-left-comm, mul-pos, mul-sub, mul-le-mul-right, mul-le-mul-left, mul-lt-mul-of-pos-right, eq-of-mul-eq-mul-right}
+use native.Mathlib.Nat.{le-trans, le-of-eq, le-antisymm, lt-of-lt-of-le, lt-of-not-le, not-le-of-lt, lt-irrefl, lt-of-mul-lt-mul-right, le-of-mul-le-mul-right, le-of-suc-le-suc, mul-one, one-mul, mul-comm, mul-assoc, mul-right-comm, mul-left-comm, mul-pos, mul-sub, mul-le-mul-right, mul-le-mul-left, mul-lt-mul-of-pos-right, eq-of-mul-eq-mul-right}
 use native.Mathlib.Omega.{arith}
 use mathlib.Core.Bool.{Bool, true, false, not, _&&_, cond, true≢false}
 use lib.IntN.{ℤ, pos, negsuc}
-use lib.Dec.{T, ltb, leb, eqb, ltb→lt, lt→ltb, leb→le, le→leb, eqb→eq, lit≤, lit<}
+use lib.Dec.{T, ltb, leb, eqb, ltb→lt, nltb→le, lt→ltb, leb→le, le→leb, eqb→eq, lit≤, lit<}
 use lib.Pow.{pow-add, pow-pos, pow-mono, pow-lt}
-use lib.Ieee.{Float, nan, inf, fin, Format, binary32, up, down, size, round, neg, sum, add, sub, fits, isNan, inFloat, ofInt}
+use lib.Ieee.{Float, nan, inf, fin, Format, binary32, up, down, size, round, neg, sum, add, sub, lt, fits, isNan, inFloat, ofInt}
 use lib.Ieee.Digits.{size-lt, size-le, back}
 use lib.Ieee.Fits.{up-pos, down-pos, and-l, and-r}
 use lib.Ieee.Bits.{is-true}
@@ -37,12 +38,37 @@ value-no-nan nan s a c v = absurd v
 value-no-nan (inf t) s a c v = absurd v
 value-no-nan (fin t m e) s a c v = tt
 
+-- what holds of two finite floats without a minus sign, whatever their digits, holds of two that have values which are not negative
+pub both-finite : (P : Float → Float → Type 0) (x y : Float) (a c b d : ℕ) → HasValue x false a c → HasValue y false b d
+    → ((m : ℕ) (e : ℤ) (n : ℕ) (g : ℤ) → m * up e * c ≡ a * down e → n * up g * d ≡ b * down g → P (fin false m e) (fin false n g)) → P x y
+both-finite P nan y a c b d p q k = absurd p
+both-finite P (inf s) y a c b d p q k = absurd p
+both-finite P (fin true m e) y a c b d p q k = absurd (true≢false (p .0))
+both-finite P (fin false m e) nan a c b d p q k = absurd q
+both-finite P (fin false m e) (inf s) a c b d p q k = absurd q
+both-finite P (fin false m e) (fin true n g) a c b d p q k = absurd (true≢false (q .0))
+both-finite P (fin false m e) (fin false n g) a c b d p q k = k m e n g (p .1) (q .1)
+
 -- a value of w * L / L is the whole number w
 pub unscale : (x : Float) (s : Bool) (w L : ℕ) → 0 < L → HasValue x s (w * L) L → HasValue x s w 1
 unscale nan s w L p v = v
 unscale (inf t) s w L p v = v
 unscale (fin t m e) s w L p v =
     (v .0, mul-one (m * up e) ∙ eq-of-mul-eq-mul-right L p (m * up e) (w * down e) (v .1 ∙ mul-right-comm w L (down e)))
+
+-- two floats that are whole numbers compare as these do
+pub values-compare : (x y : Float) (a b : ℕ) → HasValue x false a 1 → HasValue y false b 1 → (T (lt x y) → a < b) × (T (not (lt x y)) → b ≤ a)
+unfolding lt
+values-compare x y a b p q =
+    both-finite (λ x y. (T (lt x y) → a < b) × (T (not (lt x y)) → b ≤ a)) x y a 1 b 1 p q (λ m e n d u v.
+    let l : m * up e * down d ≡ a * (down e * down d) = cross m (up e) a (down d) (down e) u in
+    let r : n * up d * down e ≡ b * (down e * down d) = cross n (up d) b (down e) (down d) v ∙ ap (λ (z : ℕ). b * z) (mul-comm (down d) (down e)) in (
+      λ t. lt-of-mul-lt-mul-right (down e * down d) (subst₂ (λ (x y : ℕ). x < y) l r (ltb→lt (m * up e * down d) (n * up d * down e) t)),
+      λ t. le-of-mul-le-mul-right (subst₂ (λ (x y : ℕ). y ≤ x) l r (nltb→le (m * up e * down d) (n * up d * down e) t)) (mul-pos (down-pos e) (down-pos d)),
+    ))
+  where
+    cross : (m u a d e : ℕ) → m * u * 1 ≡ a * e → m * u * d ≡ a * (e * d)
+    cross m u a d e p = rw (← mul-assoc a e d, ← p, mul-one (m * u)) refl
 
 -- ---- how many digits
 
@@ -78,34 +104,25 @@ same-diff X dx Y dy a c b c' p q =
 
 -- a / c - b / c', rounded once, where it is not negative
 pub sub-ge : (f : Format) (x y : Float) (a c b c' : ℕ) → 0 < c → 0 < c' → HasValue x false a c → HasValue y false b c' → b * c ≤ a * c' → sub f x y ≡ round f false (a * c' - b * c) (c * c')
-sub-ge f nan y a c b c' C C' p q h = absurd p
-sub-ge f (inf s) y a c b c' C C' p q h = absurd p
-sub-ge f (fin true m e) y a c b c' C C' p q h = absurd (true≢false (p .0))
-sub-ge f (fin false m e) nan a c b c' C C' p q h = absurd q
-sub-ge f (fin false m e) (inf t) a c b c' C C' p q h = absurd q
-sub-ge f (fin false m e) (fin true n d) a c b c' C C' p q h = absurd (true≢false (q .0))
-sub-ge f (fin false m e) (fin false n d) a c b c' C C' p q h =
+sub-ge f x y a c b c' C C' p q h =
+    both-finite (λ x y. sub f x y ≡ round f false (a * c' - b * c) (c * c')) x y a c b c' p q (λ m e n d u v.
     opened f m e n d
-    ∙ pick-ge f (m * up e * down d) (n * up d * down e) (down e * down d) (transfer (n * up d) (m * up e) (down d) (down e) b a c' c C' C (q .1) (p .1) h)
+    ∙ pick-ge f (m * up e * down d) (n * up d * down e) (down e * down d) (transfer (n * up d) (m * up e) (down d) (down e) b a c' c C' C v u h)
     ∙ round-same f false (m * up e * down d - n * up d * down e) (down e * down d) (a * c' - b * c) (c * c') (mul-pos (down-pos e) (down-pos d)) (mul-pos C C')
-    (same-diff (m * up e) (down e) (n * up d) (down d) a c b c' (p .1) (q .1))
+    (same-diff (m * up e) (down e) (n * up d) (down d) a c b c' u v))
 
-flip : (x y dx dy a c b c' : ℕ) → 0 < dx → 0 < dy → x * c ≡ a * dx → y * c' ≡ b * dy → a * c' < b * c → x * dy < y * dx
-flip x y dx dy a c b c' D D' p q h = lt-of-not-le (λ (g : y * dx ≤ x * dy). not-le-of-lt h (transfer b a c' c y x dy dx D' D (sym q) (sym p) g))
+-- x / dx is a / c, less than b / c', which is y / dy
+pub cross-less : (x y dx dy a c b c' : ℕ) → 0 < dx → 0 < dy → x * c ≡ a * dx → y * c' ≡ b * dy → a * c' < b * c → x * dy < y * dx
+cross-less x y dx dy a c b c' D D' p q h = lt-of-not-le (λ (g : y * dx ≤ x * dy). not-le-of-lt h (transfer b a c' c y x dy dx D' D (sym q) (sym p) g))
 
 -- and where it is negative, the negative of some rounded fraction
 pub sub-lt : (f : Format) (x y : Float) (a c b c' : ℕ) → HasValue x false a c → HasValue y false b c' → a * c' < b * c → (n : ℕ) × (d : ℕ) × (sub f x y ≡ round f true n d)
-sub-lt f nan y a c b c' p q h = absurd p
-sub-lt f (inf s) y a c b c' p q h = absurd p
-sub-lt f (fin true m e) y a c b c' p q h = absurd (true≢false (p .0))
-sub-lt f (fin false m e) nan a c b c' p q h = absurd q
-sub-lt f (fin false m e) (inf t) a c b c' p q h = absurd q
-sub-lt f (fin false m e) (fin true n d) a c b c' p q h = absurd (true≢false (q .0))
-sub-lt f (fin false m e) (fin false n d) a c b c' p q h = (
-  n * up d * down e - m * up e * down d,
-  down e * down d,
-  opened f m e n d ∙ pick-lt f (m * up e * down d) (n * up d * down e) (down e * down d) (flip (m * up e) (n * up d) (down e) (down d) a c b c' (down-pos e) (down-pos d) (p .1) (q .1) h),
-)
+sub-lt f x y a c b c' p q h =
+    both-finite (λ x y. (n : ℕ) × (d : ℕ) × (sub f x y ≡ round f true n d)) x y a c b c' p q (λ m e n d u v. (
+      n * up d * down e - m * up e * down d,
+      down e * down d,
+      opened f m e n d ∙ pick-lt f (m * up e * down d) (n * up d * down e) (down e * down d) (cross-less (m * up e) (n * up d) (down e) (down d) a c b c' (down-pos e) (down-pos d) u v h),
+    ))
 
 -- ---- what it takes to be an f32, taken apart
 
