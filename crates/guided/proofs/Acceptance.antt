@@ -4,7 +4,7 @@
 use mathlib.Core.Path.{_≡_, refl, sym, _∙_}
 use mathlib.Core.Logic.{_⊎_, inl, inr}
 use mathlib.Core.Bool.{Bool, true, false, _&&_, _||_, not}
-use mathlib.Core.List.{List, [], _∷_}
+use mathlib.Core.List.{List}
 use Prim.Native.Nat.{ℕ, _≤_, _<_}
 use native.Mathlib.Omega.{arith}
 use lib.Dec.{T, leb, ltb, eqb}
@@ -86,7 +86,7 @@ pub record OpenHanded (o : OpenCall) : Type 0 where
 pub open-handed : (o : OpenCall) → Failed (openTests o) → OpenHanded o
 unfolding openTests
 open-handed o h =
-    let f = failed-both (layoutTests false (o .layout)) ((badPlanes (o .layout) (o .planes), 7) ∷ (ltb (length (o .scratch)) (scratchNeed (o .layout)), 9) ∷ []) h in
+    let f = failed-both (layoutTests false (o .layout)) _ h in
     record { layout = f .0; planes = f .1 .0; room = ltb-false (length (o .scratch)) (scratchNeed (o .layout)) (f .1 .1 .0) }
 
 pub record SeekHanded (k : SeekCall) : Type 0 where

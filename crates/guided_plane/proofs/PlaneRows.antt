@@ -2,16 +2,15 @@
 use mathlib.Core.Path.{_≡_, refl, ap, _∙_}
 use mathlib.Core.Logic.{inl}
 use mathlib.Core.Bool.{false}
-use mathlib.Core.List.{List, [], _∷_, _++_}
+use mathlib.Core.List.{List, [], _∷_}
 use Prim.Native.Nat.{ℕ, _+_, _*_, _≤_, _<_}
 use native.Mathlib.Omega.{arith}
-use lib.Dec.{ltb}
 use lib.ListN.{length}
 use lib.Ieee.{Float}
 use borrow.Author.Tests.{ltb-false}
 use Rattle.laws.specs.declared.answers.Answer.the-variants.{Accepted}
 use Rattle.laws.specs.Lists.{put}
-use Rattle.laws.specs.Refusals.{Test, first}
+use Rattle.laws.specs.Refusals.{first}
 use Rattle.laws.proofs.Lists.{put-same}
 use Rattle.laws.proofs.Refusals.{accepted-failed, failed-both}
 use Rattle.image.specs.declared.chroma.Components.the-variants.{CbAlone}
@@ -47,7 +46,6 @@ stored-is p s y at before after out w L Y =
 pub ready : (l : Layout) (y c : Plane) (space room : ℕ) → first (guidedTests l y c space room) ≡ Accepted → Lent l (planesWith y c) CbAlone × ((scratchNeed l ≤ space) × (l .w * l .h ≤ room))
 unfolding guidedTests shortPair
 ready l y c space room e =
-    let rest : List Test = (shortPair l y c, 7) ∷ (ltb space (scratchNeed l), 9) ∷ (ltb room (l .w * l .h), 10) ∷ [] in
-    let f = failed-both (layoutTests false l) rest (accepted-failed (layoutTests false l ++ rest) e) in
+    let f = failed-both (layoutTests false l) _ (accepted-failed (guidedTests l y c space room) e) in
     let n = neither (shortPlane l (l .w) (l .h) y) (shortPlane l (l .cw) (l .ch) c) (f .1 .0) in
     (record { sound = sound false l (f .0); luma = n .0; cb = n .1; cr = λ _. n .1 }, (ltb-false space (scratchNeed l) (f .1 .1 .0), ltb-false room (l .w * l .h) (f .1 .1 .1 .0)))

@@ -20,7 +20,8 @@ pub neither : (a b : Bool) → (a || b) ≡ false → (a ≡ false) × (b ≡ fa
 neither true b e = let z : _≡_ {A = ℕ} 0 1 = cc in absurd (omega arith)
 neither false b e = (refl, e)
 
-within : (lo hi x : ℕ) → outsideOf lo hi x ≡ false → (lo ≤ x) × (x ≤ hi)
+-- a number that passes lies between the limits
+pub within : (lo hi x : ℕ) → outsideOf lo hi x ≡ false → (lo ≤ x) × (x ≤ hi)
 within lo hi x e = let p = neither (ltb x lo) (ltb hi x) e in (ltb-false x lo (p .0), ltb-false hi x (p .1))
 
 most-small : (b m : ℕ) → m ≤ mostOf b → m ≤ 65535

@@ -1,11 +1,11 @@
 -- Laws of refusal 7's test: the steps by which the code comes to it, and where the samples of a plane that passes stand.
 -- `same-test` of laws carries the first part: two comparisons are equal where each side's truth and falsehood give the other's; the rest is arithmetic.
-use mathlib.Core.Path.{_≡_, refl, sym}
-use mathlib.Core.Bool.{Bool, true, false}
-use Prim.Native.Nat.{ℕ, _+_, _-_, _*_, _/_, _≤_, _<_}
+use mathlib.Core.Path.{_≡_, refl}
+use mathlib.Core.Bool.{true, false}
+use Prim.Native.Nat.{ℕ, _+_, _-_, _*_, _≤_, _<_}
 use native.Mathlib.Omega.{arith}
 use lib.Dec.{ltb}
-use borrow.Author.Tests.{lt-ltb, le-ltb, ltb-true, ltb-false}
+use borrow.Author.Tests.{lt-ltb, ltb-false}
 use Rattle.laws.proofs.Products.{same-test}
 use Rattle.laws.proofs.Rows.{row-fits, row-begins}
 use Rattle.image.specs.Tests.{badPlane}

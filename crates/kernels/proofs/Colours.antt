@@ -11,7 +11,7 @@ use Rattle.laws.specs.declared.answers.Answer.the-variants.{Accepted}
 use Rattle.laws.specs.Refusals.{first}
 use Rattle.laws.proofs.Refusals.{accepted-failed}
 use Rattle.laws.specs.Numbers.{outsideOf}
-use Rattle.image.proofs.Layouts.{neither}
+use Rattle.image.proofs.Layouts.{neither, within}
 use Rattle.kernels.specs.Kernels.{redOffset, blueOffset, exact255, exactAt, fixedRed, fixedBlue, fixed255}
 use Rattle.kernels.specs.Inner.Kernels.{rgb}
 use Rattle.kernels.specs.Pixels.{exactTests, fixedTests}
@@ -43,8 +43,8 @@ exact-passed d y cb cr e =
     let p = neither (ltb 65535 y) (ltb 16776960 cb || (ltb 16776960 cr || outsideOf 1 65535 d)) n in
     let q = neither (ltb 16776960 cb) (ltb 16776960 cr || outsideOf 1 65535 d) (p .1) in
     let r = neither (ltb 16776960 cr) (outsideOf 1 65535 d) (q .1) in
-    let s = neither (ltb d 1) (ltb 65535 d) (r .1) in
-    (ltb-false _ _ (p .0), ltb-false _ _ (q .0), ltb-false _ _ (r .0), ltb-false _ _ (s .0), ltb-false _ _ (s .1))
+    let s = within 1 65535 d (r .1) in
+    (ltb-false _ _ (p .0), ltb-false _ _ (q .0), ltb-false _ _ (r .0), s .0, s .1)
 
 pub fixed-passed : (y cb cr : ℕ) → first (fixedTests y cb cr) ≡ Accepted → (y ≤ 65535) × (cb ≤ 65535) × (cr ≤ 65535)
 unfolding fixedTests

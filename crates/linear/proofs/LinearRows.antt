@@ -2,8 +2,7 @@
 -- tap's cells are among them. `Scratched` is the invariant of a plane's loop, and `ready` what an accepted call may rely on.
 use mathlib.Core.Path.{_≡_, refl, ap, _∙_}
 use mathlib.Core.Bool.{false}
-use mathlib.Core.List.{List, [], _∷_, _++_}
-use lib.Dec.{ltb}
+use mathlib.Core.List.{List}
 use borrow.Author.Tests.{ltb-false}
 use Prim.Native.Nat.{ℕ, _+_, _*_, _≤_, _<_}
 use native.Mathlib.Numerals.{add-one}
@@ -14,11 +13,10 @@ use Rattle.laws.specs.Lists.{put}
 use Rattle.laws.proofs.Lists.{put-same, put-inside, length-put}
 use Rattle.image.specs.declared.layout.Layout.{Layout}
 use Rattle.laws.specs.declared.answers.Answer.the-variants.{Accepted}
-use Rattle.laws.specs.Refusals.{Test, first}
+use Rattle.laws.specs.Refusals.{first}
 use Rattle.laws.proofs.Refusals.{accepted-failed, failed-both}
 use Rattle.image.specs.Tests.{layoutTests}
 use Rattle.image.specs.Inner.Tests.{Sound}
-use Rattle.image.specs.Picture.{shortPlane}
 use Rattle.image.proofs.Layouts.{sound}
 use Rattle.image.specs.Samples.{Plane, sampleAt}
 use Rattle.fround.specs.Rounding.{roundClamped}
@@ -105,6 +103,5 @@ stored-is l p y at s out h = put-same out at (l .w) _ _ (λ x k. ap (roundClampe
 pub ready : (l : Layout) (p : Plane) (space room : ℕ) → first (linearTests l p space room) ≡ Accepted → Ready l p space × (l .w * l .h ≤ room)
 unfolding linearTests
 ready l p space room e =
-    let rest : List Test = (shortPlane l (l .cw) (l .ch) p, 7) ∷ (ltb space (scratchNeed l), 9) ∷ (ltb room (l .w * l .h), 10) ∷ [] in
-    let f = failed-both (layoutTests false l) rest (accepted-failed (layoutTests false l ++ rest) e) in
+    let f = failed-both (layoutTests false l) _ (accepted-failed (linearTests l p space room) e) in
     (record { sound = sound false l (f .0); plane = f .1 .0; scratch = ltb-false space (scratchNeed l) (f .1 .1 .0) }, ltb-false room (l .w * l .h) (f .1 .1 .1 .0))

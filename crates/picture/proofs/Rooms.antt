@@ -23,7 +23,7 @@ use Rattle.netpbm.specs.Inner.Reading.{readingOf}
 use Rattle.netpbm.proofs.Acceptance.{Taken, taken}
 use Rattle.picture.specs.declared.Outcome.the-variants.{Written}
 use Rattle.picture.specs.Picture.{ppmLength, pictureTests, pickOutcome, PictureGiven}
-use Rattle.picture.proofs.Fronts.{header-most}
+use Rattle.netpbm.proofs.Digits.{header-most}
 use Rattle.picture.proofs.Readings.{layout-sound, pixels-most}
 
 -- what an input that is read asks for
@@ -64,7 +64,7 @@ written-fits {input} {scratch} {out} {n} g = go (first (pictureTests input scrat
     go : (a : Answer) → first (pictureTests input scratch out) ≡ a → Written n ≡ pickOutcome a (ppmLength (inputLayout input)) → n ≤ length out
     go Accepted k e =
         let m : n ≡ ppmLength (inputLayout input) = cc in
-        let f = failed-both (readingTests input) ((ltb (length scratch) (scratchNeed (inputLayout input)), 9) ∷ (ltb (length out) (ppmLength (inputLayout input)), 10) ∷ []) (accepted-failed (pictureTests input scratch out) k) in
+        let f = failed-both (readingTests input) _ (accepted-failed (pictureTests input scratch out) k) in
         let b = ltb-false (length out) (ppmLength (inputLayout input)) (f .1 .1 .0) in
         omega arith
     go (Turned j) k e = let z : _≡_ {A = ℕ} 0 1 = cc in absurd (omega arith)
