@@ -82,16 +82,6 @@ fn byte_block(plane: &[u8], greatest: bool, u: usize, m: usize, d: usize) -> [u8
     block
 }
 
-// A block of bytes as floats, to s from `at` on.
-fn put_floats(s: &mut [f32], at: usize, block: [u8; Cells::BLOCK])
-    requires { ⌜ at + 16 ≤ length (now s) ⌝ }
-    ensures { λ _. ⌜ now (s .exit) ≡ put (now (s .entry)) at 16 (λ k. f32 (getD block k 0)) ⌝ }
-{
-    for k in 0..Cells::BLOCK {
-        s[at + k] = block[k] as f32;
-    }
-}
-
 // Inner: the extremes round n cells of one-byte samples, to s from dst on; the first cell's left neighbours begin at u, m and d. They are
 // made by blocks of sixteen, the last of which ends with the cells and overlaps the one before, and fewer than sixteen one by one.
 pub fn byte_run(
@@ -117,7 +107,7 @@ pub fn byte_run(
     while done < n {
         let i = laws::least(done, n - Cells::BLOCK);
         let block = byte_block(plane, greatest, u + i, m + i, d + i);
-        put_floats(s, dst + i, block);
+        lanes::put_bytes(s, dst + i, block);
         done = i + Cells::BLOCK;
     }
 }

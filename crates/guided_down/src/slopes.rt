@@ -3,7 +3,6 @@ ghost use mathlib.Core.Path.{_≡_};
 ghost use Prim.Native.Nat.{ℕ, _+_, _*_, _≤_, _<_};
 ghost use lib.Ieee.{nan};
 ghost use lib.ListN.{length, getD};
-ghost use Rattle.laws.specs.Lists.{put};
 ghost use Rattle.laws.specs.Floats.{f32, _⊕_, _⊗_, _⊘_};
 ghost use Rattle.guided.specs.Guided.{epsilon};
 ghost use Rattle.guided_down.specs.Inner.Slopes.{slopeBy, meanAt, slopeAt, slopeRun, Inside, AllInside, Clear, statsOf, slopeRow};
@@ -100,18 +99,6 @@ fn slope_eight(s: &[f32], t: Stats, eps: f32, i: usize) -> [f32; 8]
     v
 }
 
-// A block of eight, to s from `at` on.
-fn store_eight(s: &mut [f32], at: usize, v: [f32; 8])
-    requires { ⌜ at + 8 ≤ length (now s) ⌝ }
-    ensures { λ _. ⌜ now (s .exit) ≡ put (now (s .entry)) at 8 (λ k. getD v k nan) ⌝ }
-{
-    let mut k = 0;
-    while k < 8 {
-        s[at + k] = v[k];
-        k += 1;
-    }
-}
-
 // The slopes at the first n cells, to s from dst on: blocks of eight, the last of which ends with the cells and overlaps the one before;
 // fewer than eight one by one.
 fn slope_cells(s: &mut [f32], t: Stats, eps: f32, n: usize, dst: usize)
@@ -126,7 +113,7 @@ fn slope_cells(s: &mut [f32], t: Stats, eps: f32, n: usize, dst: usize)
     while done < n {
         let i = laws::least(done, n - 8);
         let v = slope_eight(s, t, eps, i);
-        store_eight(s, dst + i, v);
+        lanes::put_eight(s, dst + i, v);
         done = i + 8;
     }
 }

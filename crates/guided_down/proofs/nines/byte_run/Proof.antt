@@ -43,11 +43,11 @@ add-byte-block-3 c = omega arith
 byte-block-requires : tie.Need-byte-block-requires Inv-loop μ-loop
 byte-block-requires c κs = search needs
 
-add-put-floats : tie.Need-add-put-floats Inv-loop μ-loop
-add-put-floats c = omega arith
+add-put-bytes : tie.Need-add-put-bytes Inv-loop μ-loop
+add-put-bytes c = omega arith
 
-put-floats-requires : tie.Need-put-floats-requires Inv-loop μ-loop
-put-floats-requires c κs = search needs
+put-bytes-requires : tie.Need-put-bytes-requires Inv-loop μ-loop
+put-bytes-requires c κs = search needs
 
 add-done : tie.Need-add-done Inv-loop μ-loop
 add-done c = omega arith
@@ -60,7 +60,7 @@ loop-again c =
     let l = c .before .before .before .before .before .before .before in
     let a = l .before .before .before .before .args in
     let e = c .before .before .before .before .before .least .ensures in
-    (omega arith, block-more (nineFrom (a .greatest) 1 (a .plane .now)) (a .u) (a .m) (a .d) (l .loop .inv .1) _ _ (c .before .before .before .before .byte-block .result) (c .before .before .put-floats .ensures) (c .before .before .before .before .byte-block .ensures) (omega arith) (omega arith) (omega arith))
+    (omega arith, block-more (nineFrom (a .greatest) 1 (a .plane .now)) (a .u) (a .m) (a .d) (l .loop .inv .1) _ _ (c .before .before .before .before .byte-block .result) (c .before .before .put-bytes .ensures) (c .before .before .before .before .byte-block .ensures) (omega arith) (omega arith) (omega arith))
 
 same-length-2 : tie.Need-same-length-2 Inv-loop μ-loop
 same-length-2 c = c .before .loop .inv .1 .len
@@ -83,8 +83,8 @@ byte-run-spec =
     add-byte-block-2
     add-byte-block-3
     byte-block-requires
-    add-put-floats
-    put-floats-requires
+    add-put-bytes
+    put-bytes-requires
     add-done
     loop-less
     loop-again

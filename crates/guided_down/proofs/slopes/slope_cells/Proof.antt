@@ -33,11 +33,11 @@ least-requires c κs = search needs
 slope-eight-requires : tie.Need-slope-eight-requires Inv-loop μ-loop
 slope-eight-requires c κs = let e = c .before .least .ensures in all-less (c .before .before .before .before .before .before .pre .0) _ _ (omega arith) (omega arith)
 
-add-store-eight : tie.Need-add-store-eight Inv-loop μ-loop
-add-store-eight c = omega arith
+add-put-eight : tie.Need-add-put-eight Inv-loop μ-loop
+add-put-eight c = omega arith
 
-store-eight-requires : tie.Need-store-eight-requires Inv-loop μ-loop
-store-eight-requires c κs = search needs
+put-eight-requires : tie.Need-put-eight-requires Inv-loop μ-loop
+put-eight-requires c κs = search needs
 
 add-done : tie.Need-add-done Inv-loop μ-loop
 add-done c = omega arith
@@ -51,7 +51,7 @@ loop-again c =
     let q = l .before .before .before in
     let a = q .args in
     let e = c .before .before .before .before .before .before .least .ensures in
-    (omega arith, block-more (a .t) (a .eps) (a .dst) (a .n) (q .pre .1) (l .loop .inv .1) _ _ (c .before .before .before .before .slope-eight .result) (c .before .before .before .before .slope-eight .ensures) (c .before .before .store-eight .ensures) (omega arith) (omega arith) (omega arith) (omega arith) (omega arith))
+    (omega arith, block-more (a .t) (a .eps) (a .dst) (a .n) (q .pre .1) (l .loop .inv .1) _ _ (c .before .before .before .before .slope-eight .result) (c .before .before .before .before .slope-eight .ensures) (c .before .before .put-eight .ensures) (omega arith) (omega arith) (omega arith) (omega arith) (omega arith))
 
 same-length-2 : tie.Need-same-length-2 Inv-loop μ-loop
 same-length-2 c = c .before .loop .inv .1 .len
@@ -72,8 +72,8 @@ slope-cells-spec =
     loop-holds
     least-requires
     slope-eight-requires
-    add-store-eight
-    store-eight-requires
+    add-put-eight
+    put-eight-requires
     add-done
     loop-less
     loop-again
