@@ -25,7 +25,7 @@ pub fn column_at(layout: Layout, m: usize) -> usize
     requires { ⌜ Sound layout × (m < 5) ⌝ }
     ensures { λ r. ⌜ ColumnGiven layout m r ⌝ }
 {
-    Window::FRONT * layout.w + (Window::BUFFERS + m) * guided_window::pitch_of(layout.cw)
+    guided_window::buffer_at(layout, Window::BUFFERS + m)
 }
 
 // Inner: buffer n of the window, lerped down for picture row y into row of cells m.

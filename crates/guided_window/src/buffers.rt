@@ -3,7 +3,7 @@ ghost use mathlib.Core.Path.{_≡_};
 ghost use Prim.Native.Nat.{_≤_, _<_};
 ghost use Rattle.image.specs.Inner.Tests.{Sound};
 ghost use Rattle.guided.specs.Scratch.{pitch, firstOf};
-ghost use Rattle.guided_window.specs.Inner.Buffers.{SlotGiven, windowOf};
+ghost use Rattle.guided_window.specs.Inner.Buffers.{BufferGiven, SlotGiven, windowOf};
 use crate::neighbours::next;
 use crate::neighbours::prev;
 use image::Chroma;
@@ -58,9 +58,9 @@ impl ChromaBuffer {
     pub const GREATEST: usize = 5;
 }
 
-// Inner: how far apart row buffers of cw cells begin. Rows of 256 cells and more have 48 values between them, so that they don't fall on
+// How far apart row buffers of cw cells begin. Rows of 256 cells and more have 48 values between them, so that they don't fall on
 // the same lines of a cache.
-pub fn pitch_of(cw: usize) -> usize
+fn pitch_of(cw: usize) -> usize
     requires { ⌜ cw ≤ 8192 ⌝ }
     ensures { λ r. ⌜ r ≡ pitch cw ⌝ }
 {
@@ -77,12 +77,20 @@ pub fn first_of(k: Chroma) -> usize
     }
 }
 
+// Inner: where row buffer n begins in scratch: behind the window's stand five more, for the picture row at hand.
+pub fn buffer_at(layout: Layout, n: usize) -> usize
+    requires { ⌜ Sound layout × (n < 50) ⌝ }
+    ensures { λ x. ⌜ BufferGiven layout n x ⌝ }
+{
+    Window::FRONT * layout.w + n * pitch_of(layout.cw)
+}
+
 // Inner: where buffer n of chroma row r begins in scratch: the row lies in slot r mod 3.
 pub fn slot_at(layout: Layout, n: usize, r: usize) -> usize
     requires { ⌜ Sound layout × (n < 15) ⌝ }
     ensures { λ x. ⌜ SlotGiven layout n r x ⌝ }
 {
-    Window::FRONT * layout.w + (r % 3 * Window::SLOT + n) * pitch_of(layout.cw)
+    buffer_at(layout, r % 3 * Window::SLOT + n)
 }
 
 // Inner: where buffer n begins for chroma row j and the rows above and below it, edges repeated.

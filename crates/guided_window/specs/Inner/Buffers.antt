@@ -3,8 +3,13 @@ use mathlib.Core.Path.{_≡_}
 use Prim.Native.Nat.{ℕ, _+_, _-_, _≤_, min}
 use Rattle.image.specs.declared.layout.Layout.{Layout}
 use Rattle.image.specs.Scratch.{scratchNeed}
-use Rattle.guided.specs.Scratch.{slotAt}
+use Rattle.guided.specs.Scratch.{bufferAt, slotAt}
 use Rattle.guided_window.specs.declared.buffers.Window.{Window}
+
+-- what `buffer_at` promises: row buffer n, and that it ends within scratch
+pub record BufferGiven (l : Layout) (n at : ℕ) : Type 0 where
+  pub is : at ≡ bufferAt l n
+  pub fits : at + l .cw ≤ scratchNeed l
 
 -- what `slot_at` promises: buffer n of chroma row r, and that it ends within scratch
 pub record SlotGiven (l : Layout) (n r at : ℕ) : Type 0 where

@@ -1,48 +1,20 @@
-use Rattle.guided.proofs.Places.{slot-fits}
-use Rattle.guided.specs.Scratch.{bufferAt, slotAt}
-use Rattle.image.specs.Scratch.{scratchNeed}
-use mathlib.Core.Path.{ap}
-use Prim.Native.Nat.{ℕ, _+_, _*_, _%_, _≤_}
-use native.Mathlib.Omega.{arith}
 use borrow.Author.Needs.{needs}
+use Rattle.guided.specs.Scratch.{slotAt}
 use Rattle.guided_window.proofs.buffers.slot_at.Statement.{statement}
 use Rattle.guided_window.proofs.buffers.slot_at.Tie as tie
 
--- the buffer ends within scratch
-room : (c : tie.After-pitch-of) → 3 * c .before .before .args .layout .w + (c .before .before .args .r % 3 * 15 + c .before .before .args .n) * c .pitch-of .result + c .before .before .args .layout .cw ≤ 64 * c .before .before .args .layout .cw + 8 * c .before .before .args .layout .w
-unfolding slotAt bufferAt scratchNeed
-room c = let a = c .before .before .args in rw (c .pitch-of .ensures) (slot-fits (a .layout) (a .n) (a .r) (omega arith))
+mul-buffer-at : tie.Need-mul-buffer-at
+mul-buffer-at c = search needs
 
-mul-result : tie.Need-mul-result
-mul-result c = search needs
+add-buffer-at : tie.Need-add-buffer-at
+add-buffer-at c = search needs
 
-mul-result-2 : tie.Need-mul-result-2
-mul-result-2 c = search needs
-
-add-result : tie.Need-add-result
-add-result c = search needs
-
-pitch-of-requires : tie.Need-pitch-of-requires
-pitch-of-requires c κs = search needs
-
-mul-result-3 : tie.Need-mul-result-3
-mul-result-3 c = let h = room c in let o = c .before .before .pre .0 in omega arith
-
-add-result-2 : tie.Need-add-result-2
-add-result-2 c = let h = room c in let o = c .before .before .pre .0 in omega arith
+buffer-at-requires : tie.Need-buffer-at-requires
+buffer-at-requires c κs = search needs
 
 returns : tie.Need-returns
-unfolding slotAt bufferAt scratchNeed
-returns c = let a = c .before .before .args in record { is = ap (λ (p : ℕ). 3 * a .layout .w + (a .r % 3 * 15 + a .n) * p) (c .pitch-of .ensures); fits = room c }
+unfolding slotAt
+returns c = record { is = c .buffer-at .ensures .is; fits = c .buffer-at .ensures .fits }
 
 pub slot-at-spec : {M : Type 1} → statement M
-slot-at-spec =
-    tie.close
-    (tie.spec
-    mul-result
-    mul-result-2
-    add-result
-    pitch-of-requires
-    mul-result-3
-    add-result-2
-    returns)
+slot-at-spec = tie.close (tie.spec mul-buffer-at add-buffer-at buffer-at-requires returns)
