@@ -18,14 +18,7 @@ fn after_open(layout: Layout) -> Reader
 {
     let c = reader_state::fresh_counters(layout, 0);
     let geometry = reader_state::geometry_of(layout);
-    Reader {
-        geometry,
-        sample_bytes: layout.sample_bytes,
-        maxval: layout.maxval,
-        place: 0,
-        h_next: c.h_next,
-        f_next: c.f_next,
-    }
+    reader_state::reader_at(geometry, layout, 0, c)
 }
 
 // The lowest refusal of `open` that applies, whatever state it is handed. It writes nothing.

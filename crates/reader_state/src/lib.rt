@@ -1,4 +1,4 @@
-// The state of a reader of guided rows: how its geometry and its counters are made, and the test behind refusal 1, which turns away a
+// The state of a reader of guided rows: how its geometry, its counters and the state itself are made, and the test behind refusal 1, which turns away a
 // state that open, seek and row never leave. The definitions stand in guided's specs/Calls; open, seek and row themselves are reader's.
 mod phases;
 mod state;
@@ -8,4 +8,5 @@ pub use state::Counters;
 pub use state::bad_state;
 pub use state::done_counters;
 pub use state::fresh_counters;
+pub use state::reader_at;
 pub use state::reader_layout;

@@ -1,11 +1,12 @@
 // The reader's state: its counters, and the test behind refusal 1.
 ghost use mathlib.Core.Path.{_≡_};
 ghost use mathlib.Core.Bool.{_&&_};
-ghost use Prim.Native.Nat.{_≤_, _<_};
+ghost use Prim.Native.Nat.{_<_};
 ghost use lib.Dec.{eqb};
 ghost use Rattle.image.specs.Inner.Tests.{Sound};
-ghost use Rattle.guided.specs.Calls.{readerLayout, topOf, lastOf, freshH, freshF, doneH, doneF, badCounters, badState};
+ghost use Rattle.guided.specs.Calls.{readerLayout, readerAt, topOf, lastOf, freshH, freshF, doneH, doneF, badCounters, badState};
 use crate::phases::bad_phases;
+use guided::Geometry;
 use guided::Reader;
 use image::Layout;
 
@@ -82,6 +83,20 @@ pub fn done_counters(layout: Layout, y: usize) -> Counters
     Counters {
         h_next: laws::least(last + 2, layout.ch),
         f_next: last + 1,
+    }
+}
+
+// Inner: a layout's reader at row y with these counters, which is the state that open, seek and row leave.
+pub fn reader_at(geometry: Geometry, layout: Layout, y: usize, c: Counters) -> Reader
+    ensures { λ r. ⌜ r ≡ readerAt geometry layout y (c .«h_next») (c .«f_next») ⌝ }
+{
+    Reader {
+        geometry,
+        sample_bytes: layout.sample_bytes,
+        maxval: layout.maxval,
+        place: y,
+        h_next: c.h_next,
+        f_next: c.f_next,
     }
 }
 

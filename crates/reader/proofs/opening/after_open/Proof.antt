@@ -1,5 +1,6 @@
-use Rattle.guided.specs.Calls.{afterOpen, readerAt}
-use mathlib.Core.Path.{refl}
+use mathlib.Core.Path.{sym}
+use borrow.Author.Needs.{needs}
+use Rattle.guided.specs.Calls.{afterOpen}
 use Rattle.reader.proofs.opening.after_open.Statement.{statement}
 use Rattle.reader.proofs.opening.after_open.Tie as tie
 
@@ -9,9 +10,16 @@ fresh-counters-requires c κs = (c .pre, c .pre .h-some)
 geometry-of-requires : tie.Need-geometry-of-requires
 geometry-of-requires c κs = c .before .pre .rh-most
 
+reader-at-requires : tie.Need-reader-at-requires
+reader-at-requires c κs = search needs
+
 returns : tie.Need-returns
-unfolding afterOpen readerAt
-returns c = let f = c .before .fresh-counters .ensures in rw (c .geometry-of .ensures, f .0, f .1) refl
+unfolding afterOpen
+returns c =
+    let d = c .before .before in
+    rw (sym (c .before .geometry-of .ensures), sym (d .fresh-counters .ensures .0), sym (d .fresh-counters .ensures .1)) (c .reader-at .ensures)
 
 pub after-open-spec : {M : Type 1} → statement M
-after-open-spec = tie.close (tie.spec fresh-counters-requires geometry-of-requires returns)
+after-open-spec =
+    tie.close
+    (tie.spec fresh-counters-requires geometry-of-requires reader-at-requires returns)

@@ -1,6 +1,6 @@
-use Rattle.guided.specs.Calls.{readerLayout, afterSeek, readerAt}
-use mathlib.Core.Path.{refl}
+use mathlib.Core.Path.{sym}
 use borrow.Author.Needs.{needs}
+use Rattle.guided.specs.Calls.{readerLayout, afterSeek}
 use Rattle.reader.proofs.seeking.after_seek.Statement.{statement}
 use Rattle.reader.proofs.seeking.after_seek.Tie as tie
 
@@ -11,12 +11,16 @@ fresh-counters-requires : tie.Need-fresh-counters-requires
 unfolding readerLayout
 fresh-counters-requires c κs = let e = c .reader-layout .ensures in (rw e (c .before .pre .0), rw e (c .before .pre .1))
 
+reader-at-requires : tie.Need-reader-at-requires
+reader-at-requires c κs = search needs
+
 returns : tie.Need-returns
-unfolding afterSeek readerAt readerLayout
+unfolding afterSeek
 returns c =
-    let e = c .before .before .reader-layout .ensures in
-    let f = c .before .fresh-counters .ensures in
-    rw (f .0, f .1, e) refl
+    let d = c .before .before in
+    rw (sym (d .before .reader-layout .ensures), sym (d .fresh-counters .ensures .0), sym (d .fresh-counters .ensures .1)) (c .reader-at .ensures)
 
 pub after-seek-spec : {M : Type 1} → statement M
-after-seek-spec = tie.close (tie.spec reader-layout-requires fresh-counters-requires returns)
+after-seek-spec =
+    tie.close
+    (tie.spec reader-layout-requires fresh-counters-requires reader-at-requires returns)
