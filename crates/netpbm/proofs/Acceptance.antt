@@ -110,17 +110,24 @@ module _ (s : List ℕ) (a : first (readingTests s) ≡ Accepted) where
     cr-rows = rw (sym (same-sides .0), sym (same-sides .1)) (three .1 .1 .ends);
   }
 
--- what was read has all that `Taken` says
-pub taken : (s : List ℕ) (l : Layout) (y cb cr : ℕ) → readingOf s ≡ Read l y cb cr → Taken s l y cb cr
+-- ---- from what was read
+
+-- what the reading gives is what the definitions say of the input
+pub record ReadAccepted (s : List ℕ) (l : Layout) (y cb cr : ℕ) : Type 0 where
+  pub passed : first (readingTests s) ≡ Accepted
+  pub layout-is : l ≡ inputLayout s
+  pub y-is : y ≡ rowsAt s 0
+  pub cb-is : cb ≡ rowsAt s (cbAt s)
+  pub cr-is : cr ≡ rowsAt s (crAt s)
+
+pub read-accepted : (s : List ℕ) (l : Layout) (y cb cr : ℕ) → readingOf s ≡ Read l y cb cr → ReadAccepted s l y cb cr
 unfolding readingOf
-taken s l y cb cr e = go (first (readingTests s)) refl e
+read-accepted s l y cb cr e = go (first (readingTests s)) refl e
   where
-    go : (a : Answer) → first (readingTests s) ≡ a → pickReading a (Read (inputLayout s) (rowsAt s 0) (rowsAt s (cbAt s)) (rowsAt s (crAt s))) ≡ Read l y cb cr → Taken s l y cb cr
-    go Accepted k e =
-        let t = accepted-taken s k in
-        let a : inputLayout s ≡ l = cc in
-        let b : rowsAt s 0 ≡ y = cc in
-        let c : rowsAt s (cbAt s) ≡ cb = cc in
-        let d : rowsAt s (crAt s) ≡ cr = cc in
-        rw (sym a, sym b, sym c, sym d) t
+    go : (a : Answer) → first (readingTests s) ≡ a → pickReading a (Read (inputLayout s) (rowsAt s 0) (rowsAt s (cbAt s)) (rowsAt s (crAt s))) ≡ Read l y cb cr → ReadAccepted s l y cb cr
+    go Accepted k e = record { passed = k; layout-is = cc; y-is = cc; cb-is = cc; cr-is = cc }
     go (Turned n) k e = let z : _≡_ {A = ℕ} 0 1 = cc in absurd (omega arith)
+
+-- it has all that `Taken` says
+pub taken : (s : List ℕ) (l : Layout) (y cb cr : ℕ) → readingOf s ≡ Read l y cb cr → Taken s l y cb cr
+taken s l y cb cr e = let r = read-accepted s l y cb cr e in rw (r .layout-is, r .y-is, r .cb-is, r .cr-is) (accepted-taken s (r .passed))

@@ -11,7 +11,7 @@ use lib.Dec.{ltb}
 use lib.ListN.{length, getD, length-append}
 use borrow.Author.Tests.{ltb-true, ltb-false, lt-ltb, le-ltb}
 use Rattle.netpbm.specs.Bytes.{decimalOf}
-use Rattle.netpbm.specs.Lines.{digits, digitsOf}
+use Rattle.netpbm.specs.Lines.{digits, digitsOf, ppmHeader, refusalLine}
 
 module _ (n : ℕ) where
   pub one-digit : n < 10 → digitsOf n ≡ (48 + n) ∷ []
@@ -57,6 +57,16 @@ three-most n l = go (ltb n 10) (ltb n 100) (ltb-true n 10) (ltb-false n 10) (ltb
     go true u f f' g g' = rw (one-digit n (f refl)) (omega arith)
     go false true f f' g g' = rw (two-digits n (f' refl) (g refl)) (omega arith)
     go false false f f' g g' = rw (three-digits n (g' refl) l) (omega arith)
+
+-- ---- the lines fit
+
+pub header-most : (w h : ℕ) → w ≤ 128 → length (ppmHeader w h) ≤ 16
+unfolding ppmHeader
+header-most w h l = simp length-append (omega (arith, three-most w (omega arith), four-most h))
+
+pub refusal-most : (n : ℕ) → n < 1000 → length (refusalLine n) ≤ 12
+unfolding refusalLine
+refusal-most n l = simp length-append (omega (arith, three-most n l))
 
 -- ---- read back, the digits are the number
 

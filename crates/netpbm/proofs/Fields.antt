@@ -2,20 +2,18 @@
 -- The tests agree one by one (`held-tests`). The hard one is the last, for missing rows: sides that are held have another product, and
 -- `held-product` of Products says that it compares with what is left of the input as the real one does.
 use mathlib.Core.Path.{_≡_, refl, ap, _∙_}
-use mathlib.Core.Bool.{not}
-use mathlib.Core.List.{List, [], _∷_}
+use mathlib.Core.List.{List}
 use Prim.Native.Nat.{ℕ, _+_, _-_, _*_, max, _≤_, _<_}
 use native.Mathlib.Omega.{arith}
-use lib.Dec.{ltb, eqb}
 use lib.ListN.{length}
 use borrow.Author.Tests.{ltb-false, not-false}
 use Rattle.laws.specs.declared.answers.Answer.the-variants.{Accepted}
-use Rattle.laws.specs.Refusals.{Test, first}
+use Rattle.laws.specs.Refusals.{first}
 use Rattle.laws.proofs.Refusals.{accepted-failed}
 use Rattle.netpbm.specs.declared.pgm.Field.{Field}
 use Rattle.netpbm.specs.declared.pgm.Image.{Image}
 use Rattle.netpbm.specs.Bytes.{hasBlank, pastBlanks}
-use Rattle.netpbm.specs.Images.{hasMagic, hasNumber, fieldEnd, widthOf, widthEnd, heightOf, heightEnd, maxvalOf, maxvalEnd, rowsAt, imageEnd, imageTests}
+use Rattle.netpbm.specs.Images.{hasNumber, fieldEnd, widthOf, widthEnd, heightOf, heightEnd, maxvalOf, maxvalEnd, rowsAt, imageEnd, imageTests}
 use Rattle.netpbm.specs.Inner.Held.{held, fieldHeld, HeaderHeld, heldTests, imageHeld}
 use Rattle.netpbm.proofs.Runs.{blank-inside, blanks-most, digits-most}
 use Rattle.netpbm.proofs.Products.{kept, held-product, held-over, held-equal}

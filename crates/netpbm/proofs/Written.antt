@@ -1,6 +1,6 @@
--- Lines: a text put behind a line that holds another.
--- `line-more` carries every line that is written: one that holds t, written on by u, holds t ++ u. The one step is `push-line`, where the
--- byte that is set at the end takes the place of the first of the zeros that fill up the array.
+-- Lines: texts put one behind the other.
+-- `line-written` carries every line: texts written one behind the other from the empty line on are held as one. The one step is `push-line`,
+-- where the byte that is set at the end takes the place of the first of the zeros that fill up the array.
 use mathlib.Core.Path.{_≡_, refl, sym, ap, _∙_}
 use mathlib.Core.List.{List, [], _∷_, _++_, append-assoc, append-nil}
 use Prim.Native.Nat.{ℕ, suc, _+_, _-_, _≤_, _<_}
@@ -10,16 +10,20 @@ use lib.ListN.{length, getD, set, drop, replicate, length-append, drop-of-length
 use lib.Seq.{drop-cons, set-append-seam}
 use Rattle.netpbm.specs.declared.lines.Line.{Line}
 use Rattle.netpbm.specs.Texts.{lineOf}
-use Rattle.netpbm.specs.Inner.Texts.{pushed, written}
+use Rattle.netpbm.specs.Inner.Texts.{pushed, written, Put}
 
 pub pushed-len : (l : Line) (b : ℕ) → pushed l b .len ≡ l .len + 1
 unfolding pushed
 pushed-len l b = refl
 
--- the length of a line that holds a text
-pub line-len : (t : List ℕ) (l : Line) → l ≡ lineOf t → l .len ≡ length t
-unfolding lineOf
-line-len t l e = ap (λ (x : Line). x .len) e
+-- a text written behind a line, by its contract's record
+written-len : (l : Line) (t : List ℕ) → written l t .len ≡ l .len + length t
+unfolding written
+written-len l [] = omega arith
+written-len l (b ∷ t) = let h = written-len (pushed l b) t in let k = pushed-len l b in omega arith
+
+pub put-is : (l : Line) (t : List ℕ) (r : Line) → r ≡ written l t → Put l t r
+put-is l t r e = record { is = e; len = ap (λ (x : Line). x .len) e ∙ written-len l t }
 
 -- ---- the loop: what is left of the text, put behind the line, makes the whole
 
@@ -68,6 +72,12 @@ write-line t (b ∷ u) l =
     ∙ write-line (t ++ (b ∷ [])) u (omega arith)
     ∙ ap lineOf (append-assoc t (b ∷ []) u)
 
--- a line written behind one that holds t
-pub line-more : (t u : List ℕ) (l r : Line) → l ≡ lineOf t → r ≡ written l u → length t + length u ≤ 16 → r ≡ lineOf (t ++ u)
-line-more t u l r e f h = f ∙ ap (λ (x : Line). written x u) e ∙ write-line t u h
+-- texts written one behind the other are one text
+pub written-on : (l : Line) (t u : List ℕ) → written (written l t) u ≡ written l (t ++ u)
+unfolding written
+written-on l [] u = refl
+written-on l (b ∷ t) u = written-on (pushed l b) t u
+
+-- and from the empty line on they make the line that holds it
+pub line-written : (t : List ℕ) (l : Line) → length t ≤ 16 → l ≡ written (lineOf []) t → l ≡ lineOf t
+line-written t l h e = e ∙ write-line [] t (omega arith)

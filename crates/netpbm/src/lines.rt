@@ -6,7 +6,7 @@ ghost use mathlib.Core.List.{[]};
 ghost use lib.ListN.{length};
 ghost use Rattle.netpbm.specs.Lines.{digitsOf, ppmHeader, refusalLine};
 ghost use Rattle.netpbm.specs.Texts.{lineOf};
-ghost use Rattle.netpbm.specs.Inner.Texts.{pushed, written};
+ghost use Rattle.netpbm.specs.Inner.Texts.{pushed, Put};
 
 // A line to write: its bytes are the first `len` of `bytes`, and the others are 0, so that a text is held in one way only.
 pub struct Line {
@@ -23,7 +23,7 @@ impl Line {
 impl Line {
     // The empty line.
     fn new() -> Line
-        ensures { λ r. ⌜ r ≡ lineOf [] ⌝ }
+        ensures { λ r. ⌜ (r ≡ lineOf []) × (r .len ≡ 0) ⌝ }
     {
         Line {
             bytes: [0u8; Line::ROOM],
@@ -45,7 +45,7 @@ impl Line {
     // The line with the bytes of a text at its end.
     fn put(self, text: &[u8]) -> Line
         requires { ⌜ self .len + length (now text) ≤ 16 ⌝ }
-        ensures { λ r. ⌜ r ≡ written self (now (text .entry)) ⌝ }
+        ensures { λ r. ⌜ Put self (now (text .entry)) r ⌝ }
     {
         let mut line = self;
         for i in 0..text.len() {
@@ -66,7 +66,7 @@ impl Line {
     fn put_number(self, n: usize) -> Line
         requires { ⌜ n < 10000 ⌝ }
         requires { ⌜ self .len + length (digitsOf n) ≤ 16 ⌝ }
-        ensures { λ r. ⌜ r ≡ written self (digitsOf n) ⌝ }
+        ensures { λ r. ⌜ Put self (digitsOf n) r ⌝ }
     {
         if n < 10 {
             return self.push_digit(n);

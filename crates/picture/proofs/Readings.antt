@@ -29,7 +29,7 @@ use Rattle.netpbm.specs.declared.reading.Reading.the-variants.{Read, Refused}
 use Rattle.netpbm.specs.Images.{rowsAt}
 use Rattle.netpbm.specs.Reading.{cbAt, crAt, inputLayout, readingTests}
 use Rattle.netpbm.specs.Inner.Reading.{pickReading, readingOf}
-use Rattle.netpbm.proofs.Acceptance.{Taken, taken}
+use Rattle.netpbm.proofs.Acceptance.{Taken, taken, ReadAccepted, read-accepted}
 use Rattle.picture.specs.declared.Outcome.the-variants.{Written, Refused as Down}
 use Rattle.picture.specs.Picture.{inputPlanes, ppmLength, pictureTests, pickOutcome, inputPicture}
 use Rattle.image.specs.Samples.{planeOf}
@@ -42,24 +42,10 @@ planesFrom s l y cb cr = record {
   cr = record { bytes = drop cr s; stride = l .cw };
 }
 
--- what the reading gives is what the definitions say of the input
-pub record ReadAccepted (s : List ℕ) (l : Layout) (y cb cr : ℕ) : Type 0 where
-  pub passed : first (readingTests s) ≡ Accepted
-  pub layout-is : l ≡ inputLayout s
-  pub planes-are : planesFrom s l y cb cr ≡ inputPlanes s
-
-pub read-accepted : (s : List ℕ) (l : Layout) (y cb cr : ℕ) → readingOf s ≡ Read l y cb cr → ReadAccepted s l y cb cr
-unfolding readingOf inputPlanes
-read-accepted s l y cb cr e = go (first (readingTests s)) refl e
-  where
-    go : (a : Answer) → first (readingTests s) ≡ a → pickReading a (Read (inputLayout s) (rowsAt s 0) (rowsAt s (cbAt s)) (rowsAt s (crAt s))) ≡ Read l y cb cr → ReadAccepted s l y cb cr
-    go Accepted k e =
-        let a : inputLayout s ≡ l = cc in
-        let b : rowsAt s 0 ≡ y = cc in
-        let c : rowsAt s (cbAt s) ≡ cb = cc in
-        let d : rowsAt s (crAt s) ≡ cr = cc in
-        record { passed = k; layout-is = sym a; planes-are = rw (sym a, sym b, sym c, sym d) refl }
-    go (Turned n) k e = let z : _≡_ {A = ℕ} 0 1 = cc in absurd (omega arith)
+-- what was read has the planes of the definitions
+planes-are : {s : List ℕ} {l : Layout} {y cb cr : ℕ} → ReadAccepted s l y cb cr → planesFrom s l y cb cr ≡ inputPlanes s
+unfolding inputPlanes
+planes-are r = rw (r .layout-is, r .y-is, r .cb-is, r .cr-is) refl
 
 -- a number that the reading gives is that of the first of its tests that applies
 pub turned : (s : List ℕ) (n : ℕ) → readingOf s ≡ Refused n → first (readingTests s) ≡ Turned n
@@ -133,8 +119,8 @@ module _ (s : List ℕ) (l : Layout) (y cb cr : ℕ) (e : readingOf s ≡ Read l
       let q = from-parts f in
       let t = read-accepted s l y cb cr e in
       let b : accepted a ≡ true = ap accepted (q .answers ∙ fill-takes (taken s l y cb cr e) scratch out g h) in
-      let c : pictureOf l (planesFrom s l y cb cr) ≡ inputPicture s = rw (sym (t .planes-are), sym (t .layout-is)) refl in
-      (q .gives ∙ rw b (ap (λ (p : Picture). pixelRows (l .w) 3 (fillColour LumaGuided Exact p) 0 (l .h) out) c), q .scratches ∙ rw b (ap (λ (ps : Planes). fillScratch LumaGuided l ps 0 (l .h) scratch) (t .planes-are)))
+      let c : pictureOf l (planesFrom s l y cb cr) ≡ inputPicture s = rw (sym (planes-are t), sym (t .layout-is)) refl in
+      (q .gives ∙ rw b (ap (λ (p : Picture). pixelRows (l .w) 3 (fillColour LumaGuided Exact p) 0 (l .h) out) c), q .scratches ∙ rw b (ap (λ (ps : Planes). fillScratch LumaGuided l ps 0 (l .h) scratch) (planes-are t)))
 
 -- ---- the outcome
 

@@ -12,11 +12,12 @@ use Rattle.image.specs.Scratch.{scratchNeed}
 use Rattle.fill.specs.declared.options.ChromaUpsampling.the-variants.{LumaGuided}
 use Rattle.fill.specs.Fill.{fillScratch}
 use Rattle.netpbm.specs.Lines.{ppmHeader}
-use Rattle.netpbm.proofs.Acceptance.{taken}
+use Rattle.netpbm.proofs.Digits.{header-most}
+use Rattle.netpbm.proofs.Acceptance.{taken, read-accepted}
 use Rattle.picture.specs.declared.Outcome.the-variants.{Written}
 use Rattle.picture.specs.Picture.{inputPlanes}
-use Rattle.picture.proofs.Fronts.{header-most, line-length, ppm-length}
-use Rattle.picture.proofs.Readings.{layout-sound, pixels-most, scratch-short, read-accepted, both-long, out-short}
+use Rattle.picture.proofs.Fronts.{line-length, ppm-length}
+use Rattle.picture.proofs.Readings.{layout-sound, pixels-most, scratch-short, both-long, out-short}
 use Rattle.picture.proofs.written.Statement.{statement}
 use Rattle.picture.proofs.written.Tie as tie
 

@@ -5,7 +5,7 @@ use Rattle.netpbm.proofs.lines.Line.new.Tie as tie
 
 returns : tie.Need-returns
 unfolding lineOf
-returns c = refl
+returns c = (refl, refl)
 
 pub new-spec : {M : Type 1} → statement M
 new-spec = tie.close (tie.spec returns)

@@ -1,7 +1,7 @@
 use Prim.Native.Nat.{_-_}
 use native.Mathlib.Omega.{arith}
 use lib.ListN.{length}
-use Rattle.netpbm.proofs.Written.{Putting, putting-none, putting-more, putting-end}
+use Rattle.netpbm.proofs.Written.{Putting, putting-none, putting-more, putting-end, put-is}
 use Rattle.netpbm.proofs.lines.Line.put.Statement.{statement}
 use Rattle.netpbm.proofs.lines.Line.put.Tie as tie
 
@@ -30,7 +30,7 @@ loop-again : tie.Need-loop-again Inv-loop μ-loop
 loop-again c = let i = c .before .before in putting-more (i .before .loop .inv) _ (i .loop-test .taken) (c .push .ensures)
 
 returns : tie.Need-returns Inv-loop μ-loop
-returns c = putting-end (c .before .loop .inv) (c .loop-test .left)
+returns c = put-is _ _ _ (putting-end (c .before .loop .inv) (c .loop-test .left))
 
 pub put-spec : {M : Type 1} → statement M
 put-spec =

@@ -8,6 +8,7 @@ use Rattle.netpbm.specs.declared.lines.Line.{Line}
 use Rattle.netpbm.specs.Lines.{digitsOf}
 use Rattle.netpbm.specs.Inner.Texts.{pushed, written}
 use Rattle.netpbm.proofs.Digits.{one-digit, two-digits, three-digits, four-digits}
+use Rattle.netpbm.proofs.Written.{put-is}
 use Rattle.netpbm.proofs.lines.Line.put_number.Statement.{statement}
 use Rattle.netpbm.proofs.lines.Line.put_number.Tie as tie
 
@@ -28,7 +29,7 @@ push-digit-requires c κs = let l = has-1 c in (omega arith, omega arith)
 
 returns : tie.Need-returns
 unfolding written
-returns c = let n = c .before .before .args .n in rw (one-digit n (c .before .if1 .taken)) (c .push-digit .ensures .0)
+returns c = let n = c .before .before .args .n in put-is _ _ _ (rw (one-digit n (c .before .if1 .taken)) (c .push-digit .ensures .0))
 
 push-digit-requires-2 : tie.Need-push-digit-requires-2
 push-digit-requires-2 c κs = let l = has-2 c in (omega arith, omega arith)
@@ -38,7 +39,7 @@ push-digit-requires-3 c κs = let l = has-2 (c .before) in (omega arith, omega a
 
 returns-2 : tie.Need-returns-2
 unfolding written
-returns-2 c = let n = c .before .before .before .before .args .n in rw (two-digits n (c .before .before .before .if1 .left) (c .before .before .if2 .taken)) (c .push-digit3 .ensures .0 ∙ ap (λ (l : Line). pushed l (48 + n % 10)) (c .before .push-digit2 .ensures .0))
+returns-2 c = let n = c .before .before .before .before .args .n in put-is _ _ _ (rw (two-digits n (c .before .before .before .if1 .left) (c .before .before .if2 .taken)) (c .push-digit3 .ensures .0 ∙ ap (λ (l : Line). pushed l (48 + n % 10)) (c .before .push-digit2 .ensures .0)))
 
 push-digit-requires-4 : tie.Need-push-digit-requires-4
 push-digit-requires-4 c κs = let l = has-3 c in (omega arith, omega arith)
@@ -51,7 +52,7 @@ push-digit-requires-6 c κs = let l = has-3 (c .before .before) in (omega arith,
 
 returns-3 : tie.Need-returns-3
 unfolding written
-returns-3 c = let n = c .before .before .before .before .before .before .args .n in rw (three-digits n (c .before .before .before .before .if2 .left) (c .before .before .before .if3 .taken)) (c .push-digit6 .ensures .0 ∙ ap (λ (l : Line). pushed l (48 + n % 10)) (c .before .push-digit5 .ensures .0 ∙ ap (λ (l : Line). pushed l (48 + n / 10 % 10)) (c .before .before .push-digit4 .ensures .0)))
+returns-3 c = let n = c .before .before .before .before .before .before .args .n in put-is _ _ _ (rw (three-digits n (c .before .before .before .before .if2 .left) (c .before .before .before .if3 .taken)) (c .push-digit6 .ensures .0 ∙ ap (λ (l : Line). pushed l (48 + n % 10)) (c .before .push-digit5 .ensures .0 ∙ ap (λ (l : Line). pushed l (48 + n / 10 % 10)) (c .before .before .push-digit4 .ensures .0))))
 
 push-digit-requires-7 : tie.Need-push-digit-requires-7
 push-digit-requires-7 c κs = let l = has-4 c in (omega arith, omega arith)
@@ -67,7 +68,7 @@ push-digit-requires-10 c κs = let l = has-4 (c .before .before .before) in (ome
 
 returns-4 : tie.Need-returns-4
 unfolding written
-returns-4 c = let n = c .before .before .before .before .before .before .before .args .n in rw (four-digits n (c .before .before .before .before .if3 .left) (c .before .before .before .before .before .before .before .pre .0)) (c .push-digit10 .ensures .0 ∙ ap (λ (l : Line). pushed l (48 + n % 10)) (c .before .push-digit9 .ensures .0 ∙ ap (λ (l : Line). pushed l (48 + n / 10 % 10)) (c .before .before .push-digit8 .ensures .0 ∙ ap (λ (l : Line). pushed l (48 + n / 100 % 10)) (c .before .before .before .push-digit7 .ensures .0))))
+returns-4 c = let n = c .before .before .before .before .before .before .before .args .n in put-is _ _ _ (rw (four-digits n (c .before .before .before .before .if3 .left) (c .before .before .before .before .before .before .before .pre .0)) (c .push-digit10 .ensures .0 ∙ ap (λ (l : Line). pushed l (48 + n % 10)) (c .before .push-digit9 .ensures .0 ∙ ap (λ (l : Line). pushed l (48 + n / 10 % 10)) (c .before .before .push-digit8 .ensures .0 ∙ ap (λ (l : Line). pushed l (48 + n / 100 % 10)) (c .before .before .before .push-digit7 .ensures .0)))))
 
 pub put-number-spec : {M : Type 1} → statement M
 put-number-spec =
