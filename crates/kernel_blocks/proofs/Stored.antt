@@ -3,7 +3,8 @@
 -- changes nothing (`pixels-again`), and the rest chains on (`pixels-add`).
 use mathlib.Core.Path.{_≡_, refl, sym, ap, _∙_}
 use mathlib.Core.List.{List}
-use Prim.Native.Nat.{ℕ, zero, suc, _+_, _-_, _*_, _≤_, _<_}
+use Prim.Native.Nat.{ℕ, zero, suc, _+_, _-_, _*_, _≤_, _<_, min}
+use native.Mathlib.Nat.{mul-le-mul-right, le-of-lt}
 use native.Mathlib.Omega.{arith}
 use lib.ListN.{length, getD}
 use lib.Seq.{set-getD}
@@ -71,3 +72,25 @@ module _ {xs ys : List ℕ} {at size n : ℕ} {f : ℕ → Colour} (r : Stored x
   -- the loop's end, at the bound m
   pub stored-end : (m : ℕ) → n ≤ m → m ≤ n → ys ≡ pixels xs at size f m
   stored-end m a b = let e : n ≡ m = omega arith in r .eq ∙ ap (pixels xs at size f) e
+
+-- ---- a row of w pixels by blocks of sixteen, the last of which ends with the row
+
+-- where a block begins when n pixels are stored: not behind these, so that it joins them, and early enough to end in the row and in `room` bytes
+pub record BlockPlace (w at size room n x : ℕ) : Type 0 where
+  pub joins : x ≤ n
+  pub on : n < x + 16
+  pub inside : x + 16 ≤ w
+  pub fits : at + x * size + 16 * size ≤ room
+
+module _ {xs ys : List ℕ} {at size n : ℕ} {f : ℕ → Colour} (r : Stored xs ys at size n f) (w x : ℕ) (e : x ≡ min n (w - 16)) (wide : 16 ≤ w) (left : n < w) (room : at + w * size ≤ length xs) where
+  pub block-place : BlockPlace w at size (length ys) n x
+  block-place =
+      let l = r .len in
+      let i : x + 16 ≤ w = omega arith in
+      record { joins = omega arith; on = omega arith; inside = i; fits = omega (arith, mul-le-mul-right size i) }
+
+  -- the block stored
+  pub block-stored : (zs : List ℕ) (g : ℕ → Colour) → zs ≡ pixels ys (at + x * size) size g 16 → 3 ≤ size → ((i : ℕ) → i < 16 → g i ≡ f (x + i)) → (x + 16 ≤ w) × Stored xs zs at size (x + 16) f
+  block-stored zs g z t h =
+      let p = block-place in
+      (p .inside, stored-over r zs x 16 g z (p .joins) (omega arith) t (omega (arith, mul-le-mul-right size (le-of-lt left))) h)
