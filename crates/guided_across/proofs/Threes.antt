@@ -80,7 +80,7 @@ module _ (g : List Float → ℕ → Float) (n dst : ℕ) (s : List Float) where
   pub row-one : n ≡ 1 → threeRun g n dst 0 1 s ≡ threeRow g n dst s
   row-one e = ap (λ (k : ℕ). threeRun g n dst 0 k s) (sym e) ∙ whole-is g n dst s
 
-  pub row-parts : Behind g n dst → 1 < n → threeRun g n dst (n - 1) 1 (threeRun g n dst 1 (n - 2) (threeRun g n dst 0 1 s)) ≡ threeRow g n dst s
+  row-parts : Behind g n dst → 1 < n → threeRun g n dst (n - 1) 1 (threeRun g n dst 1 (n - 2) (threeRun g n dst 0 1 s)) ≡ threeRow g n dst s
   row-parts o h =
       let run : ℕ → ℕ → List Float → List Float = threeRun g n dst in
       ap (run (n - 1) 1) (three-chain o 0 1 (n - 2) s (omega arith))
@@ -94,3 +94,7 @@ module _ (g : List Float → ℕ → Float) (n dst : ℕ) (s : List Float) where
 
       all : (n : ℕ) → 1 < n → 1 + (n - 2) + 1 ≡ n
       all n h = omega arith
+
+  -- as the callees that make its parts say them
+  pub row-made : Behind g n dst → 1 < n → (a b c : List Float) → a ≡ threeRun g n dst 0 1 s → b ≡ threeRun g n dst 1 (n - 2) a → c ≡ threeRun g n dst (n - 1) 1 b → c ≡ threeRow g n dst s
+  row-made o h a b c p q r = r ∙ ap (threeRun g n dst (n - 1) 1) (q ∙ ap (threeRun g n dst 1 (n - 2)) p) ∙ row-parts o h
