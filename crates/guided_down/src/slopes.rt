@@ -3,7 +3,6 @@ ghost use mathlib.Core.Path.{_≡_};
 ghost use Prim.Native.Nat.{ℕ, _+_, _*_, _≤_, _<_};
 ghost use lib.Ieee.{nan};
 ghost use lib.ListN.{length, getD};
-ghost use Rattle.laws.specs.Lists.{put};
 ghost use Rattle.laws.specs.Floats.{f32, _⊕_, _⊗_, _⊘_};
 ghost use Rattle.guided_down.specs.Inner.Slopes.{slopeBy, meanAt, slopeAt, slopeRun, Inside, AllInside, Clear, statsOf, slopeRow};
 ghost use Rattle.image.specs.Inner.Tests.{Sound};

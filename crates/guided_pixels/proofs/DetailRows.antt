@@ -17,12 +17,11 @@ use Rattle.image.specs.Scratch.{cellAt, scratchNeed}
 use Rattle.guided.specs.Guided.{acrossTo, detailOf}
 use Rattle.guided.specs.Scratch.{detailAt, columnAt}
 use Rattle.guided.proofs.Places.{column-behind}
-use Rattle.guided_pixels.specs.declared.pairs.Pair.{Pair}
 use Rattle.guided_pixels.specs.Inner.Columns.{ColumnGiven}
 use Rattle.guided_pixels.proofs.Lerps.{across-same}
 use Rattle.guided_pixels.proofs.Phases.{Runs}
-use Rattle.guided_pixels.proofs.Twos.{row-chain}
-use Rattle.guided_pixels.specs.Inner.Pixels.{detailRun, detailLine, detailIn, detailPair}
+use Rattle.guided_pixels.proofs.Twos.{runs-by}
+use Rattle.guided_pixels.specs.Inner.Pixels.{detailRun, detailLine, detailIn}
 
 -- the detail of a pixel, from a row of cells like the one asked for
 pub detail-is : (l : Layout) → Sound l → (g h : ℕ → Float) (x : ℕ) (luma a u : Float) → x < l .w → ((k : ℕ) → k < l .cw → g k ≡ h k) → a ≡ luma → u ≡ acrossTo l g x → a ⊖ u ≡ detailOf l h luma x
@@ -53,22 +52,6 @@ module _ (l : Layout) (o : Sound l) (p : Plane) (y src dst : ℕ) (h : dst + l .
   unfolding detailOf
   detail-same xs ys i r e = ap (λ (v : Float). f32 (sampleAt (l .«sample_bytes») p y i) ⊖ v) (across-same l o (cellAt ys src) (cellAt xs src) i r (λ k t. e (src + k) (omega arith)))
 
-  pub detail-chain : (from m k : ℕ) (s : List Float) → from + m + k ≤ l .w → detailRun l p y src dst (from + m) k (detailRun l p y src dst from m s) ≡ detailRun l p y src dst from (m + k) s
-  unfolding detailRun
-  detail-chain from m k s q =
-      row-chain (λ s x. detailIn l p y s src x) src dst from m k s (omega arith) (λ xs ys e i r. detail-same xs ys i (omega arith) e)
-
   pub detail-runs : Runs (detailRun l p y src dst) (l .w)
-  unfolding detailRun put
-  detail-runs = record { none = λ from s. refl; chain = detail-chain }
-
--- ---- a pair's detail
-
-module _ (l : Layout) (p : Plane) (y : ℕ) (s : List Float) (src i : ℕ) where
-  pub detail-pair-is : (u v : Float) → u ≡ detailIn l p y s src (2 + 2 * i) → v ≡ detailIn l p y s src (2 + (2 * i + 1)) → record { left = u; right = v } ≡ detailPair l p y s src i
-  unfolding detailPair
-  detail-pair-is u v e q = rw (e, q) refl
-
-  pub detail-pair-at : (r : Pair) → r ≡ detailPair l p y s src i → (r .left ≡ detailIn l p y s src (2 + 2 * i)) × (r .right ≡ detailIn l p y s src (2 + (2 * i + 1)))
-  unfolding detailPair
-  detail-pair-at r e = (ap (λ (u : Pair). u .left) e, ap (λ (u : Pair). u .right) e)
+  unfolding detailRun
+  detail-runs = runs-by (λ s x. detailIn l p y s src x) src dst (l .w) h (λ xs ys e i r. detail-same xs ys i r e)

@@ -106,13 +106,17 @@ module _ {run : ℕ → ℕ → List Float → List Float} {w : ℕ} (f : Runs r
       }
 
   -- a row: the first cell's columns, m more, and the rest
-  pub runs-whole : (m : ℕ) (s : List Float) → r + m ≤ w → run (r + m) (w - (r + m)) (run r m (run 0 r s)) ≡ run 0 w s
+  runs-whole : (m : ℕ) (s : List Float) → r + m ≤ w → run (r + m) (w - (r + m)) (run r m (run 0 r s)) ≡ run 0 w s
   runs-whole m s h =
       ap (λ (x : ℕ). run (r + m) (w - (r + m)) (run x m (run 0 r s))) (sym (none-plus r))
       ∙ ap (run (r + m) (w - (r + m))) (f .chain 0 r m s (omega arith))
       ∙ ap (λ (x : ℕ). run x (w - (r + m)) (run 0 (r + m) s)) (sym (none-plus (r + m)))
       ∙ f .chain 0 (r + m) (w - (r + m)) s (omega arith)
       ∙ ap (λ (k : ℕ). run 0 k s) (part-rest (r + m) w h)
+
+  -- as the callees say that write them
+  pub runs-made : (m : ℕ) (s a b c : List Float) → r + m ≤ w → a ≡ run 0 r s → b ≡ run r m a → c ≡ run (r + m) (w - (r + m)) b → c ≡ run 0 w s
+  runs-made m s a b c h p q t = t ∙ ap (run (r + m) (w - (r + m))) (q ∙ ap (run r m) p) ∙ runs-whole m s h
 
 pub each-end : {run : ℕ → ℕ → List Float → List Float} {r : ℕ} {xs ys : List Float} {n : ℕ} → Each run r xs ys n → (m : ℕ) → n ≤ m → m ≤ n → ys ≡ run r (m * r) xs
 each-end {run} {r} {xs} {ys} {n} e m h g = let q : n ≡ m = omega arith in e .eq ∙ ap (λ (k : ℕ). run r (k * r) xs) q

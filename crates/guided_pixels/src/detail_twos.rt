@@ -4,7 +4,8 @@ ghost use Prim.Native.Nat.{ℕ, _+_, _*_, _≤_, _<_};
 ghost use lib.Ieee.{nan};
 ghost use lib.ListN.{length, getD};
 ghost use Rattle.guided_across.specs.Inner.Luma.{LumaPixels};
-ghost use Rattle.guided_pixels.specs.Inner.Pixels.{detailIn, detailPair, detailRun};
+ghost use Rattle.guided_pixels.specs.Inner.Across.{pixelPair};
+ghost use Rattle.guided_pixels.specs.Inner.Pixels.{detailIn, detailRun};
 ghost use Rattle.image.specs.Samples.{planeOf};
 use crate::detail_runs::detail_run;
 use crate::pairs::Pair;
@@ -27,7 +28,7 @@ fn detail_pair(
     requires { ⌜ LumaPixels layout (planeOf (now plane) stride) × (y < layout .h)
         × (layout .rh ≡ 2) × (i + 3 ≤ layout .cw) × (2 * i + 4 ≤ layout .w) ⌝ }
     requires { ⌜ src + layout .cw ≤ length (now s) ⌝ }
-    ensures { λ r. ⌜ r ≡ detailPair layout (planeOf (now (plane .entry)) stride) y (now (s .entry)) src i ⌝ }
+    ensures { λ r. ⌜ r ≡ pixelPair (detailIn layout (planeOf (now (plane .entry)) stride) y (now (s .entry)) src) i ⌝ }
 {
     let w = layout.w;
     let h = layout.h;

@@ -5,7 +5,8 @@ ghost use Prim.Native.Nat.{ℕ, _+_, _*_, _≤_, _<_};
 ghost use lib.Ieee.{nan};
 ghost use lib.ListN.{length, getD};
 ghost use Rattle.image.specs.Inner.Tests.{Sound};
-ghost use Rattle.guided_pixels.specs.Inner.Values.{InputsInside, valueAt, valuePair, valueRun};
+ghost use Rattle.guided_pixels.specs.Inner.Across.{pixelPair};
+ghost use Rattle.guided_pixels.specs.Inner.Values.{InputsInside, valueAt, valueRun};
 use crate::pairs::Pair;
 use crate::pairs::pair_at;
 use crate::value_inputs::ValueInputs;
@@ -20,7 +21,7 @@ use lanes::put_block;
 fn value_pair(layout: Layout, s: &[f32], t: ValueInputs, i: usize) -> Pair
     requires { ⌜ (layout .rh ≡ 2) × (i + 3 ≤ layout .cw) × (2 * i + 4 ≤ layout .w) ⌝ }
     requires { ⌜ InputsInside t (3 * layout .w) (layout .cw) (length (now s)) ⌝ }
-    ensures { λ p. ⌜ p ≡ valuePair layout (now (s .entry)) t i ⌝ }
+    ensures { λ p. ⌜ p ≡ pixelPair (valueAt layout (now (s .entry)) t) i ⌝ }
 {
     let c = pair_at(s, t.cells, i);
     let a = pair_at(s, t.slopes, i);

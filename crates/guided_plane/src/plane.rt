@@ -5,7 +5,6 @@ ghost use mathlib.Core.List.{[], _∷_};
 ghost use Prim.Native.Nat.{_*_, _≤_, _<_};
 ghost use lib.ListN.{length};
 ghost use Rattle.laws.specs.Refusals.{first};
-ghost use Rattle.image.specs.Inner.Tests.{Sound};
 ghost use Rattle.image.specs.declared.chroma.Chroma.the-variants.{Cb};
 ghost use Rattle.image.specs.Scratch.{scratchNeed};
 ghost use Rattle.linear.specs.Inner.Stores.{storeRun};

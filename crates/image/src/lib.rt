@@ -1,6 +1,6 @@
 // What a call is handed of a picture: its sizes, ratios, sample bytes and maxval (`Layout`), the strides of its planes, and the samples in
-// them. These are the picture fields and `Plane` of the original's src/image.rs, with the tests behind refusals 2, 3, 4, 5 and 7 of
-// document 01.
+// them. These are the picture fields and `Plane` of the original's src/image.rs, with the tests behind refusals 2, 3, 4, 5, 7 and
+// 9 of document 01.
 //
 // Every function answers for every number that it can be handed, or says in `requires` what it relies on. What a picture is, a plane's
 // samples without padding or surplus, is specs/Picture; the tests stand in specs/Tests in the order of document 01's table.

@@ -3,7 +3,7 @@ ghost use mathlib.Core.Path.{_≡_};
 ghost use Prim.Native.Nat.{_+_, _*_, _≤_, _<_};
 ghost use lib.ListN.{length};
 ghost use Rattle.laws.specs.Refusals.{first};
-ghost use Rattle.image.specs.Samples.{Plane, planeOf};
+ghost use Rattle.image.specs.Samples.{planeOf};
 ghost use Rattle.linear.specs.Linear.{linearTests, linearRow, linearPlane, linearScratch, LinearGiven};
 ghost use Rattle.linear.specs.Inner.Linear.{Ready};
 use crate::across::across_row;

@@ -118,30 +118,24 @@ tests-same x true false n n' e f = differ true refl e
 tests-same x false true n n' e f = differ false e refl
 tests-same x false false n n' e f = rw (f refl) refl
 
+-- the sides of the image that stands at `at`
+record Sides (s : List ℕ) (at : ℕ) (i : Image) : Type 0 where
+  w : i .w ≡ held (widthOf s at)
+  h : i .h ≡ held (heightOf s at)
+
+sides-held : (s : List ℕ) (at : ℕ) (i : Image) → i ≡ imageHeld s at → Sides s at i
+unfolding imageHeld
+sides-held s at i e = record { w = ap (λ (j : Image). j .w) e; h = ap (λ (j : Image). j .h) e }
+
 module _ {s : List ℕ} {y cb cr : Image} (p : Places s y cb cr) where
-  y-w : y .w ≡ held (widthOf s 0)
-  unfolding imageHeld
-  y-w = ap (λ (i : Image). i .w) (p .y-is)
+  y-sides : Sides s 0 y
+  y-sides = sides-held s 0 y (p .y-is)
 
-  y-h : y .h ≡ held (heightOf s 0)
-  unfolding imageHeld
-  y-h = ap (λ (i : Image). i .h) (p .y-is)
+  cb-sides : Sides s (cbAt s) cb
+  cb-sides = sides-held s (cbAt s) cb (p .cb-is)
 
-  cb-w : cb .w ≡ held (widthOf s (cbAt s))
-  unfolding imageHeld
-  cb-w = ap (λ (i : Image). i .w) (p .cb-is)
-
-  cb-h : cb .h ≡ held (heightOf s (cbAt s))
-  unfolding imageHeld
-  cb-h = ap (λ (i : Image). i .h) (p .cb-is)
-
-  cr-w : cr .w ≡ held (widthOf s (crAt s))
-  unfolding imageHeld
-  cr-w = ap (λ (i : Image). i .w) (p .cr-is)
-
-  cr-h : cr .h ≡ held (heightOf s (crAt s))
-  unfolding imageHeld
-  cr-h = ap (λ (i : Image). i .h) (p .cr-is)
+  cr-sides : Sides s (crAt s) cr
+  cr-sides = sides-held s (crAt s) cr (p .cr-is)
 
   -- sides as they are held are outside 1 to 8,192 exactly if the real ones are: the test for 2 is the same
   size-same : badSize (layoutHeld y cb cr) ≡ badSize (inputLayout s)
@@ -151,7 +145,7 @@ module _ {s : List ℕ} {y cb cr : Image} (p : Places s y cb cr) where
       let b : ltb 8192 (held (widthOf s 0)) ≡ ltb 8192 (widthOf s 0) = held-over 8192 (widthOf s 0) (omega arith) in
       let c : ltb (held (heightOf s 0)) 1 ≡ ltb (heightOf s 0) 1 = held-under 1 (heightOf s 0) (omega arith) in
       let d : ltb 8192 (held (heightOf s 0)) ≡ ltb 8192 (heightOf s 0) = held-over 8192 (heightOf s 0) (omega arith) in
-      rw (y-w, y-h, a, b, c, d) refl
+      rw (y-sides .w, y-sides .h, a, b, c, d) refl
 
   sides : badSize (inputLayout s) ≡ false → (widthOf s 0 ≤ 8192) × (heightOf s 0 ≤ 8192)
   unfolding badSize inputLayout
@@ -161,10 +155,10 @@ module _ {s : List ℕ} {y cb cr : Image} (p : Places s y cb cr) where
 
   -- where 2 doesn't apply, sides as they are held have the ratios of the real ones
   ratio-w : badSize (inputLayout s) ≡ false → ratioFor (y .w) (cb .w) (cr .w) ≡ ratioFor (widthOf s 0) (widthOf s (cbAt s)) (widthOf s (crAt s))
-  ratio-w e = rw (y-w, cb-w, cr-w) (ratio-held (widthOf s 0) (widthOf s (cbAt s)) (widthOf s (crAt s)) (sides e .0))
+  ratio-w e = rw (y-sides .w, cb-sides .w, cr-sides .w) (ratio-held (widthOf s 0) (widthOf s (cbAt s)) (widthOf s (crAt s)) (sides e .0))
 
   ratio-h : badSize (inputLayout s) ≡ false → ratioFor (y .h) (cb .h) (cr .h) ≡ ratioFor (heightOf s 0) (heightOf s (cbAt s)) (heightOf s (crAt s))
-  ratio-h e = rw (y-h, cb-h, cr-h) (ratio-held (heightOf s 0) (heightOf s (cbAt s)) (heightOf s (crAt s)) (sides e .1))
+  ratio-h e = rw (y-sides .h, cb-sides .h, cr-sides .h) (ratio-held (heightOf s 0) (heightOf s (cbAt s)) (heightOf s (crAt s)) (sides e .1))
 
   none-same : badSize (inputLayout s) ≡ false → noRatio (layoutHeld y cb cr) ≡ noRatio (inputLayout s)
   unfolding noRatio layoutHeld inputLayout
@@ -189,10 +183,10 @@ module _ {s : List ℕ} {y cb cr : Image} (p : Places s y cb cr) where
       let u = ratio-fits (widthOf s 0) (widthOf s (cbAt s)) (widthOf s (crAt s)) (eqb-false rh 0 (n .0)) .less in
       let v = ratio-fits (heightOf s 0) (heightOf s (cbAt s)) (heightOf s (crAt s)) (eqb-false rv 0 (n .1)) .less in
       let k = sides b in
-      let yw : y .w ≡ widthOf s 0 = y-w ∙ small (widthOf s 0) (k .0) in
-      let yh : y .h ≡ heightOf s 0 = y-h ∙ small (heightOf s 0) (k .1) in
-      let cw : cb .w ≡ widthOf s (cbAt s) = cb-w ∙ small (widthOf s (cbAt s)) (omega arith) in
-      let ch : cb .h ≡ heightOf s (cbAt s) = cb-h ∙ small (heightOf s (cbAt s)) (omega arith) in
+      let yw : y .w ≡ widthOf s 0 = y-sides .w ∙ small (widthOf s 0) (k .0) in
+      let yh : y .h ≡ heightOf s 0 = y-sides .h ∙ small (heightOf s 0) (k .1) in
+      let cw : cb .w ≡ widthOf s (cbAt s) = cb-sides .w ∙ small (widthOf s (cbAt s)) (omega arith) in
+      let ch : cb .h ≡ heightOf s (cbAt s) = cb-sides .h ∙ small (heightOf s (cbAt s)) (omega arith) in
       rw (ratio-w b, ratio-h b, yw, yh, cw, ch) refl
     where
       small : (n : ℕ) → n ≤ 8192 → held n ≡ n

@@ -5,7 +5,7 @@ use mathlib.Core.Path.{_≡_, sym, ap, _∙_, refl}
 use mathlib.Core.List.{List, [], _++_, append-nil}
 use Prim.Native.Nat.{ℕ, _+_, _≤_, _<_, _*_, _-_}
 use native.Mathlib.Omega.{arith}
-use lib.ListN.{length, getD, take, drop, length-append, length-drop, List·getD-append, drop-of-length-le}
+use lib.ListN.{length, getD, take, drop, length-drop, List·getD-append, drop-of-length-le}
 use lib.Seq.{ext-getD, getD-drop}
 use Rattle.laws.specs.Lists.{put, table}
 use Rattle.laws.proofs.Lists.{length-put, put-after, take-put, length-table, table-at}
@@ -18,7 +18,6 @@ use Rattle.netpbm.specs.declared.lines.Line.{Line}
 use Rattle.netpbm.specs.Texts.{lineOf}
 use Rattle.netpbm.specs.Lines.{ppmHeader}
 use Rattle.netpbm.specs.Reading.{inputLayout}
-use Rattle.netpbm.proofs.Digits.{three-most, four-most}
 use Rattle.picture.specs.Picture.{ppmLength, inputPicture, ppmOver}
 use Rattle.picture.proofs.Readings.{to-end}
 

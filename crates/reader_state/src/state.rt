@@ -1,7 +1,7 @@
 // The reader's state: its counters, and the test behind refusal 1.
 ghost use mathlib.Core.Path.{_≡_};
 ghost use mathlib.Core.Bool.{_&&_};
-ghost use Prim.Native.Nat.{_≤_, _<_};
+ghost use Prim.Native.Nat.{_<_};
 ghost use lib.Dec.{eqb};
 ghost use Rattle.image.specs.Inner.Tests.{Sound};
 ghost use Rattle.guided.specs.Calls.{readerLayout, readerAt, topOf, lastOf, freshH, freshF, doneH, doneF, badCounters, badState};

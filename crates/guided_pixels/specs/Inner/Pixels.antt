@@ -1,6 +1,6 @@
 -- The pixels of a picture row over lent scratch, as the inner functions' contracts say them. Definitions only.
 use mathlib.Core.List.{List}
-use Prim.Native.Nat.{ℕ, _+_, _*_}
+use Prim.Native.Nat.{ℕ, _+_}
 use lib.Ieee.{Float}
 use Rattle.laws.specs.Floats.{f32}
 use Rattle.laws.specs.Lists.{put}
@@ -9,15 +9,10 @@ use Rattle.image.specs.Samples.{Plane, sampleAt}
 use Rattle.image.specs.Scratch.{cellAt}
 use Rattle.guided.specs.Guided.{detailOf}
 use Rattle.guided.specs.Scratch.{detailAt, columnAt}
-use Rattle.guided_pixels.specs.declared.pairs.Pair.{Pair}
 
 -- the detail of column x of row y by the cells at src
 abbrev pub detailIn : Layout → Plane → ℕ → List Float → ℕ → ℕ → Float
 detailIn l p y s src x = detailOf l (cellAt s src) (f32 (sampleAt (l .«sample_bytes») p y x)) x
-
--- the detail of the two pixels of cell i + 1 at ratio 2
-unfoldable pub detailPair : Layout → Plane → ℕ → List Float → ℕ → ℕ → Pair
-detailPair l p y s src i = record { left = detailIn l p y s src (2 + 2 * i); right = detailIn l p y s src (2 + (2 * i + 1)) }
 
 -- the detail of columns from, .. from + n - 1 of row y, put at dst + from
 unfoldable pub detailRun : Layout → Plane → ℕ → ℕ → ℕ → ℕ → ℕ → List Float → List Float

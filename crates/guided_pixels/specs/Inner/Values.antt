@@ -1,6 +1,6 @@
 -- A component's values over lent scratch, as the inner functions' contracts say them. Definitions only.
 use mathlib.Core.List.{List}
-use Prim.Native.Nat.{ℕ, _+_, _*_, _≤_}
+use Prim.Native.Nat.{ℕ, _+_, _≤_}
 use lib.Ieee.{Float}
 use Rattle.laws.specs.Lists.{put}
 use Rattle.image.specs.declared.layout.Layout.{Layout}
@@ -8,7 +8,6 @@ use Rattle.image.specs.declared.chroma.Chroma.{Chroma}
 use Rattle.image.specs.Scratch.{cellAt}
 use Rattle.guided.specs.Guided.{valueOf}
 use Rattle.guided.specs.Scratch.{detailAt, finishedAt, slotAt, Least, Greatest, numDown, columnAt, columnOf}
-use Rattle.guided_pixels.specs.declared.pairs.Pair.{Pair}
 use Rattle.guided_pixels.specs.declared.value_inputs.ValueInputs.{ValueInputs}
 
 -- where the rows begin that a component's values in chroma row j are made of: two rows of cells, and its extremes
@@ -30,10 +29,6 @@ pub record InputsInside (t : ValueInputs) (low n len : ℕ) : Type 0 where
 -- a component's value in column x, from its rows of cells and the detail
 unfoldable pub valueAt : Layout → List Float → ValueInputs → ℕ → Float
 valueAt l s t x = valueOf l (cellAt s (t .cells)) (cellAt s (t .slopes)) (cellAt s (t .least)) (cellAt s (t .greatest)) (cellAt s (detailAt l) x) x
-
--- a component's values in the two pixels of cell i + 1 at ratio 2
-unfoldable pub valuePair : Layout → List Float → ValueInputs → ℕ → Pair
-valuePair l s t i = record { left = valueAt l s t (2 + 2 * i); right = valueAt l s t (2 + (2 * i + 1)) }
 
 -- a component's values in columns from, .. from + n - 1, put at dst + from
 unfoldable pub valueRun : Layout → ValueInputs → ℕ → ℕ → ℕ → List Float → List Float

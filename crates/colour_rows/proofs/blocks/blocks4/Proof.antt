@@ -1,7 +1,7 @@
 -- A loop that stores pixels (`Stored` of kernel_blocks) by blocks of sixteen; the last overlaps what is stored and stores it again.
 -- Where a block lies, and what is stored with it, are laws over the pixel size (`block-place`, `block-stored`); the mask goes on to `put_words`.
 use borrow.Author.Needs.{needs}
-use Prim.Native.Nat.{_+_, _-_, _*_, _≤_, _<_}
+use Prim.Native.Nat.{_-_, _≤_}
 use native.Mathlib.Omega.{arith}
 use lib.ListN.{length}
 use Rattle.colour_rows.specs.Inner.Colours.{rowColour, colourRow}

@@ -6,7 +6,6 @@ use Rattle.guided_pixels.proofs.detail_twos.detail_block.Statement.{sta
 use Rattle.laws.proofs.Lists.{Run, run-at, run-none, run-two, front-at}
 use Prim.Native.Nat.{_*_, _+_, _-_, _≤_}
 use Rattle.guided_pixels.proofs.Twos.{pair-turn}
-use Rattle.guided_pixels.proofs.DetailRows.{detail-pair-at}
 use Rattle.guided_pixels.specs.Inner.Pixels.{detailIn}
 use mathlib.Core.Path.{refl}
 use Rattle.guided_pixels.proofs.detail_twos.detail_block.Tie as tie
@@ -57,8 +56,7 @@ loop-less c = omega arith
 loop-again : tie.Need-loop-again Inv-loop μ-loop
 loop-again c = let a = c .before .before .before .before .before .args in
     let l = c .before .before .loop in
-    let p = detail-pair-at (a .layout) (planeOf (a .plane .now) (a .stride)) (a .y) (a .s .now) (a .src) (a .i + l .b) _ (c .detail-pair .ensures) in
-    let t = pair-turn (detailIn (a .layout) (planeOf (a .plane .now) (a .stride)) (a .y) (a .s .now) (a .src)) (a .i) (l .b) _ _ (p .0) (p .1) in
+    let t = pair-turn (detailIn (a .layout) (planeOf (a .plane .now) (a .stride)) (a .y) (a .s .now) (a .src)) (a .i) (l .b) _ (c .detail-pair .ensures) in
     (omega arith, run-two (l .inv .1) _ _ (2 * (l .b + 1)) _ _ refl (omega arith) (omega arith) (t .0) (t .1))
 
 returns : tie.Need-returns Inv-loop μ-loop

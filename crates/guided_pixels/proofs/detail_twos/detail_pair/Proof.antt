@@ -2,11 +2,10 @@ use native.Mathlib.Omega.{arith}
 use Rattle.guided_pixels.proofs.detail_twos.detail_pair.Statement.{statement}
 use Prim.Native.Nat.{_*_, _+_}
 use Rattle.image.specs.Scratch.{cellAt}
-use Rattle.guided_pixels.proofs.DetailRows.{detail-is, detail-pair-is}
-use Rattle.guided_pixels.proofs.Twos.{pair-left, pair-right}
+use Rattle.guided_pixels.proofs.DetailRows.{detail-is}
+use Rattle.guided_pixels.proofs.Twos.{pair-left, pair-right, pair-made}
 use mathlib.Core.Path.{refl}
 use Rattle.guided_pixels.proofs.detail_twos.detail_pair.Tie as tie
-use Rattle.image.specs.Samples.{planeOf}
 
 pair-at-requires : tie.Need-pair-at-requires
 pair-at-requires c κs = omega arith
@@ -37,7 +36,7 @@ returns c = let a = c .before .before .before .before .before .before .before .a
     let e = c .before .before .before .before .before .before .before .pre .0 in
     let g = cellAt (a .s .now) (a .src) in
     let p = c .before .before .before .before .pair-at in
-    detail-pair-is (a .layout) (planeOf (a .plane .now) (a .stride)) (a .y) (a .s .now) (a .src) (a .i) _ _
+    pair-made _ (a .i) _ _
     (detail-is (a .layout) (e .0 .sound) g g (2 + 2 * a .i) _ _ _ (omega arith) (λ k q. refl) (c .before .before .before .sample-at .ensures) (pair-left (a .layout) g (a .i) (p .result) (e .2) (p .ensures)))
     (detail-is (a .layout) (e .0 .sound) g g (2 + (2 * a .i + 1)) _ _ _ (omega arith) (λ k q. refl) (c .before .sample-at2 .ensures) (pair-right (a .layout) g (a .i) (p .result) (e .2) (omega arith) (p .ensures)))
 

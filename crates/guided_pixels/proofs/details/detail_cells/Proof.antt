@@ -1,16 +1,12 @@
--- Two returns: a row of one cell is one run, and otherwise three runs (first cell, inner cells, the rest) are one by `runs-whole`.
--- The one step that isn't linear is that all cells but the last end inside the picture (`room`); `runs-whole` wants rows of detail to be rows by runs (`detail-runs`).
-use mathlib.Core.Path.{ap, _∙_}
-use Prim.Native.Nat.{ℕ, _+_, _-_, _*_, _≤_}
+-- Two returns: a row of one cell is one run, and otherwise three runs (first cell, inner cells, the rest) are one by `runs-made`.
+-- The one step that isn't linear is that all cells but the last end inside the picture (`room`); `runs-made` wants rows of detail to be rows by runs (`detail-runs`).
+use Prim.Native.Nat.{_+_, _-_, _*_, _≤_}
 use native.Mathlib.Omega.{arith}
 use borrow.Author.Needs.{needs}
 use Rattle.guided_pixels.proofs.details.detail_cells.Statement.{statement}
-use lib.Ieee.{Float}
-use mathlib.Core.List.{List}
-use Rattle.image.specs.Samples.{Plane}
-use Rattle.guided_pixels.proofs.Phases.{cells-inside, runs-whole}
+use Rattle.image.specs.Samples.{planeOf}
+use Rattle.guided_pixels.proofs.Phases.{cells-inside, runs-made}
 use Rattle.guided_pixels.proofs.DetailRows.{detail-runs}
-use Rattle.guided_pixels.specs.Inner.Pixels.{detailRun}
 use Rattle.guided_pixels.proofs.details.detail_cells.Tie as tie
 
 -- the cells between the first and the last lie inside the picture
@@ -48,14 +44,14 @@ same-length-2 : tie.Need-same-length-2
 same-length-2 c = search needs
 
 returns-2 : tie.Need-returns-2
-returns-2 c = let a = c .before .before .before .before .before .before .before .before .before .before .before .before .before .before .before .before .before .args in
+returns-2 c =
+    let i = c .before .before .before .before .before .before in
+    let e = i .before .before .before .before in
+    let r = e .before .before .before in
+    let s = r .before .before .before .before in
+    let a = s .args in
     let l = a .layout in
-    let o = c .before .before .before .before .before .before .before .before .before .before .before .before .before .before .before .before .before .pre .0 .0 .sound in
-    let r : ℕ = l .rh in
-    let m : ℕ = (l .cw - 2) * r in
-    let p : Plane = record { bytes = a .plane .now; stride = a .stride } in
-    let run : ℕ → ℕ → List Float → List Float = detailRun l p (a .y) (a .src) (a .dst) in
-    c .before .before .detail-run3 .ensures ∙ ap (run (r + m) (l .w - (r + m))) (c .before .before .before .before .before .before .detail-inner .ensures ∙ ap (run r m) (c .before .before .before .before .before .before .before .before .before .before .detail-run2 .ensures)) ∙ runs-whole (detail-runs l o p (a .y) (a .src) (a .dst) (c .before .before .before .before .before .before .before .before .before .before .before .before .before .before .before .before .before .pre .1 .0)) r m (a .s .now) (room (c .before .before .before .before .before .before .before .before .before .before .before .before .before))
+    runs-made (detail-runs l (s .pre .0 .0 .sound) (planeOf (a .plane .now) (a .stride)) (a .y) (a .src) (a .dst) (s .pre .1 .0)) (l .rh) ((l .cw - 2) * l .rh) (a .s .now) _ _ _ (room r) (e .detail-run2 .ensures) (i .detail-inner .ensures) (c .before .before .detail-run3 .ensures)
 
 pub detail-cells-spec : {M : Type 1} → statement M
 detail-cells-spec =

@@ -7,7 +7,6 @@ use native.Mathlib.Omega.{arith}
 use Rattle.guided_pixels.proofs.value_twos.value_block.Statement.{statement}
 use Rattle.laws.proofs.Lists.{Run, run-at, run-none, run-two, front-at}
 use Rattle.guided_pixels.proofs.Twos.{pair-turn}
-use Rattle.guided_pixels.proofs.ValuePairs.{value-pair-at}
 use Rattle.guided_pixels.specs.Inner.Values.{valueAt}
 use Rattle.guided_pixels.proofs.value_twos.value_block.Tie as tie
 
@@ -56,8 +55,7 @@ loop-less c = omega arith
 loop-again : tie.Need-loop-again Inv-loop μ-loop
 loop-again c = let a = c .before .before .before .before .args in
     let l = c .before .before .loop in
-    let p = value-pair-at (a .layout) (a .s .now) (a .t) (a .i + l .b) _ (c .value-pair .ensures) in
-    let t = pair-turn (valueAt (a .layout) (a .s .now) (a .t)) (a .i) (l .b) _ _ (p .0) (p .1) in
+    let t = pair-turn (valueAt (a .layout) (a .s .now) (a .t)) (a .i) (l .b) _ (c .value-pair .ensures) in
     (omega arith, run-two (l .inv .1) _ _ (2 * (l .b + 1)) _ _ refl (omega arith) (omega arith) (t .0) (t .1))
 
 returns : tie.Need-returns Inv-loop μ-loop

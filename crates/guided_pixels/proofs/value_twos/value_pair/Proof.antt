@@ -1,11 +1,12 @@
--- `value-left` and `value-right` say that the two values, by the lerped pairs, are the definition's in columns 2 + 2 * i and the next; `value-pair-is` makes the pair.
+-- `value-left` and `value-right` say that the two values, by the lerped pairs, are the definition's in columns 2 + 2 * i and the next; `pair-made` makes the pair.
 -- The rest is that the four reads, two limits and two columns of detail, lie inside s.
 use Rattle.image.specs.Scratch.{cellAt}
 use Rattle.guided.specs.Scratch.{detailAt}
 use native.Mathlib.Omega.{arith}
 use borrow.Author.Needs.{needs}
 use Rattle.guided_pixels.proofs.value_twos.value_pair.Statement.{statement}
-use Rattle.guided_pixels.proofs.ValuePairs.{value-left, value-pair-is, value-right}
+use Rattle.guided_pixels.proofs.Twos.{pair-made}
+use Rattle.guided_pixels.proofs.ValuePairs.{value-left, value-right}
 use Rattle.guided_pixels.specs.Inner.Values.{valueAt}
 use Rattle.guided_pixels.proofs.value_twos.value_pair.Tie as tie
 
@@ -90,7 +91,7 @@ returns c =
     let t = a .t in
     let p = c .before .before .before .before .before .before .before .before .before .before .before .before .pair-at in
     let q = c .before .before .before .before .before .before .before .before .before .before .before .pair-at2 in
-    value-pair-is (a .layout) s t (a .i) _ _
+    pair-made (valueAt (a .layout) s t) (a .i) _ _
     (value-left (a .layout) (cellAt s (t .cells)) (cellAt s (t .slopes)) (cellAt s (t .least)) (cellAt s (t .greatest)) _ (a .i) (p .result) (q .result) _ (e .0) (p .ensures) (q .ensures) (c .before .before .before .limited .ensures))
     (value-right (a .layout) (cellAt s (t .cells)) (cellAt s (t .slopes)) (cellAt s (t .least)) (cellAt s (t .greatest)) _ (a .i) (p .result) (q .result) _ (e .0) (p .ensures) (q .ensures) (omega arith) (c .limited2 .ensures))
 

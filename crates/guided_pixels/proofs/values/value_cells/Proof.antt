@@ -1,15 +1,11 @@
--- Two returns: a row of one cell is one run, and otherwise three runs (first cell, inner cells, the rest) are one by `runs-whole`.
+-- Two returns: a row of one cell is one run, and otherwise three runs (first cell, inner cells, the rest) are one by `runs-made`.
 -- The one step that isn't linear is that all cells but the last end inside the picture: `room`.
-use mathlib.Core.Path.{ap, _∙_}
-use Prim.Native.Nat.{ℕ, _+_, _-_, _*_, _≤_}
+use Prim.Native.Nat.{_+_, _-_, _*_, _≤_}
 use native.Mathlib.Omega.{arith}
 use borrow.Author.Needs.{needs}
 use Rattle.guided_pixels.proofs.values.value_cells.Statement.{statement}
-use lib.Ieee.{Float}
-use mathlib.Core.List.{List}
-use Rattle.guided_pixels.proofs.Phases.{cells-inside, runs-whole}
+use Rattle.guided_pixels.proofs.Phases.{cells-inside, runs-made}
 use Rattle.guided_pixels.proofs.ValuePairs.{value-runs}
-use Rattle.guided_pixels.specs.Inner.Values.{valueRun}
 use Rattle.guided_pixels.proofs.values.value_cells.Tie as tie
 
 -- the cells between the first and the last lie inside the picture
@@ -47,13 +43,15 @@ same-length-2 : tie.Need-same-length-2
 same-length-2 c = search needs
 
 returns-2 : tie.Need-returns-2
-returns-2 c = let a = c .before .before .before .before .before .before .before .before .before .before .before .before .before .before .before .before .args in
+returns-2 c =
+    let i = c .before .before .before .before .before .before in
+    let e = i .before .before .before .before in
+    let r = e .before .before .before in
+    let s = r .before .before .before in
+    let a = s .args in
     let l = a .layout in
-    let o = c .before .before .before .before .before .before .before .before .before .before .before .before .before .before .before .before .pre .0 in
-    let r : ℕ = l .rh in
-    let m : ℕ = (l .cw - 2) * r in
-    let run : ℕ → ℕ → List Float → List Float = valueRun l (a .t) (a .dst) in
-    c .before .before .value-run3 .ensures ∙ ap (run (r + m) (l .w - (r + m))) (c .before .before .before .before .before .before .value-inner .ensures ∙ ap (run r m) (c .before .before .before .before .before .before .before .before .before .before .value-run2 .ensures)) ∙ runs-whole (value-runs l (o .0) (a .t) _ (a .dst) (o .1) (c .before .before .before .before .before .before .before .before .before .before .before .before .before .before .before .before .pre .1)) r m (a .s .now) (room (c .before .before .before .before .before .before .before .before .before .before .before .before .before))
+    let o = s .pre .0 in
+    runs-made (value-runs l (o .0) (a .t) _ (a .dst) (o .1) (s .pre .1)) (l .rh) ((l .cw - 2) * l .rh) (a .s .now) _ _ _ (room r) (e .value-run2 .ensures) (i .value-inner .ensures) (c .before .before .value-run3 .ensures)
 
 pub value-cells-spec : {M : Type 1} → statement M
 value-cells-spec =

@@ -3,7 +3,6 @@
 -- and has both finished rows.
 use Rattle.image.specs.declared.chroma.Components.the-variants.{Both}
 use mathlib.Core.Path.{_≡_, refl, sym, ap, _∙_}
-use mathlib.Core.Bool.{true}
 use Prim.Native.Nat.{_*_, _≤_}
 use native.Mathlib.Omega.{arith}
 use lib.ListN.{length}
