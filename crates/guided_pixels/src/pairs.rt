@@ -84,7 +84,7 @@ pub fn pair_at(s: &[f32], src: usize, i: usize) -> Pair
 {
     let b = s[src + (i + 1)];
     Pair {
-        left: taps::lerp(s[src + i], b, 3.0 / 4.0),
-        right: taps::lerp(b, s[src + (i + 2)], 1.0 / 4.0),
+        left: taps::lerp(s[src + i], b, 0.75),
+        right: taps::lerp(b, s[src + (i + 2)], 0.25),
     }
 }

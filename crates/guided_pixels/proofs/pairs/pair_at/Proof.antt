@@ -1,6 +1,6 @@
--- `pair-is` takes the two lerps to `pairOf`. The one step is that 3.0 / 4.0 and 1.0 / 4.0 are the definition's fractions, by the bits of their numbers.
+-- `pair-is` takes the two lerps to `pairOf`. The one step is that 0.75 and 0.25 are the definition's fractions, 3/4 and 1/4 divided once, by computing both.
 -- The three reads, of cells i, i + 1 and i + 2, are inside s by the contract.
-use lib.Ieee.{ofBits, ofInt}
+use lib.Ieee.{ofBits, div, ofInt}
 use Rattle.image.specs.Scratch.{cellAt}
 use Rattle.guided_pixels.proofs.Twos.{pair-is}
 use borrow.Author.Needs.{needs}
@@ -47,7 +47,7 @@ lerp-requires-2 : tie.Need-lerp-requires-2
 lerp-requires-2 c κs = search needs
 
 returns : tie.Need-returns
-unfolding ofBits ofInt
+unfolding ofBits div ofInt
 returns c = let a = c .before .before .before .before .before .before .args in pair-is (cellAt (a .s .now) (a .src)) (a .i) _ _ (c .before .before .lerp .ensures) (c .lerp2 .ensures)
 
 pub pair-at-spec : {M : Type 1} → statement M

@@ -1,54 +1,53 @@
+use mathlib.Core.Path.{_≡_, refl, sym, ap, _∙_}
+use Prim.Native.Nat.{ℕ, _+_, _-_, _*_, _≤_, _<_}
+use native.Mathlib.Omega.{arith}
+use lib.Ieee.{ofBits, div, ofInt}
 use Rattle.taps.specs.Taps.{phaseOf}
-use borrow.Author.Tests.{lt-ltb, le-ltb}
-use mathlib.Core.Path.{refl}
-use Prim.Native.Nat.{_+_, _*_}
+use lib.ListN.{length, getD, set, length-set}
 use borrow.Author.Needs.{needs}
 use Rattle.taps.proofs.phases.phase_of.Statement.{statement}
 use Rattle.taps.proofs.phases.phase_of.Tie as tie
+use Rattle.taps.proofs.phases.phase_of.Reads as reads
+use Rattle.taps.proofs.phases.phase_of.Lts as lts
+use Rattle.taps.proofs.phases.of_two.Reads as of-two-reads
+use Rattle.taps.proofs.phases.of_four.Reads as of-four-reads
+use Rattle.taps.proofs.phases.of_three.Reads as of-three-reads
+use Rattle.taps.proofs.phases.to_right.Reads as to-right-reads
 
-mul-n : tie.Need-mul-n
-mul-n c = search needs
-
-add-n : tie.Need-add-n
-add-n c = search needs
-
-add-fraction : tie.Need-add-fraction
-add-fraction c = search needs
-
-mul-fraction : tie.Need-mul-fraction
-mul-fraction c = search needs
-
-fraction-requires : tie.Need-fraction-requires
-fraction-requires c κs = search needs
+to-right-requires : tie.Need-to-right-requires
+to-right-requires c κs = search needs
 
 returns : tie.Need-returns
-unfolding phaseOf
-returns c =
-    let a = c .before .before .args in
-    rw (lt-ltb (2 * a .k + 1) (a .r) (c .before .if1 .taken), c .fraction .ensures) refl
+unfolding phaseOf ofBits div ofInt
+returns c = let a = c .before .before .args in let e : a .r ≡ 1 = omega arith in let k : a .k ≡ 0 = omega arith in rw (e, k) (c .to-right .ensures)
 
-mul-fraction-2 : tie.Need-mul-fraction-2
-mul-fraction-2 c = search needs
-
-fraction-requires-2 : tie.Need-fraction-requires-2
-fraction-requires-2 c κs = search needs
+of-two-requires : tie.Need-of-two-requires
+of-two-requires c κs = search needs
 
 returns-2 : tie.Need-returns-2
-unfolding phaseOf
-returns-2 c =
-    let a = c .before .before .args in
-    rw (le-ltb (2 * a .k + 1) (a .r) (c .before .if1 .left), c .fraction2 .ensures) refl
+returns-2 c = let a = c .before .before .before .args in c .of-two .ensures ∙ ap (λ (r : ℕ). phaseOf r (a .k)) (sym (c .before .if2 .taken))
+
+of-three-requires : tie.Need-of-three-requires
+of-three-requires c κs = search needs
+
+returns-3 : tie.Need-returns-3
+returns-3 c = let a = c .before .before .before .before .args in c .of-three .ensures ∙ ap (λ (r : ℕ). phaseOf r (a .k)) (sym (c .before .if3 .taken))
+
+of-four-requires : tie.Need-of-four-requires
+of-four-requires c κs = search needs
+
+returns-4 : tie.Need-returns-4
+returns-4 c = let a = c .before .before .before .before .args in let e : a .r ≡ 4 = omega arith in c .of-four .ensures ∙ ap (λ (r : ℕ). phaseOf r (a .k)) (sym e)
 
 pub phase-of-spec : {M : Type 1} → statement M
 phase-of-spec =
     tie.close
     (tie.spec
-    mul-n
-    add-n
-    add-fraction
-    mul-fraction
-    fraction-requires
+    to-right-requires
     returns
-    mul-fraction-2
-    fraction-requires-2
-    returns-2)
+    of-two-requires
+    returns-2
+    of-three-requires
+    returns-3
+    of-four-requires
+    returns-4)
