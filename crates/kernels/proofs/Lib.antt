@@ -5,3 +5,4 @@ pub mod Colours
 pub mod FixedPoint
 pub mod Lowest
 pub mod T871
+pub mod TableRules

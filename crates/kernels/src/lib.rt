@@ -5,11 +5,13 @@
 // have the formulas.
 mod bytes;
 mod calls;
+mod entries;
 mod exact;
 mod fixed;
 mod kernel;
 mod offsets;
 mod pixel;
+mod tables;
 
 pub use bytes::Rgb;
 pub use calls::ycbcr_frac_to_rgb8;
@@ -20,3 +22,8 @@ pub use fixed::ycbcr_to_rgb8_fixed;
 pub use kernel::YcbcrKernel;
 pub use offsets::Bias;
 pub use pixel::Pixel;
+pub use tables::Raise;
+pub use tables::blue_raised;
+pub use tables::green_cb_raised;
+pub use tables::green_cr_raised;
+pub use tables::red_raised;

@@ -1,7 +1,7 @@
 -- What the inner forms give, red and blue as one over their multiplier. Definitions only.
 use mathlib.Core.Path.{_≡_}
 use mathlib.Core.Logic.{_≢_}
-use Prim.Native.Nat.{ℕ, _+_, _-_, _*_, _<_, _≤_}
+use Prim.Native.Nat.{ℕ, _+_, _-_, _*_, _/_, _<_, _≤_}
 use lib.IntN.{ℤ, pos, _+ℤ_, _*ℤ_}
 use Rattle.laws.specs.Differences.{floorDiv, limit}
 use Rattle.kernels.specs.declared.bytes.Rgb.{Rgb}
@@ -47,6 +47,10 @@ chromaAt k d y c256 = limit 255 (rnd (pos 255 *ℤ (pos (256000 * y) +ℤ pos k 
 
 unfoldable pub fixedOffset : ℕ → ℕ → ℤ
 fixedOffset k c = floorDiv (pos k *ℤ less128 c +ℤ pos 32768) 65536
+
+-- an offset raised by its bias, over natural numbers: the half and the centre are in the sum
+abbrev pub raisedFixed : ℕ → ℕ → ℕ → ℕ
+raisedFixed k bias c = (k * c + (65536 * bias + 32768 - 128 * k)) / 65536
 
 unfoldable pub plusFixed : ℕ → ℕ → ℕ → ℕ
 plusFixed k y c = limit 255 (pos y +ℤ fixedOffset k c)
