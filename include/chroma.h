@@ -217,7 +217,8 @@ ChromaPixel chroma_exact_pixel(uint32_t y, uint32_t cb256, uint32_t cr256, uint3
 ChromaPixel chroma_fixed_pixel(uint32_t y, uint32_t cb, uint32_t cr);
 
 /* Three PGM images one after another (Y, Cb, Cr; maxval 255, width at most 128, 49152 bytes in
- * all) to a PPM at the front of out, guided and exact; gives the PPM's length.
+ * all) to a PPM at the front of out, guided and exact; gives the PPM's length. Between `P5` and
+ * the maxval a comment, from `#` through the next CR or LF, counts as whitespace.
  * Refusals 14 and 15 as they are met, then 2, 5, 9 and 10, in this order. */
 ChromaWritten chroma_picture(const uint8_t *input, size_t input_len,
                              float *scratch, size_t scratch_len,

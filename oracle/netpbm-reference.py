@@ -1,5 +1,6 @@
 #!/usr/bin/env python3
-"""Document 01's paragraph on the picture program's input, read plainly, to compare `netpbm::read` with.
+"""Document 01's paragraph on the picture program's input, with document 02's on comments, read plainly, to compare
+`netpbm::read` with.
 
 Reads standard input and prints `refused N`, or a line of what was read:
 the sides, the ratios, the chroma sides, and where the rows of Y, Cb and Cr begin.
@@ -9,6 +10,7 @@ import re
 import sys
 
 WHITE = rb'[ \t\r\n]'
+COMMENT = rb'#[^\r\n]*[\r\n]'  # it counts as whitespace, but not for the byte after the maxval
 
 
 class Refused(Exception):
@@ -16,8 +18,8 @@ class Refused(Exception):
 
 
 def side(data, place):
-    """Whitespace and a decimal number; the number, and the place behind it."""
-    found = re.compile(WHITE + rb'+([0-9]+)').match(data, place)
+    """Whitespace, comments counted, and a decimal number; the number, and the place behind it."""
+    found = re.compile(rb'(?:' + WHITE + rb'|' + COMMENT + rb')+([0-9]+)').match(data, place)
     if not found:
         raise Refused(14)
     number = 0

@@ -506,6 +506,33 @@ static void test_picture(void) {
     end_slices();
 }
 
+/* Comments between a magic and its maxval count as whitespace; the byte behind a maxval is single, and a comment must end. */
+static void test_comments(void) {
+    static const char text[] = "P5#scanned\n1 1 255\n\346P5 1#x\r1 255\n\003P5 1 1# 9\r\n255\n\200";
+    static const char behind[] = "P5 1 1 255#x\n\346P5 1 1 255\n\003P5 1 1 255\n\200";
+    static const char ppm[] = "P6\n1 1\n255\n\346\377\011";
+    size_t len = sizeof ppm - 1;
+    uint8_t *input = lend_bytes(sizeof text);
+    float *scratch = lend_floats(72);
+    uint8_t *out = lend_bytes(len);
+    ChromaWritten r;
+
+    memcpy(input, behind, sizeof behind - 1);
+    r = chroma_picture(input, sizeof behind - 1, scratch, 72, out, len);
+    SAME(r.refusal, 14);
+    memcpy(input, "P5 #never 1 1 255", 17);
+    r = chroma_picture(input, 17, scratch, 72, out, len);
+    SAME(r.refusal, 14);
+    CHECK(untouched(out, len));
+
+    memcpy(input, text, sizeof text - 1);
+    r = chroma_picture(input, sizeof text - 1, scratch, 72, out, len);
+    SAME(r.refusal, 0);
+    SAME(r.len, len);
+    CHECK(memcmp(out, ppm, len) == 0);
+    end_slices();
+}
+
 /* The sizes that the header states suffice for the largest pictures. */
 static void test_largest_pictures(void) {
     static const size_t pictures[][3] = {{128, 127, 1}, {1, 8192, 1}, {2, 8148, 1}, {128, 340, 4}};
@@ -836,6 +863,7 @@ int main(void) {
     test_fill_one();
     test_fill_row();
     test_picture();
+    test_comments();
     test_largest_pictures();
     test_bits_of_reader();
     test_bits_of_planes();

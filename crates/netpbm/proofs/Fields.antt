@@ -12,16 +12,16 @@ use Rattle.laws.specs.Refusals.{first}
 use Rattle.laws.proofs.Refusals.{accepted-failed}
 use Rattle.netpbm.specs.declared.pgm.Field.{Field}
 use Rattle.netpbm.specs.declared.pgm.Image.{Image}
-use Rattle.netpbm.specs.Bytes.{hasBlank, pastBlanks}
+use Rattle.netpbm.specs.Bytes.{hasBlank, pastSpaces}
 use Rattle.netpbm.specs.Images.{hasNumber, fieldEnd, widthOf, widthEnd, heightOf, heightEnd, maxvalOf, maxvalEnd, rowsAt, imageEnd, imageTests}
 use Rattle.netpbm.specs.Inner.Held.{held, fieldHeld, HeaderHeld, heldTests, imageHeld}
-use Rattle.netpbm.proofs.Runs.{blank-inside, blanks-most, digits-most}
+use Rattle.netpbm.proofs.Runs.{blank-inside, spaces-most, digits-most}
 use Rattle.netpbm.proofs.Products.{kept, held-product, held-over, held-equal}
 
 -- a number ends inside the input, or where it began
 field-most : (s : List ℕ) (at : ℕ) → fieldEnd s at ≤ max at (length s)
 unfolding fieldEnd
-field-most s at = omega (arith, digits-most s (pastBlanks s at), blanks-most s at)
+field-most s at = omega (arith, digits-most s (pastSpaces s at), spaces-most s at)
 
 -- the three numbers, read one behind another
 pub header-of : {s : List ℕ} {at : ℕ} {w h m : Field} → w ≡ fieldHeld s (at + 2) → h ≡ fieldHeld s (w .end) → m ≡ fieldHeld s (h .end) → HeaderHeld s at w h m

@@ -1,5 +1,8 @@
 -- Laws that the proofs and other crates cite.
 pub mod Acceptance
+pub mod Alike
+pub mod Commented
+pub mod Comments
 pub mod Digits
 pub mod Fields
 pub mod Numbers

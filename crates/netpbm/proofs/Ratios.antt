@@ -49,7 +49,7 @@ module _ {n a b r : ℕ} (t : Tried n a b r) where
 
 -- ---- a ratio that was found fits
 
-both-true : (a b : Bool) → (a && b) ≡ true → (a ≡ true) × (b ≡ true)
+pub both-true : (a b : Bool) → (a && b) ≡ true → (a ≡ true) × (b ≡ true)
 both-true true b e = (refl, e)
 both-true false b e = let z : _≡_ {A = ℕ} 0 1 = cc in absurd (omega arith)
 

@@ -1,7 +1,7 @@
 -- Laws of the entries at the front that pass a test: one more, none, and how many there can be.
 -- They are proved once for every test that 0 doesn't pass, since `getD` gives 0 past the end: so what passes stands inside, and a run
--- ends inside too. Whitespace, digits and the magic are their uses.
-use mathlib.Core.Path.{_≡_, refl, ap, _∙_}
+-- ends inside too. Whitespace, digits and the magic are their uses. Whitespace with its comments has the same laws by a state more.
+use mathlib.Core.Path.{_≡_, refl, sym, ap, _∙_}
 use mathlib.Core.Bool.{Bool, true, false, _&&_, cond}
 use mathlib.Core.List.{List, [], _∷_}
 use Prim.Native.Nat.{ℕ, suc, _+_, _-_, max, _≤_, _<_}
@@ -10,10 +10,11 @@ use native.Mathlib.Omega.{arith}
 use lib.Dec.{leb, ltb, eqb}
 use lib.ListN.{length, getD, drop, length-drop, drop-of-length-le, List·getD-eq-default}
 use lib.Seq.{drop-cons}
-use borrow.Author.Tests.{ltb-true, ltb-false, leb-true}
+use borrow.Author.Tests.{ltb-true, ltb-false, leb-true, lt-ltb, le-ltb}
 use Rattle.netpbm.specs.Ascii.{isBlank, isDigit}
-use Rattle.netpbm.specs.Bytes.{leading, hasBlank, hasDigit, digitsAt, pastBlanks, pastDigits}
+use Rattle.netpbm.specs.Bytes.{leading, inComment, isSpace, spaces, hasBlank, hasSpace, hasDigit, digitsAt, pastSpaces, pastDigits}
 use Rattle.netpbm.specs.Images.{hasMagic}
+use Rattle.netpbm.specs.Inner.Held.{spaceHeld}
 
 pub leading-most : (p : ℕ → Bool) (xs : List ℕ) → leading p xs ≤ length xs
 unfolding leading
@@ -66,17 +67,46 @@ module _ (s : List ℕ) (at : ℕ) where
   unfolding hasBlank
   blank-inside e = inside isBlank refl s at e
 
-  pub blanks-more : hasBlank s at ≡ true → pastBlanks s at ≡ pastBlanks s (at + 1)
-  unfolding hasBlank pastBlanks
-  blanks-more e = let m = more isBlank refl s at e in omega arith
+-- ---- whitespace, comments counted
 
-  pub blanks-end : hasBlank s at ≡ false → pastBlanks s at ≡ at
-  unfolding hasBlank pastBlanks
-  blanks-end e = let m = ends isBlank refl s at e in omega arith
+pub spaces-count : (c : Bool) (xs : List ℕ) → spaces c xs ≤ length xs
+unfolding spaces
+spaces-count c [] = omega arith
+spaces-count c (x ∷ xs) = go (isSpace c x) (spaces-count (inComment c x) xs)
+  where
+    go : (t : Bool) → spaces (inComment c x) xs ≤ length xs → cond t (suc (spaces (inComment c x) xs)) 0 ≤ suc (length xs)
+    go true h = omega arith
+    go false h = omega arith
 
-  pub blanks-most : pastBlanks s at ≤ max at (length s)
-  unfolding pastBlanks
-  blanks-most = most isBlank refl s at
+module _ (s : List ℕ) (c : Bool) (at : ℕ) where
+  pub space-here : at < length s → isSpace c (getD s at 0) ≡ spaceHeld s c at
+  unfolding spaceHeld
+  space-here l = rw (lt-ltb at (length s) l) refl
+
+  pub space-outside : length s ≤ at → false ≡ spaceHeld s c at
+  unfolding spaceHeld
+  space-outside g = rw (le-ltb at (length s) g) refl
+
+  pub space-inside : spaceHeld s c at ≡ true → at < length s
+  space-inside e = cases s at (λ l. l) (λ g. differ (spaceHeld s c at) e (sym (space-outside g)))
+
+  pub spaces-more : spaceHeld s c at ≡ true → spaces c (drop at s) ≡ suc (spaces (inComment c (getD s at 0)) (drop (at + 1) s))
+  unfolding spaces
+  spaces-more e = let l = space-inside e in rw (add-one, drop-cons s at 0 l, space-here l ∙ e) refl
+
+  pub spaces-end : spaceHeld s c at ≡ false → spaces c (drop at s) ≡ 0
+  unfolding spaces
+  spaces-end e = cases s at (λ l. rw (drop-cons s at 0 l, space-here l ∙ e) refl) (λ g. rw (drop-of-length-le s g) refl)
+
+module _ (s : List ℕ) (at : ℕ) where
+  -- outside a comment none begins past the end
+  pub space-is : spaceHeld s false at ≡ hasSpace s at
+  unfolding hasSpace
+  space-is = cases s at (λ l. sym (space-here s false at l)) (λ g. sym (space-outside s false at g) ∙ rw (List·getD-eq-default s 0 g) refl)
+
+  pub spaces-most : pastSpaces s at ≤ max at (length s)
+  unfolding pastSpaces
+  spaces-most = omega (arith, spaces-count false (drop at s), length-drop at s)
 
 -- ---- digits
 

@@ -1,13 +1,17 @@
--- Worked examples of the definitions: document 01's picture, the table's examples of 14 and 15, and the lines that are written.
+-- Worked examples of the definitions: document 01's picture, the table's examples of 14 and 15, headers with comments, and the lines that
+-- are written.
 use mathlib.Core.Path.{_≡_, refl}
+use mathlib.Core.Logic.{inl, inr}
 use mathlib.Core.List.{List, [], _∷_, _++_}
 use Prim.Native.Nat.{ℕ}
+use native.Mathlib.Omega.{arith}
 use Rattle.laws.specs.Refusals.{first}
 use Rattle.image.specs.Tests.{divCeil, badSize}
 use Rattle.netpbm.specs.declared.reading.Reading.the-variants.{Read, Refused}
-use Rattle.netpbm.specs.Bytes.{leading, decimalOf, hasBlank, hasDigit, digitsAt, pastBlanks, pastDigits, numberAt}
+use Rattle.netpbm.specs.Bytes.{leading, spaces, decimalOf, hasBlank, hasSpace, hasDigit, digitsAt, pastSpaces, pastDigits, numberAt}
 use Rattle.netpbm.specs.Images.{hasMagic, hasNumber, fieldOf, fieldEnd, widthOf, widthEnd, heightOf, heightEnd, maxvalOf, maxvalEnd, rowsAt, imageEnd, imageTests}
 use Rattle.netpbm.specs.Reading.{cbAt, crAt, smallest, ratioFor, inputLayout, noRatio, imagesTests, wholeTests, readingTests}
+use Rattle.netpbm.specs.Comments.{allSpace, BeforeNumber, InHeader, Commented}
 use Rattle.netpbm.specs.Inner.Reading.{readingOf}
 use Rattle.netpbm.specs.Lines.{digits, digitsOf, ppmHeader, refusalLine}
 
@@ -31,10 +35,39 @@ pub record Inputs : Type 0 where
   pub width-129 : readingOf (80 ∷ 53 ∷ 32 ∷ 49 ∷ 50 ∷ 57 ∷ []) ≡ Refused 15
   -- a width of 128 goes on, and the height is missing
   pub width-128 : readingOf (80 ∷ 53 ∷ 32 ∷ 49 ∷ 50 ∷ 56 ∷ []) ≡ Refused 14
+  -- `P5#c`, newline, `1 1 255`, newline, in the second image: a comment in the place of whitespace
+  pub comment : readingOf (header ++ (230 ∷ 80 ∷ 53 ∷ 35 ∷ 99 ∷ 10 ∷ 49 ∷ 32 ∷ 49 ∷ 32 ∷ 50 ∷ 53 ∷ 53 ∷ 10 ∷ 3 ∷ header) ++ (128 ∷ [])) ≡ Read (record { w = 1; h = 1; rh = 1; rv = 1; cw = 1; ch = 1; «sample_bytes» = 1; maxval = 255 }) 11 25 37
+  -- `P5 1 1 255#`, CR, and the row: "the byte just after the maxval is still single"
+  pub comment-behind : readingOf ((80 ∷ 53 ∷ 32 ∷ 49 ∷ 32 ∷ 49 ∷ 32 ∷ 50 ∷ 53 ∷ 53 ∷ 35 ∷ 13 ∷ 230 ∷ header) ++ (3 ∷ header) ++ (128 ∷ [])) ≡ Refused 14
+  -- `P5 #1 1 255`: "a comment that never ends is a bad header"
+  pub unended : readingOf (80 ∷ 53 ∷ 32 ∷ 35 ∷ 49 ∷ 32 ∷ 49 ∷ 32 ∷ 50 ∷ 53 ∷ 53 ∷ []) ≡ Refused 14
+  -- `P5 129#`: the width is met before the comment
+  pub wide-before : readingOf (80 ∷ 53 ∷ 32 ∷ 49 ∷ 50 ∷ 57 ∷ 35 ∷ []) ≡ Refused 15
 
 inputs : Inputs
-unfolding leading decimalOf hasBlank hasDigit digitsAt pastBlanks pastDigits numberAt hasMagic hasNumber fieldOf fieldEnd widthOf widthEnd heightOf heightEnd maxvalOf maxvalEnd rowsAt imageEnd imageTests cbAt crAt smallest ratioFor inputLayout noRatio imagesTests wholeTests readingTests readingOf first divCeil badSize
-inputs = record { one-by-one = refl; one-more = refl; two-blanks = refl; no-row = refl; p4 = refl; width-129 = refl; width-128 = refl }
+unfolding leading spaces decimalOf hasBlank hasSpace hasDigit digitsAt pastSpaces pastDigits numberAt hasMagic hasNumber fieldOf fieldEnd widthOf widthEnd heightOf heightEnd maxvalOf maxvalEnd rowsAt imageEnd imageTests cbAt crAt smallest ratioFor inputLayout noRatio imagesTests wholeTests readingTests readingOf first divCeil badSize
+inputs = record { one-by-one = refl; one-more = refl; two-blanks = refl; no-row = refl; p4 = refl; width-129 = refl; width-128 = refl; comment = refl; comment-behind = refl; unended = refl; wide-before = refl }
+
+-- a comment in the place of a whitespace byte, so that the theorem of Commented speaks of something: `# b` and an LF behind the second image's
+-- width, with another comment, `#` and a CR, before the place
+commented : (let front = header ++ (230 ∷ 80 ∷ 53 ∷ 32 ∷ 49 ∷ 35 ∷ 13 ∷ []) in let rest = 49 ∷ 32 ∷ 50 ∷ 53 ∷ 53 ∷ 10 ∷ 3 ∷ header ++ (128 ∷ []) in Commented (front ++ (32 ∷ rest)) (front ++ (35 ∷ 32 ∷ 98 ∷ 10 ∷ rest)))
+unfolding leading spaces decimalOf hasBlank hasSpace hasDigit digitsAt pastSpaces pastDigits numberAt hasMagic hasNumber fieldOf fieldEnd widthOf widthEnd heightOf heightEnd maxvalOf maxvalEnd rowsAt imageEnd cbAt allSpace BeforeNumber InHeader
+commented = record {
+  front = header ++ (230 ∷ 80 ∷ 53 ∷ 32 ∷ 49 ∷ 35 ∷ 13 ∷ []);
+  blank = 32;
+  rest = 49 ∷ 32 ∷ 50 ∷ 53 ∷ 53 ∷ 10 ∷ 3 ∷ header ++ (128 ∷ []);
+  s-is = refl;
+  blank-is = refl;
+  text = 32 ∷ 98 ∷ [];
+  last = 10;
+  t-is = refl;
+  text-is = refl;
+  last-is = refl;
+  start = 16;
+  in-header = inr (inl (inr (inl refl)));
+  start-most = omega arith;
+  whitespace-is = refl;
+}
 
 -- what is written
 pub record Outputs : Type 0 where

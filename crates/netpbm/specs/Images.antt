@@ -6,22 +6,22 @@ use Prim.Native.Nat.{ℕ, _+_, _-_, _*_}
 use lib.Dec.{ltb, eqb}
 use lib.ListN.{length, getD}
 use Rattle.laws.specs.Refusals.{Test}
-use Rattle.netpbm.specs.Bytes.{hasBlank, hasDigit, pastBlanks, pastDigits, numberAt}
+use Rattle.netpbm.specs.Bytes.{hasBlank, hasSpace, hasDigit, pastSpaces, pastDigits, numberAt}
 
 -- "the two bytes P5"
 unfoldable pub hasMagic : List ℕ → ℕ → Bool
 hasMagic s at = eqb (getD s at 0) 80 && eqb (getD s (at + 1) 0) 53
 
--- ---- a number of the header: "whitespace", "one or more", then digits, one or more
+-- ---- a number of the header: "whitespace", "one or more", comments counted, then digits, one or more
 
 unfoldable pub hasNumber : List ℕ → ℕ → Bool
-hasNumber s at = hasBlank s at && hasDigit s (pastBlanks s at)
+hasNumber s at = hasSpace s at && hasDigit s (pastSpaces s at)
 
 unfoldable pub fieldOf : List ℕ → ℕ → ℕ
-fieldOf s at = numberAt s (pastBlanks s at)
+fieldOf s at = numberAt s (pastSpaces s at)
 
 unfoldable pub fieldEnd : List ℕ → ℕ → ℕ
-fieldEnd s at = pastDigits s (pastBlanks s at)
+fieldEnd s at = pastDigits s (pastSpaces s at)
 
 -- ---- the header's three numbers, and where each ends
 
@@ -43,7 +43,7 @@ maxvalOf s at = fieldOf s (heightEnd s at)
 unfoldable pub maxvalEnd : List ℕ → ℕ → ℕ
 maxvalEnd s at = fieldEnd s (heightEnd s at)
 
--- "one whitespace byte, then rows": where the first row byte stands
+-- "one whitespace byte, then rows": where the first row byte stands. "The byte just after the maxval is still single", so no comment stands there
 unfoldable pub rowsAt : List ℕ → ℕ → ℕ
 rowsAt s at = maxvalEnd s at + 1
 

@@ -4,4 +4,5 @@ pub mod Reading
 pub mod Bytes
 pub mod Images
 pub mod Ascii
+pub mod Comments
 pub mod Inner

@@ -10,7 +10,8 @@ use crate::scan::blank_at;
 use crate::scan::digit_at;
 use crate::scan::magic_at;
 use crate::scan::number_at;
-use crate::scan::skip_blanks;
+use crate::scan::skip_spaces;
+use crate::scan::space_at;
 use laws::Answer;
 use laws::then;
 
@@ -38,12 +39,12 @@ impl Image {
     pub const MAXVAL: usize = 255;
 }
 
-// The number of a header that begins with the whitespace at `at`.
+// The number of a header that begins with the whitespace at `at`, comments counted.
 fn field_at(input: &[u8], at: usize) -> Field
     ensures { λ r. ⌜ r ≡ fieldHeld (now (input .entry)) at ⌝ }
 {
-    let start = skip_blanks(input, at);
-    let good = laws::both(blank_at(input, at), digit_at(input, start));
+    let start = skip_spaces(input, at);
+    let good = laws::both(space_at(input, at, false), digit_at(input, start));
     let n = number_at(input, start);
     Field {
         good,

@@ -1,14 +1,16 @@
-// What stands at a place of the input: whitespace, digits, a number, the magic. Every function takes any place, past the end too, where
+// What stands at a place of the input: whitespace, comments, digits, a number, the magic. Every function takes any place, past the end too, where
 // nothing stands; so a header can be read to its end first and tested afterwards.
 ghost use mathlib.Core.Path.{_≡_};
 ghost use mathlib.Core.Bool.{true};
 ghost use Prim.Native.Nat.{_-_, _≤_};
 ghost use lib.ListN.{getD};
-ghost use Rattle.netpbm.specs.Bytes.{hasBlank, hasDigit, pastBlanks};
+ghost use Rattle.netpbm.specs.Bytes.{hasBlank, hasDigit, inComment, isSpace, pastSpaces};
 ghost use Rattle.netpbm.specs.Images.{hasMagic};
-ghost use Rattle.netpbm.specs.Inner.Held.{numberHeld};
+ghost use Rattle.netpbm.specs.Inner.Held.{numberHeld, spaceHeld};
+use crate::ascii::ends_comment;
 use crate::ascii::is_blank;
 use crate::ascii::is_digit;
+use crate::ascii::is_mark;
 
 // A number that was read from its digits, and where they end.
 pub struct Number {
@@ -28,6 +30,33 @@ pub fn blank_at(input: &[u8], at: usize) -> bool
 {
     if at < input.len() {
         return is_blank(input[at]);
+    }
+    false
+}
+
+// Whether a byte is whitespace, begins a comment or lies in one, which `inside` says.
+fn is_space(inside: bool, b: u8) -> bool
+    ensures { λ r. ⌜ r ≡ isSpace inside b ⌝ }
+{
+    laws::either(inside, laws::either(is_blank(b), is_mark(b)))
+}
+
+// Whether the byte behind b lies in a comment; `inside` says whether b does.
+fn in_comment(inside: bool, b: u8) -> bool
+    ensures { λ r. ⌜ r ≡ inComment inside b ⌝ }
+{
+    if inside {
+        return !ends_comment(b);
+    }
+    is_mark(b)
+}
+
+// Inner: whether the byte at `at` is whitespace, begins a comment or lies in one, which `inside` says; past the end none is or does.
+pub fn space_at(input: &[u8], at: usize, inside: bool) -> bool
+    ensures { λ r. ⌜ r ≡ spaceHeld (now (input .entry)) inside at ⌝ }
+{
+    if at < input.len() {
+        return is_space(inside, input[at]);
     }
     false
 }
@@ -56,12 +85,15 @@ pub fn magic_at(input: &[u8], at: usize) -> bool
     laws::both(input[at] == magic[0], input[at + 1] == magic[1])
 }
 
-// Inner: where the whitespace that begins at `at` ends; `at` itself where none stands there.
-pub fn skip_blanks(input: &[u8], at: usize) -> usize
-    ensures { λ r. ⌜ r ≡ pastBlanks (now (input .entry)) at ⌝ }
+// Inner: where the whitespace that begins at `at` ends, comments counted; `at` itself where none stands there. A comment that never ends
+// is whitespace up to the input's end, where no digit stands, so that its header is turned down as one with a number missing.
+pub fn skip_spaces(input: &[u8], at: usize) -> usize
+    ensures { λ r. ⌜ r ≡ pastSpaces (now (input .entry)) at ⌝ }
 {
     let mut end = at;
-    while blank_at(input, end) {
+    let mut inside = false;
+    while space_at(input, end, inside) {
+        inside = in_comment(inside, input[end]);
         end += 1;
     }
     end

@@ -1,21 +1,25 @@
 -- What the inner functions hold of one image: the definitions of Bytes and Images, with numbers past 65,536 held as 65,536, so that no
 -- product of two wraps. proofs/Products says why no test is changed by that. Definitions only.
 use mathlib.Core.Path.{_≡_}
-use mathlib.Core.Bool.{Bool, true, false, not}
+use mathlib.Core.Bool.{Bool, true, false, _&&_, not}
 use mathlib.Core.List.{List, [], _∷_}
 use Prim.Native.Nat.{ℕ, _+_, _-_, _*_, min}
 use lib.Dec.{ltb, eqb}
-use lib.ListN.{length}
+use lib.ListN.{length, getD}
 use Rattle.laws.specs.Refusals.{Test, first, accepted}
 use Rattle.netpbm.specs.declared.scan.Number.{Number}
 use Rattle.netpbm.specs.declared.pgm.Field.{Field}
 use Rattle.netpbm.specs.declared.pgm.Image.{Image}
-use Rattle.netpbm.specs.Bytes.{hasBlank, pastDigits, numberAt}
+use Rattle.netpbm.specs.Bytes.{hasBlank, isSpace, pastDigits, numberAt}
 use Rattle.netpbm.specs.Images.{hasMagic, hasNumber, fieldOf, fieldEnd, widthOf, widthEnd, heightOf, heightEnd, rowsAt, imageTests}
 
 -- a number as it is held: 65,536 is `Number::MOST`
 abbrev pub held : ℕ → ℕ
 held n = min n 65536
+
+-- the byte at `at` is whitespace, begins a comment or lies in one (c); past the end none is or does, not even where a comment never ended
+unfoldable pub spaceHeld : List ℕ → Bool → ℕ → Bool
+spaceHeld s c at = ltb at (length s) && isSpace c (getD s at 0)
 
 -- the number whose digits begin at `at`, and where they end
 unfoldable pub numberHeld : List ℕ → ℕ → Number

@@ -2,14 +2,15 @@ use mathlib.Core.Path.{refl}
 use borrow.Author.Needs.{needs}
 use Rattle.netpbm.specs.Images.{hasNumber, fieldOf, fieldEnd}
 use Rattle.netpbm.specs.Inner.Held.{numberHeld, fieldHeld}
+use Rattle.netpbm.proofs.Runs.{space-is}
 use Rattle.netpbm.proofs.pgm.field_at.Statement.{statement}
 use Rattle.netpbm.proofs.pgm.field_at.Tie as tie
 
-skip-blanks-requires : tie.Need-skip-blanks-requires
-skip-blanks-requires c κs = search needs
+skip-spaces-requires : tie.Need-skip-spaces-requires
+skip-spaces-requires c κs = search needs
 
-blank-at-requires : tie.Need-blank-at-requires
-blank-at-requires c κs = search needs
+space-at-requires : tie.Need-space-at-requires
+space-at-requires c κs = search needs
 
 digit-at-requires : tie.Need-digit-at-requires
 digit-at-requires c κs = search needs
@@ -25,14 +26,14 @@ unfolding fieldHeld hasNumber fieldOf fieldEnd numberHeld
 returns c =
     let b = c .before in
     let d = b .before in
-    rw (c .number-at .ensures, b .both .ensures, d .digit-at .ensures, d .before .blank-at .ensures, d .before .before .skip-blanks .ensures) refl
+    rw (c .number-at .ensures, b .both .ensures, d .digit-at .ensures, d .before .space-at .ensures, space-is, d .before .before .skip-spaces .ensures) refl
 
 pub field-at-spec : {M : Type 1} → statement M
 field-at-spec =
     tie.close
     (tie.spec
-    skip-blanks-requires
-    blank-at-requires
+    skip-spaces-requires
+    space-at-requires
     digit-at-requires
     both-requires
     number-at-requires
