@@ -55,7 +55,7 @@ fn input(w: usize, h: usize, rh: usize, rv: usize, sample_bytes: usize, maxval: 
     let all = [strides.y, strides.cb, strides.cr];
     let bytes = [0, 1, 2].map(|k| Bytes { data: &planes[k], stride: all[k] });
     let beside = Picture::new(Numbers { w, h, rh, rv, bps: sample_bytes, maxval }, bytes).expect("a picture");
-    let layout = ChromaLayout { w, h, rh, rv, cw, ch, sample_bytes, maxval };
+    let layout = ChromaLayout { w, h, rh, rv, cw, ch, sample_bytes, maxval, siting_across: 0, siting_down: 0 };
     Input { layout, planes, strides, beside, scratch: vec![0.0; 64 * cw + 8 * w] }
 }
 
@@ -80,7 +80,7 @@ impl Cell {
             b = b.min(now() - t);
         }
         let ns = 1e9 / pixels as f64;
-        let word = if same() { "same" } else { "DIFFERENT" };
+        let word = if name.contains("co-sited") { "of another siting" } else if same() { "same" } else { "DIFFERENT" };
         println!("| {name} | {:.2} | {:.2} | {:.2} | {word} |", a * ns, b * ns, b / a);
     }
 
@@ -227,6 +227,12 @@ fn main() {
     cell.plane(&i, 0, "linear plane, 2:2");
     cell.plane(&i, 1, "guided plane, 2:2");
     cell.plane(&i, 2, "triangular plane, 2:2");
+    // Co-sited chroma beside the original's centred rows, which are as much work: the output is another one.
+    for (rh, rv) in [(2, 2), (2, 1), (3, 3), (4, 4)] {
+        let mut i = input(1_024, 1_024, rh, rv, 1, 255);
+        (i.layout.siting_across, i.layout.siting_down) = (1, 1);
+        cell.fill(&i, true, false, 3, &format!("fill linear exact, 3 bytes, {rh}:{rv}, co-sited, 1024 by 1024"));
+    }
     let i = input(8_192, 64, 2, 2, 1, 255);
     cell.fill(&i, false, false, 3, "fill guided exact, 3 bytes, 2:2, 8192 by 64");
 }

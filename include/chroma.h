@@ -43,8 +43,14 @@
 extern "C" {
 #endif
 
-/* What a call answers. The lowest number that applies is given, except that chroma_picture
- * has its own order and 255 comes before all else.
+/* The interface that this header describes, 0xMMmmpp: raised whenever a struct, a number or a call
+ * moves. chroma_version gives that of the library that is linked: a program that was compiled
+ * against another one should stop. */
+#define CHROMA_VERSION 0x000200
+uint32_t chroma_version(void);
+
+/* What a call answers: the first number of its list that applies, where lists follow the order
+ * of this table, 16 stands between 6 and 7, and 255 before all else; chroma_picture has its own order.
  * docs/REFUSALS.md has each number's example and definition, and each call's list. */
 enum ChromaRefusal {
     CHROMA_ACCEPTED = 0,
@@ -68,19 +74,35 @@ enum ChromaRefusal {
                                  or maxval outside 1..65535 */
     CHROMA_BAD_HEADER = 14,   /* a PGM header that is not one, or bytes left over */
     CHROMA_TOO_LARGE = 15,    /* the picture call's size limits passed, or rows missing */
-    CHROMA_NO_SUCH_WAY = 255  /* chroma_fill: a switch that is neither 0 nor 1 */
+    CHROMA_NOT_CENTRED = 16,  /* co-sited chroma on either axis with a guided or triangular call */
+    CHROMA_NO_SUCH_WAY = 255  /* a siting, or a switch of chroma_fill, that is neither 0 nor 1 */
 };
 
 /* A picture's numbers: w by h pixels, rh by rv of them to a chroma cell, cw by ch cells, bytes
- * of a sample, and the largest sample. 4:2:0 is rh 2 and rv 2, 4:2:2 is 2 and 1, 4:4:4 is 1 and
- * 1. A cell sits in the middle of its pixels, as JPEG has it. */
+ * of a sample, the largest sample, and where a chroma sample sits, across and down. 4:2:0 is rh 2
+ * and rv 2, 4:2:2 is 2 and 1, 4:4:4 is 1 and 1. A siting is 0 for centred, in the middle of the
+ * cell's pixels, as JPEG has it, or 1 for co-sited, on the first of them, as BT.601 has it
+ * across: 4:2:2 video is siting_across 1 and siting_down 0. Co-sited chroma is for the linear calls. */
 typedef struct ChromaLayout {
     size_t w, h;
     size_t rh, rv;
     size_t cw, ch;
     size_t sample_bytes;
     uint32_t maxval;
+    uint32_t siting_across, siting_down;
 } ChromaLayout;
+
+/* The layout of a picture of one byte a sample with maxval 255 and centred chroma, whose chroma
+ * size is the quotient rounded up (0 where a ratio is 0, which every call refuses). */
+static inline ChromaLayout chroma_layout(size_t w, size_t h, size_t rh, size_t rv) {
+    ChromaLayout l;
+    l.w = w, l.h = h, l.rh = rh, l.rv = rv;
+    l.cw = rh == 0 ? 0 : w / rh + (w % rh != 0);
+    l.ch = rv == 0 ? 0 : h / rv + (h % rv != 0);
+    l.sample_bytes = 1, l.maxval = 255;
+    l.siting_across = 0, l.siting_down = 0;
+    return l;
+}
 
 /* How many bytes apart the rows of each plane begin. */
 typedef struct ChromaStrides {
@@ -141,7 +163,7 @@ static inline size_t chroma_scratch_need(size_t cw, size_t w) {
 /* Opens a picture: gives its reader at row 0. `scratch` is the slice that the row calls will
  * be lent; only its length is looked at. `reader` may hold anything, and comes back where the
  * call is refused; `static ChromaReader none;` is one to begin with, in C and in C++.
- * Refusals 2, 3, 4, 5, 7, 9. */
+ * Refusals 255 (a siting that is neither 0 nor 1), then 2, 3, 4, 5, 16, 7, 9. */
 ChromaReply chroma_open(ChromaLayout layout,
                         const uint8_t *y, size_t y_len,
                         const uint8_t *cb, size_t cb_len,
@@ -169,8 +191,8 @@ ChromaReply chroma_row(ChromaReader reader,
                        float *out_cr, size_t out_cr_len);
 
 /* One whole chroma plane, interpolated linearly: w * h values into out, row by row without gaps,
- * rounded halves up and limited to 0..maxval. `plane` is Cb or Cr.
- * Refusals 2, 3, 4, 5, 7, 9, 10. */
+ * rounded halves up and limited to 0..maxval. `plane` is Cb or Cr, by either siting.
+ * Refusals 255, then 2, 3, 4, 5, 7, 9, 10. */
 uint32_t chroma_linear_plane(ChromaLayout layout,
                              const uint8_t *plane, size_t plane_len, size_t stride,
                              float *scratch, size_t scratch_len,
@@ -178,7 +200,7 @@ uint32_t chroma_linear_plane(ChromaLayout layout,
 
 /* One whole chroma plane, guided by luma: w * h values into out, laid out, rounded and limited as
  * above.
- * Refusals 2, 3, 4, 5, 7, 9, 10. */
+ * Refusals 255, then 2, 3, 4, 5, 16, 7, 9, 10. */
 uint32_t chroma_guided_plane(ChromaLayout layout,
                              const uint8_t *y, size_t y_len, size_t y_stride,
                              const uint8_t *plane, size_t plane_len, size_t stride,
@@ -186,7 +208,7 @@ uint32_t chroma_guided_plane(ChromaLayout layout,
                              uint16_t *out, size_t out_len);
 
 /* One whole chroma plane, triangular, in whole numbers: w * h values into out, row by row.
- * Refusals 2, 3, 4, 5, 6, 7, 10. */
+ * Refusals 255, then 2, 3, 4, 5, 6, 16, 7, 10. */
 uint32_t chroma_triangular_plane(ChromaLayout layout,
                                  const uint8_t *plane, size_t plane_len, size_t stride,
                                  uint16_t *out, size_t out_len);
@@ -196,8 +218,8 @@ uint32_t chroma_triangular_plane(ChromaLayout layout,
  * range), in 8 bits whatever maxval is; chroma is neutral at (maxval + 1) / 2.
  * `upsampling`: 0 linear, 1 guided. `kernel`: 0 exact, T.871's equations on chroma in 256ths; 1
  * fixed, 16-bit fixed point on chroma rounded to whole samples (maxval 255).
- * Refusals 255 (either is another number), then 2, 3, 4, 5, 7, 8, 9, 10 (out shorter than
- * w * h * size). */
+ * Refusals 255 (either, or a siting, is another number), then 2, 3, 4, 5, 16 (guided), 7, 8, 9,
+ * 10 (out shorter than w * h * size). */
 uint32_t chroma_fill(ChromaLayout layout,
                      const uint8_t *y, size_t y_len,
                      const uint8_t *cb, size_t cb_len,

@@ -1,10 +1,13 @@
-//! Random pictures and call lists, the crates' sources beside the original.
-//! Usage: compare PICTURES LISTS PIXELS FILLS; it ends with status 1 where anything differs.
+//! Random pictures and call lists, the crates' sources beside the original; co-sited ones beside
+//! sited.rs.
+//! Usage: compare PICTURES LISTS PIXELS FILLS SITED; it ends with status 1 where anything differs.
+mod sited;
+
 use oracle::{Bytes, Chroma, GuidedReader, Numbers};
 // The one path into what is compared: the public crate, which through-c.rs has under the same name.
 use sources::reconstruction::{
-    self as ours, Answer, ChromaUpsampling, Geometry, Layout, Phase, Pixel, Reader, Strides,
-    YcbcrKernel,
+    self as ours, Answer, Axis, ChromaUpsampling, Geometry, Layout, Phase, Pixel, Reader, Siting,
+    Strides, YcbcrKernel,
 };
 
 /// Marsaglia's 64-bit xorshift with the shifts 13, 7, 17.
@@ -64,7 +67,8 @@ fn picture(r: &mut Random, t: usize) -> Picture {
     let most = if sample_bytes == 1 { 255 } else { 65_535 };
     let maxval = if t % 3 == 0 { most } else { 1 + r.below(most) } as u32;
     let (cw, ch) = (w.div_ceil(rh), h.div_ceil(rv));
-    let layout = Layout { w, h, rh, rv, cw, ch, sample_bytes, maxval };
+    let (across, down) = (Axis::PLAIN, Axis::PLAIN);
+    let layout = Layout { w, h, rh, rv, cw, ch, across, down, sample_bytes, maxval };
     let kind = r.below(3);
     let y = plane(r, kind, w * sample_bytes, h);
     let cb = plane(r, kind, cw * sample_bytes, ch);
@@ -278,6 +282,67 @@ fn fill(r: &mut Random, t: usize) -> usize {
     (a != Answer::Accepted || out != want) as usize
 }
 
+/// The samples of a plane by row and column.
+fn cells(p: &Plane, bytes: usize) -> impl Fn(usize, usize) -> i64 + '_ {
+    move |i, j| (0..bytes).rev().fold(0, |v, k| v * 256 + p.data[i * p.stride + j * bytes + k] as i64)
+}
+
+/// A linear plane and a linear fill of a picture that is co-sited on one axis or on both; how many
+/// differ from sited.rs with the original's kernels. Guided calls and triangular answer 16.
+fn sited_calls(r: &mut Random, t: usize) -> [usize; 3] {
+    let mut p = picture(r, t);
+    if r.below(2) == 0 {
+        p.layout.maxval = 255;
+    }
+    let kind = 1 + r.below(3);
+    let siting = |co_sited: bool| Axis { siting: if co_sited { Siting::CoSited } else { Siting::Centred } };
+    (p.layout.across, p.layout.down) = (siting(kind & 1 != 0), siting(kind & 2 != 0));
+    let l = p.layout;
+    let axes = (
+        sited::Axis { co_sited: kind & 1 != 0, ratio: l.rh },
+        sited::Axis { co_sited: kind & 2 != 0, ratio: l.rv },
+    );
+    let at = |q: &Plane, x, y| sited::chroma(cells(q, l.sample_bytes), (l.cw, l.ch), axes, x, y);
+    let places: Vec<(usize, usize)> = (0..l.h).flat_map(|y| (0..l.w).map(move |x| (x, y))).collect();
+    let mut s = vec![f32::NAN; scratch_need(l)];
+    let mut out = vec![42_405u16; l.w * l.h + 3];
+    let a = ours::linear_plane(l, &p.cb.data, p.cb.stride, &mut s, &mut out);
+    let want: Vec<u32> = places.iter().map(|&(x, y)| sited::halves_up(at(&p.cb, x, y) as f64, l.maxval)).collect();
+    let plane = a == Answer::Accepted && agrees(&out, &want);
+
+    let size = 3 + r.below(2);
+    let fixed = l.maxval == 255 && r.below(2) == 0;
+    let mut rgb: Vec<u8> = (0..l.w * l.h * size + 5).map(|_| r.next() as u8).collect();
+    let mut colours = rgb.clone();
+    let luma = cells(&p.y, l.sample_bytes);
+    for (&(x, y), pixel) in places.iter().zip(colours.chunks_mut(size)) {
+        let (luma, cb, cr) = (luma(y, x) as u32, at(&p.cb, x, y) as f64, at(&p.cr, x, y) as f64);
+        let in_256ths = |v: f64| sited::halves_up(v * 256.0, if l.maxval == 255 { 65_536 } else { 16_776_960 });
+        let rgb = match (fixed, l.maxval) {
+            (true, _) => oracle::ycbcr_to_rgb8_fixed16(luma, sited::halves_up(cb, 255), sited::halves_up(cr, 255)),
+            (false, 255) => oracle::ycbcr_frac_to_rgb8_8bit(luma, in_256ths(cb), in_256ths(cr)),
+            (false, d) => oracle::ycbcr_frac_to_rgb8(luma, in_256ths(cb), in_256ths(cr), d),
+        };
+        pixel[..3].copy_from_slice(&rgb);
+    }
+    let kernel = if fixed { YcbcrKernel::FixedPoint16 } else { YcbcrKernel::Exact };
+    let mut filled = |up, out: &mut [u8]| {
+        ours::fill(l, &p.y.data, &p.cb.data, &p.cr.data, strides(&p), up, kernel, size, &mut s, out)
+    };
+    let a = filled(ChromaUpsampling::Linear, &mut rgb);
+    let fill = a == Answer::Accepted && rgb == colours;
+
+    let mut others = filled(ChromaUpsampling::LumaGuided, &mut rgb) == Answer::Refused(16) && rgb == colours;
+    let before = out.clone();
+    let a = ours::guided_plane(l, &p.y.data, p.y.stride, &p.cb.data, p.cb.stride, &mut s, &mut out);
+    others &= a == Answer::Refused(16) && out == before;
+    let a = ours::triangular_plane(l, &p.cb.data, p.cb.stride, &mut out);
+    others &= matches!(a, Answer::Refused(6 | 16)) && out == before;
+    let reply = ours::open(l, &p.y.data, &p.cb.data, &p.cr.data, strides(&p), &s, closed());
+    others &= reply.answer == Answer::Refused(16);
+    [plane, fill, others].map(|same| !same as usize)
+}
+
 /// The fixed kernel at every pair of whole chroma, at Y 0 and 255.
 fn pairs() -> usize {
     let mut differ = 0;
@@ -314,6 +379,14 @@ fn main() {
     println!("131,072 pixels of the fixed kernel, every pair of chroma at Y 0 and 255; differ: {every}");
     let fills: usize = (0..counts[3]).map(|t| fill(&mut r, t)).sum();
     println!("{} fills; differ: {fills}", counts[3]);
-    let all = linear + guided + triangular + lists + exact + other + fixed + every + fills;
+    let mut sited = [0; 3];
+    for t in 0..counts[4] {
+        let found = sited_calls(&mut r, t);
+        (0..3).for_each(|i| sited[i] += found[i]);
+    }
+    let [planes, filled, refused] = sited;
+    println!("{} co-sited pictures; differ: planes {planes}, fills {filled}, refusals {refused}", counts[4]);
+    let all = linear + guided + triangular + lists + exact + other + fixed + every + fills
+        + planes + filled + refused;
     std::process::exit((all != 0) as i32);
 }

@@ -40,6 +40,21 @@ pub mod reconstruction {
     }
 
     #[derive(Clone, Copy, Debug, PartialEq)]
+    pub enum Siting {
+        Centred = 0,
+        CoSited = 1,
+    }
+
+    #[derive(Clone, Copy, Debug, PartialEq)]
+    pub struct Axis {
+        pub siting: Siting,
+    }
+
+    impl Axis {
+        pub const PLAIN: Axis = Axis { siting: Siting::Centred };
+    }
+
+    #[derive(Clone, Copy, Debug, PartialEq)]
     pub struct Layout {
         pub w: usize,
         pub h: usize,
@@ -47,6 +62,8 @@ pub mod reconstruction {
         pub rv: usize,
         pub cw: usize,
         pub ch: usize,
+        pub across: Axis,
+        pub down: Axis,
         pub sample_bytes: usize,
         pub maxval: u32,
     }
@@ -120,8 +137,9 @@ pub mod reconstruction {
     }
 
     fn raw_layout(l: Layout) -> ChromaLayout {
-        let Layout { w, h, rh, rv, cw, ch, sample_bytes, maxval } = l;
-        ChromaLayout { w, h, rh, rv, cw, ch, sample_bytes, maxval }
+        let Layout { w, h, rh, rv, cw, ch, across, down, sample_bytes, maxval } = l;
+        let (siting_across, siting_down) = (across.siting as u32, down.siting as u32);
+        ChromaLayout { w, h, rh, rv, cw, ch, sample_bytes, maxval, siting_across, siting_down }
     }
 
     /// The state as C has it.

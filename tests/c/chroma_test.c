@@ -80,10 +80,8 @@ static int untouched(const void *p, size_t bytes) {
 /* ---- layouts and states */
 
 static ChromaLayout layout_of(size_t w, size_t h, size_t rh, size_t rv, size_t cw, size_t ch) {
-    ChromaLayout l;
-    l.w = w, l.h = h, l.rh = rh, l.rv = rv, l.cw = cw, l.ch = ch;
-    l.sample_bytes = 1;
-    l.maxval = 255;
+    ChromaLayout l = chroma_layout(w, h, rh, rv);
+    l.cw = cw, l.ch = ch;
     return l;
 }
 
@@ -109,6 +107,108 @@ static int same_state(const ChromaReader *a, const ChromaReader *b) {
     for (int k = 0; k < 4; k++)
         same = same && memcmp(&a->phases[k], &b->phases[k], sizeof(ChromaPhase)) == 0;
     return same;
+}
+
+/* ---- the interface: where each field stands, and that the library puts and finds it there */
+
+#define STANDS(type, field, at) CHECK(offsetof(type, field) == (at))
+
+static void test_structs(void) {
+    CHECK(sizeof(ChromaLayout) == 72);
+    STANDS(ChromaLayout, w, 0);
+    STANDS(ChromaLayout, h, 8);
+    STANDS(ChromaLayout, rh, 16);
+    STANDS(ChromaLayout, rv, 24);
+    STANDS(ChromaLayout, cw, 32);
+    STANDS(ChromaLayout, ch, 40);
+    STANDS(ChromaLayout, sample_bytes, 48);
+    STANDS(ChromaLayout, maxval, 56);
+    STANDS(ChromaLayout, siting_across, 60);
+    STANDS(ChromaLayout, siting_down, 64);
+    CHECK(sizeof(ChromaStrides) == 24);
+    STANDS(ChromaStrides, y, 0);
+    STANDS(ChromaStrides, cb, 8);
+    STANDS(ChromaStrides, cr, 16);
+    CHECK(sizeof(ChromaPhase) == 8);
+    STANDS(ChromaPhase, left, 0);
+    STANDS(ChromaPhase, f, 4);
+    CHECK(sizeof(ChromaReader) == 120);
+    STANDS(ChromaReader, w, 0);
+    STANDS(ChromaReader, h, 8);
+    STANDS(ChromaReader, rh, 16);
+    STANDS(ChromaReader, rv, 24);
+    STANDS(ChromaReader, cw, 32);
+    STANDS(ChromaReader, ch, 40);
+    STANDS(ChromaReader, phases, 48);
+    STANDS(ChromaReader, sample_bytes, 80);
+    STANDS(ChromaReader, maxval, 88);
+    STANDS(ChromaReader, place, 96);
+    STANDS(ChromaReader, h_next, 104);
+    STANDS(ChromaReader, f_next, 112);
+    CHECK(sizeof(ChromaReply) == 128);
+    STANDS(ChromaReply, refusal, 0);
+    STANDS(ChromaReply, reader, 8);
+    CHECK(sizeof(ChromaPixel) == 8);
+    STANDS(ChromaPixel, refusal, 0);
+    STANDS(ChromaPixel, r, 4);
+    STANDS(ChromaPixel, g, 5);
+    STANDS(ChromaPixel, b, 6);
+    CHECK(sizeof(ChromaWritten) == 16);
+    STANDS(ChromaWritten, refusal, 0);
+    STANDS(ChromaWritten, len, 8);
+}
+
+/* A state spelled out field by field, as an open, a row and a seek leave it of a picture whose
+ * numbers are all different: 21 by 14 pixels, ratios 4 and 3, 6 by 5 cells, two bytes, maxval
+ * 4,095. */
+static void state_is(ChromaReply p, size_t place, size_t h_next, size_t f_next) {
+    static const uint32_t left[4] = {1, 1, 0, 0};
+    static const float f[4] = {0.625f, 0.875f, 0.125f, 0.375f};
+    SAME(p.refusal, 0);
+    SAME(p.reader.w, 21);
+    SAME(p.reader.h, 14);
+    SAME(p.reader.rh, 4);
+    SAME(p.reader.rv, 3);
+    SAME(p.reader.cw, 6);
+    SAME(p.reader.ch, 5);
+    for (int k = 0; k < 4; k++) {
+        SAME(p.reader.phases[k].left, left[k]);
+        CHECK(p.reader.phases[k].f == f[k]);
+    }
+    SAME(p.reader.sample_bytes, 2);
+    SAME(p.reader.maxval, 4095);
+    SAME(p.reader.place, place);
+    SAME(p.reader.h_next, h_next);
+    SAME(p.reader.f_next, f_next);
+}
+
+static void test_fields(void) {
+    ChromaLayout l = chroma_layout(21, 14, 4, 3);
+    ChromaStrides strides = strides_of(43, 13, 15);
+    size_t need = chroma_scratch_need(l.cw, l.w);
+    uint8_t *y = lend_bytes(43 * 14), *cb = lend_bytes(13 * 5), *cr = lend_bytes(15 * 5);
+    float *scratch = lend_floats(need), *row_cb = lend_floats(21), *row_cr = lend_floats(21);
+    ChromaReader any = garbage(0x5A);
+    ChromaReply p;
+
+    SAME(chroma_version(), CHROMA_VERSION);
+    SAME(l.cw, 6);
+    SAME(l.ch, 5);
+    l.sample_bytes = 2, l.maxval = 4095;
+    memset(y, 1, 43 * 14), memset(cb, 1, 13 * 5), memset(cr, 1, 15 * 5);
+    /* Each stride is its own plane's: 42, 12 and 12 bytes to a row. */
+    for (int k = 0; k < 3; k++) {
+        ChromaStrides low = strides;
+        *(k == 0 ? &low.y : k == 1 ? &low.cb : &low.cr) = k == 0 ? 41 : 11;
+        SAME(chroma_open(l, y, 43 * 14, cb, 13 * 5, cr, 15 * 5, low, scratch, need, any).refusal, 7);
+    }
+    p = chroma_open(l, y, 43 * 14, cb, 13 * 5, cr, 15 * 5, strides, scratch, need, any);
+    state_is(p, 0, 0, 0);
+    p = chroma_row(p.reader, y, 43 * 14, cb, 13 * 5, cr, 15 * 5, strides, 7, scratch, need, row_cb, 21, row_cr, 21);
+    state_is(p, 7, 5, 4);
+    p = chroma_seek(p.reader, 13);
+    state_is(p, 13, 3, 4);
+    end_slices();
 }
 
 /* ---- single pixels */
@@ -175,6 +275,75 @@ static void test_linear_plane(void) {
     values_are(out, wanted, 4);
     CHECK(untouched(out + 4, 2));
     end_slices();
+}
+
+/* BT.601's co-sited rows of cells 0 and 100, the same down, and each axis by its own siting. */
+static void test_sitings(void) {
+    static const int sited[3][8] = {{0, 50, 100, 100}, {0, 33, 67, 100, 100, 100}, {0, 25, 50, 75, 100, 100, 100, 100}};
+    static const int both[] = {0, 25, 75, 100, 50, 63, 88, 100, 100, 100, 100, 100};
+    uint8_t *plane = lend_bytes(4);
+    float *scratch = lend_floats(chroma_scratch_need(8, 8));
+    uint16_t *out = lend_values(12);
+    ChromaLayout l;
+
+    plane[0] = 0, plane[1] = 100, plane[2] = 100, plane[3] = 100;
+    for (size_t r = 2; r <= 4; r++) {
+        ChromaLayout across = chroma_layout(2 * r, 1, r, 1), down = chroma_layout(1, 2 * r, 1, r);
+        across.siting_across = 1, down.siting_down = 1;
+        SAME(chroma_linear_plane(across, plane, 2, 2, scratch, chroma_scratch_need(2, 2 * r), out, 8), 0);
+        values_are(out, sited[r - 2], 2 * r);
+        SAME(chroma_linear_plane(down, plane, 2, 1, scratch, chroma_scratch_need(1, 1), out, 8), 0);
+        values_are(out, sited[r - 2], 2 * r);
+    }
+    /* Cells 0, 100 over 100, 100: centred across, co-sited down. */
+    l = chroma_layout(4, 3, 2, 2);
+    l.siting_down = 1;
+    SAME(chroma_linear_plane(l, plane, 4, 2, scratch, chroma_scratch_need(2, 4), out, 12), 0);
+    values_are(out, both, 12);
+    end_slices();
+}
+
+/* Every call with a layout of 9 by 6 pixels: its refusal, and 0 for those that are taken. */
+static void sited_calls(ChromaLayout l, uint32_t guided, uint32_t linear) {
+    uint8_t *y = lend_bytes(54), *c = lend_bytes(15), *out = lend_bytes(162);
+    size_t need = chroma_scratch_need(5, 9);
+    float *scratch = lend_floats(need);
+    uint16_t *plane = lend_values(54);
+    ChromaStrides s = strides_of(9, 5, 5);
+    ChromaReader any = garbage(0x5A);
+    ChromaReply p = chroma_open(l, y, 54, c, 15, c, 15, s, scratch, need, any);
+
+    SAME(p.refusal, guided);
+    CHECK(same_state(&p.reader, &any));
+    SAME(chroma_guided_plane(l, y, 54, 9, c, 15, 5, scratch, need, plane, 54), guided);
+    SAME(chroma_triangular_plane(l, c, 15, 5, plane, 54), guided);
+    SAME(chroma_fill(l, y, 54, c, 15, c, 15, s, 1, 0, 3, scratch, need, out, 162), guided);
+    CHECK(untouched(plane, 108));
+    SAME(chroma_linear_plane(l, c, 15, 5, scratch, need, plane, 54), linear);
+    SAME(chroma_fill(l, y, 54, c, 15, c, 15, s, 0, 0, 3, scratch, need, out, 162), linear);
+    if (linear != 0) {
+        CHECK(untouched(scratch, 4 * need));
+        CHECK(untouched(plane, 108));
+        CHECK(untouched(out, 162));
+    }
+    end_slices();
+}
+
+static void test_not_centred(void) {
+    static const uint32_t strange[] = {2, 255, 65536, UINT32_MAX};
+    for (uint32_t k = 1; k < 4; k++) {
+        ChromaLayout l = chroma_layout(9, 6, 2, 2);
+        l.siting_across = k % 2, l.siting_down = k / 2;
+        sited_calls(l, CHROMA_NOT_CENTRED, CHROMA_ACCEPTED);
+    }
+    for (uint32_t k = 0; k < 8; k++) {
+        ChromaLayout l = chroma_layout(9, 6, 2, 2);
+        *(k % 2 ? &l.siting_across : &l.siting_down) = strange[k / 2];
+        sited_calls(l, CHROMA_NO_SUCH_WAY, CHROMA_NO_SUCH_WAY);
+        /* Before all else. */
+        l.w = 0, l.sample_bytes = 9;
+        sited_calls(l, CHROMA_NO_SUCH_WAY, CHROMA_NO_SUCH_WAY);
+    }
 }
 
 static void test_triangular_plane(void) {
@@ -855,8 +1024,12 @@ static void test_surplus(void) {
 }
 
 int main(void) {
+    test_structs();
+    test_fields();
     test_pixels();
     test_linear_plane();
+    test_sitings();
+    test_not_centred();
     test_triangular_plane();
     test_guided_plane();
     test_reader();

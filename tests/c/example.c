@@ -6,13 +6,13 @@
 int main(void) {
     /* 4 by 2 pixels, 4:2:0: a cell has 2 by 2 of them, so chroma is 2 by 1. */
     const uint8_t y[8] = {10, 12, 14, 200, 10, 12, 198, 200}, cb[2] = {90, 110}, cr[2] = {200, 180};
-    const ChromaLayout layout = {4, 2, 2, 2, 2, 1, 1, 255};
+    const ChromaLayout layout = chroma_layout(4, 2, 2, 2);
     const ChromaStrides strides = {4, 2, 2};
     const size_t need = chroma_scratch_need(layout.cw, layout.w);
     float *scratch = (float *)calloc(need, sizeof *scratch);
     float row_cb[4], row_cr[4];
     static ChromaReader none;
-    if (!scratch) return 2;
+    if (!scratch || chroma_version() != CHROMA_VERSION) return 2;
 
     ChromaReply at = chroma_open(layout, y, 8, cb, 2, cr, 2, strides, scratch, need, none);
     for (size_t row = 0; row < layout.h && at.refusal == CHROMA_ACCEPTED; row++) {

@@ -91,6 +91,9 @@ static ChromaLayout layout(void) {
     }
     l.sample_bytes = 1 + take(1) % 3;
     l.maxval = l.sample_bytes == 1 ? 255 : (uint32_t)take(3);
+    uint8_t sitings = (uint8_t)take(1);
+    l.siting_across = sitings < 128 ? 0 : sitings % 3;
+    l.siting_down = sitings < 128 ? 0 : sitings / 3 % 3;
     return l;
 }
 

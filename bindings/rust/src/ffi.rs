@@ -35,8 +35,17 @@ impl From<Layout> for raw::ChromaLayout {
             ch: l.ch,
             sample_bytes: l.sample_bytes,
             maxval: l.maxval,
+            siting_across: l.siting_across as u32,
+            siting_down: l.siting_down as u32,
         }
     }
+}
+
+/// The version of the interface that this crate is written for, and that of the library.
+#[cfg(test)]
+pub(crate) fn versions() -> (u32, u32) {
+    // SAFETY: a number out.
+    (raw::VERSION, unsafe { raw::chroma_version() })
 }
 
 /// Y, Cb and Cr.

@@ -33,7 +33,7 @@ mod picture;
 mod reader;
 mod refusal;
 
-pub use picture::{Layout, Picture, Plane, Scratch};
+pub use picture::{Layout, Picture, Plane, Scratch, Siting};
 pub use reader::Reader;
 pub use refusal::Refusal;
 
@@ -57,7 +57,8 @@ pub enum Kernel {
 
 /// The picture's pixels into `out`, row by row, `size` bytes each (3 or 4): red, green, blue; a
 /// fourth byte keeps what it held. Colour is T.871's (JFIF: BT.601's coefficients, full range), in
-/// 8 bits whatever maxval is. Refusals 4 (fixed kernel, maxval not 255), 8 and 10.
+/// 8 bits whatever maxval is. Refusals 4 (fixed kernel, maxval not 255), 16 (guided, chroma
+/// co-sited), 8 and 10.
 ///
 /// ```
 /// use chroma::{fill, Kernel, Layout, Picture, Plane, Refusal, Scratch, Upsampling};
@@ -98,14 +99,19 @@ pub fn fill(
 }
 
 /// One whole chroma plane (Cb or Cr), interpolated linearly: `w * h` values into `out`, row by row,
-/// rounded halves up and limited to `0..=maxval`. Refusals 2, 3, 4, 5, 7 and 10.
+/// rounded halves up and limited to `0..=maxval`, by either siting. Refusals 2, 3, 4, 5, 7 and 10.
 ///
 /// ```
-/// use chroma::{linear_plane, Layout, Plane, Scratch};
+/// use chroma::{linear_plane, Layout, Plane, Scratch, Siting};
 ///
 /// let mut out = [0; 4];
-/// linear_plane(Layout::new(4, 1, 2, 1), Plane::new(&[0, 100], 2), &mut Scratch::new(), &mut out)?;
+/// let layout = Layout::new(4, 1, 2, 1);
+/// linear_plane(layout, Plane::new(&[0, 100], 2), &mut Scratch::new(), &mut out)?;
 /// assert_eq!(out, [0, 25, 75, 100]);
+///
+/// let video = Layout { siting_across: Siting::CoSited, ..layout };
+/// linear_plane(video, Plane::new(&[0, 100], 2), &mut Scratch::new(), &mut out)?;
+/// assert_eq!(out, [0, 50, 100, 100]);
 /// # Ok::<(), chroma::Refusal>(())
 /// ```
 pub fn linear_plane(
@@ -118,7 +124,7 @@ pub fn linear_plane(
 }
 
 /// One whole chroma plane, guided by the luma plane `y`: `w * h` values into `out`, laid out,
-/// rounded and limited as those of [`linear_plane`]. Refusals 2, 3, 4, 5, 7 and 10.
+/// rounded and limited as those of [`linear_plane`]. Refusals 2, 3, 4, 5, 16, 7 and 10.
 ///
 /// ```
 /// use chroma::{guided_plane, Layout, Plane, Scratch};
@@ -141,7 +147,7 @@ pub fn guided_plane(
 }
 
 /// One whole chroma plane, triangular, in whole numbers: `w * h` values into `out`, row by row.
-/// Refusals 2, 3, 4, 5, 6, 7 and 10.
+/// Refusals 2, 3, 4, 5, 6, 16, 7 and 10.
 ///
 /// ```
 /// use chroma::{triangular_plane, Layout, Plane, Refusal};
@@ -196,4 +202,13 @@ pub fn ppm(input: &[u8]) -> Result<Vec<u8>, Refusal> {
     let written = ffi::picture(input, &mut vec![0.0; SCRATCH], &mut out)?;
     out.truncate(written);
     Ok(out)
+}
+
+#[cfg(test)]
+mod tests {
+    #[test]
+    fn the_library_is_of_the_header() {
+        let (header, library) = crate::ffi::versions();
+        assert_eq!(header, library);
+    }
 }

@@ -3,9 +3,18 @@
 use crate::ffi::{self, Planes};
 use crate::{Reader, Refusal};
 
+/// Where a chroma sample sits along one axis of its cell.
+#[derive(Clone, Copy, Debug, PartialEq, Eq)]
+pub enum Siting {
+    /// In the middle of the cell's pixels, as JPEG has it.
+    Centred = 0,
+    /// On the first of them, as BT.601 has it across. The linear calls take it; the guided and
+    /// triangular ones refuse it with [`Refusal::NotCentred`].
+    CoSited = 1,
+}
+
 /// A picture's numbers. Any numbers may stand here; the calls look at them. Ratios of 2 by 2 are
-/// 4:2:0, 2 by 1 is 4:2:2, 1 by 1 is 4:4:4. A cell sits in the middle of its pixels, as JPEG has
-/// it.
+/// 4:2:0, 2 by 1 is 4:2:2, 1 by 1 is 4:4:4.
 #[derive(Clone, Copy, Debug, PartialEq, Eq)]
 pub struct Layout {
     /// Width in pixels.
@@ -24,11 +33,15 @@ pub struct Layout {
     pub sample_bytes: usize,
     /// The largest sample.
     pub maxval: u32,
+    /// Where chroma sits across.
+    pub siting_across: Siting,
+    /// Where chroma sits down.
+    pub siting_down: Siting,
 }
 
 impl Layout {
     /// `w` by `h` pixels, `rh` by `rv` of them to a cell, the chroma size that belongs to that,
-    /// and samples of one byte with maxval 255. (A ratio of 0 gives no cell, and is refused.)
+    /// and samples of one byte with maxval 255, chroma centred. (A ratio of 0 gives no cell, and is refused.)
     ///
     /// ```
     /// use chroma::Layout;
@@ -39,6 +52,10 @@ impl Layout {
     /// // Samples of two bytes:
     /// let deep = Layout { sample_bytes: 2, maxval: 4_095, ..l };
     /// assert_eq!(deep.cw, 3);
+    ///
+    /// // Video, whose chroma sits on every second pixel of a row:
+    /// let video = Layout { siting_across: chroma::Siting::CoSited, ..Layout::new(720, 576, 2, 1) };
+    /// assert_eq!(video.cw, 360);
     /// ```
     pub fn new(w: usize, h: usize, rh: usize, rv: usize) -> Layout {
         let cells = |n: usize, r: usize| if r == 0 { 0 } else { n.div_ceil(r) };
@@ -51,6 +68,8 @@ impl Layout {
             ch: cells(h, rv),
             sample_bytes: 1,
             maxval: 255,
+            siting_across: Siting::Centred,
+            siting_down: Siting::Centred,
         }
     }
 
@@ -101,7 +120,8 @@ impl Scratch {
     }
 }
 
-/// Three borrowed planes with sizes that were checked: no call on it is refused 2, 3, 5, 7 or 9.
+/// Three borrowed planes with sizes that were checked: no call on it is refused 2, 3, 5, 7 or 9. Chroma
+/// may be co-sited: then linear calls take it, and a reader or a guided fill is refused 16.
 ///
 /// ```
 /// use chroma::{Layout, Picture, Plane, Refusal};
@@ -128,11 +148,15 @@ impl<'a> Picture<'a> {
         cr: Plane<'a>,
     ) -> Result<Picture<'a>, Refusal> {
         let planes = [y, cb, cr];
-        // With no scratch an open is always refused: 9 where nothing else is wrong.
-        match ffi::open(layout, &planes, &[]) {
+        // With no scratch a linear fill is always refused: 9 where nothing else is wrong.
+        let (linear, exact) = (
+            crate::Upsampling::Linear as u32,
+            crate::Kernel::Exact as u32,
+        );
+        match ffi::fill(layout, &planes, (linear, exact), 3, &mut [], &mut []) {
             Err(Refusal::ShortScratch) => Ok(Picture { layout, planes }),
             Err(refusal) => Err(refusal),
-            Ok(_) => unreachable!("an open with no scratch is refused"),
+            Ok(()) => unreachable!("a fill with no scratch is refused"),
         }
     }
 
@@ -145,8 +169,8 @@ impl<'a> Picture<'a> {
         &self.planes
     }
 
-    /// A reader of this picture's guided rows, at row 0.
-    pub fn reader(&self) -> Reader<'a> {
+    /// A reader of this picture's guided rows, at row 0. Refusal 16, where chroma is co-sited.
+    pub fn reader(&self) -> Result<Reader<'a>, Refusal> {
         Reader::open(*self, Scratch::new())
     }
 }

@@ -1,6 +1,12 @@
 //! include/chroma.h in Rust: its structs and its functions, under its names and in its order. The
 //! header says what they mean. oracle/ and bench/ take this file too.
 
+use std::mem::{offset_of, size_of};
+
+/// CHROMA_VERSION of the header that this file follows.
+#[allow(dead_code)]
+pub(super) const VERSION: u32 = 0x00_02_00;
+
 #[repr(C)]
 #[derive(Clone, Copy)]
 pub(super) struct ChromaLayout {
@@ -12,6 +18,8 @@ pub(super) struct ChromaLayout {
     pub(super) ch: usize,
     pub(super) sample_bytes: usize,
     pub(super) maxval: u32,
+    pub(super) siting_across: u32,
+    pub(super) siting_down: u32,
 }
 
 #[repr(C)]
@@ -66,7 +74,67 @@ pub(super) struct ChromaWritten {
     pub(super) len: usize,
 }
 
+// Where each field stands, as tests/c has it of the header.
+const _: () = {
+    assert!(size_of::<ChromaLayout>() == 72);
+    assert!(offset_of!(ChromaLayout, w) == 0);
+    assert!(offset_of!(ChromaLayout, h) == 8);
+    assert!(offset_of!(ChromaLayout, rh) == 16);
+    assert!(offset_of!(ChromaLayout, rv) == 24);
+    assert!(offset_of!(ChromaLayout, cw) == 32);
+    assert!(offset_of!(ChromaLayout, ch) == 40);
+    assert!(offset_of!(ChromaLayout, sample_bytes) == 48);
+    assert!(offset_of!(ChromaLayout, maxval) == 56);
+    assert!(offset_of!(ChromaLayout, siting_across) == 60);
+    assert!(offset_of!(ChromaLayout, siting_down) == 64);
+};
+const _: () = {
+    assert!(size_of::<ChromaStrides>() == 24);
+    assert!(offset_of!(ChromaStrides, y) == 0);
+    assert!(offset_of!(ChromaStrides, cb) == 8);
+    assert!(offset_of!(ChromaStrides, cr) == 16);
+};
+const _: () = {
+    assert!(size_of::<ChromaPhase>() == 8);
+    assert!(offset_of!(ChromaPhase, left) == 0);
+    assert!(offset_of!(ChromaPhase, f) == 4);
+};
+const _: () = {
+    assert!(size_of::<ChromaReader>() == 120);
+    assert!(offset_of!(ChromaReader, w) == 0);
+    assert!(offset_of!(ChromaReader, h) == 8);
+    assert!(offset_of!(ChromaReader, rh) == 16);
+    assert!(offset_of!(ChromaReader, rv) == 24);
+    assert!(offset_of!(ChromaReader, cw) == 32);
+    assert!(offset_of!(ChromaReader, ch) == 40);
+    assert!(offset_of!(ChromaReader, phases) == 48);
+    assert!(offset_of!(ChromaReader, sample_bytes) == 80);
+    assert!(offset_of!(ChromaReader, maxval) == 88);
+    assert!(offset_of!(ChromaReader, place) == 96);
+    assert!(offset_of!(ChromaReader, h_next) == 104);
+    assert!(offset_of!(ChromaReader, f_next) == 112);
+};
+const _: () = {
+    assert!(size_of::<ChromaReply>() == 128);
+    assert!(offset_of!(ChromaReply, refusal) == 0);
+    assert!(offset_of!(ChromaReply, reader) == 8);
+};
+const _: () = {
+    assert!(size_of::<ChromaPixel>() == 8);
+    assert!(offset_of!(ChromaPixel, refusal) == 0);
+    assert!(offset_of!(ChromaPixel, r) == 4);
+    assert!(offset_of!(ChromaPixel, g) == 5);
+    assert!(offset_of!(ChromaPixel, b) == 6);
+};
+const _: () = {
+    assert!(size_of::<ChromaWritten>() == 16);
+    assert!(offset_of!(ChromaWritten, refusal) == 0);
+    assert!(offset_of!(ChromaWritten, len) == 8);
+};
+
 extern "C" {
+    #[allow(dead_code)]
+    pub(super) fn chroma_version() -> u32;
     pub(super) fn chroma_open(
         layout: ChromaLayout,
         y: *const u8,

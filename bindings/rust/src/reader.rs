@@ -20,7 +20,7 @@ use crate::{Picture, Refusal, Scratch};
 ///     Plane::new(&cb, 2),
 ///     Plane::new(&cr, 2),
 /// )?;
-/// let mut reader = picture.reader();
+/// let mut reader = picture.reader()?;
 /// let (mut row_cb, mut row_cr) = ([0.0; 4], [0.0; 4]);
 ///
 /// // Guided with constant chroma returns that constant.
@@ -44,7 +44,7 @@ use crate::{Picture, Refusal, Scratch};
 /// let c = [128, 128];
 /// let (a, b) = (Plane::new(&c, 2), Plane::new(&c, 2));
 /// let picture = Picture::new(Layout::new(2, 1, 1, 1), Plane::new(&y, 2), a, b).unwrap();
-/// let mut reader = picture.reader();
+/// let mut reader = picture.reader().unwrap();
 /// y.fill(0);
 /// reader.seek(0).unwrap();
 /// ```
@@ -56,19 +56,19 @@ pub struct Reader<'a> {
 }
 
 impl<'a> Reader<'a> {
-    pub(crate) fn open(picture: Picture<'a>, mut scratch: Scratch) -> Reader<'a> {
+    pub(crate) fn open(picture: Picture<'a>, mut scratch: Scratch) -> Result<Reader<'a>, Refusal> {
         let layout = *picture.layout();
-        let state = ffi::open(layout, picture.planes(), scratch.of(&layout))
-            .expect("the picture was checked, and scratch suffices");
-        Reader {
+        let state = ffi::open(layout, picture.planes(), scratch.of(&layout))?;
+        Ok(Reader {
             picture,
             scratch,
             state,
-        }
+        })
     }
 
-    /// A reader of another picture, at its row 0, with this one's scratch.
-    pub fn reopen<'b>(self, picture: &Picture<'b>) -> Reader<'b> {
+    /// A reader of another picture, at its row 0, with this one's scratch. Refusal 16, where chroma
+    /// is co-sited.
+    pub fn reopen<'b>(self, picture: &Picture<'b>) -> Result<Reader<'b>, Refusal> {
         Reader::open(*picture, self.scratch)
     }
 

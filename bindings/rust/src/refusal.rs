@@ -64,13 +64,15 @@ pub enum Refusal {
     BadHeader,
     /// The size limits of [`ppm`](crate::ppm) passed, or rows missing.
     TooLarge,
+    /// Co-sited chroma on either axis with a guided or triangular call.
+    NotCentred,
     /// A number that this crate has no name for, from a library that is newer than the crate. The
     /// library of the crate's own version gives none.
     Unknown(u32),
 }
 
 impl Refusal {
-    const NAMED: [Refusal; 15] = [
+    const NAMED: [Refusal; 16] = [
         Refusal::BadState,
         Refusal::BadSize,
         Refusal::BadRatio,
@@ -86,6 +88,7 @@ impl Refusal {
         Refusal::BadPixel,
         Refusal::BadHeader,
         Refusal::TooLarge,
+        Refusal::NotCentred,
     ];
 
     /// The number of the reason, as docs/REFUSALS.md and include/chroma.h have it.
@@ -106,6 +109,7 @@ impl Refusal {
             Refusal::BadPixel => 13,
             Refusal::BadHeader => 14,
             Refusal::TooLarge => 15,
+            Refusal::NotCentred => 16,
             Refusal::Unknown(number) => number,
         }
     }
@@ -138,6 +142,7 @@ impl fmt::Display for Refusal {
             Refusal::BadPixel => "single-pixel argument out of range",
             Refusal::BadHeader => "header not as it should be, or bytes left over",
             Refusal::TooLarge => "size limits passed, or rows missing",
+            Refusal::NotCentred => "co-sited chroma, which guided and triangular calls don't take",
             Refusal::Unknown(_) => "a reason that this crate has no name for",
         };
         write!(f, "refused {}: {words}", self.number())
@@ -157,13 +162,13 @@ mod tests {
             let refusal = Refusal::check(number).unwrap_err();
             assert_eq!(refusal.number(), number);
             let unknown = matches!(refusal, Refusal::Unknown(_));
-            assert_eq!(unknown, number > 15, "{number}");
+            assert_eq!(unknown, number > 16, "{number}");
         }
     }
 
     #[test]
     fn an_unknown_number_is_an_answer() {
-        // 255 stands for a switch of chroma_fill that this crate can't pass.
+        // 255 stands for a switch or a siting that this crate can't pass.
         let refusal = Refusal::check(255).unwrap_err();
         assert_eq!(refusal, Refusal::Unknown(255));
         assert_eq!(

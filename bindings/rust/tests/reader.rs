@@ -1,6 +1,9 @@
 //! The reader against the whole planes, over many orders of calls, and over one scratch.
 
-use chroma::{guided_plane, Layout, Picture, Plane, Reader, Refusal, Scratch};
+use chroma::{
+    fill, guided_plane, linear_plane, triangular_plane, Kernel, Layout, Picture, Plane, Reader,
+    Refusal, Scratch, Siting, Upsampling,
+};
 
 /// A plane's bytes, other ones for each seed, with two bytes behind each row.
 fn bytes(seed: u32, w: usize, h: usize) -> Vec<u8> {
@@ -77,7 +80,7 @@ impl Case {
 #[test]
 fn rows_in_any_order_over_one_scratch() {
     let first = Case::new(1, 7, 9, 2, 2);
-    let mut reader = first.picture().reader();
+    let mut reader = first.picture().reader().unwrap();
     for row in [0, 0, 3, 8] {
         first.reads(&mut reader, row);
     }
@@ -89,7 +92,7 @@ fn rows_in_any_order_over_one_scratch() {
         cases.push(Case::new(10 * n as u32, 11, 13, rh, rv));
     }
     for case in &cases {
-        reader = reader.reopen(&case.picture());
+        reader = reader.reopen(&case.picture()).unwrap();
         for (from, row) in [(0, 5), (9, 12), (2, 2), (2, 3), (12, 12), (0, 0)] {
             reader.seek(from).unwrap();
             case.reads(&mut reader, row);
@@ -100,7 +103,7 @@ fn rows_in_any_order_over_one_scratch() {
 #[test]
 fn a_refused_call_changes_nothing() {
     let case = Case::new(5, 6, 6, 2, 2);
-    let mut reader = case.picture().reader();
+    let mut reader = case.picture().reader().unwrap();
     case.reads(&mut reader, 3);
     let (mut cb, mut cr) = ([-1.0; 6], [-1.0; 6]);
     assert_eq!(reader.row(2, &mut cb, &mut cr), Err(Refusal::RowPassed));
@@ -184,4 +187,46 @@ fn refusals_have_words_and_numbers() {
         refusal.to_string(),
         "refused 15: size limits passed, or rows missing"
     );
+}
+
+#[test]
+fn co_sited_pictures_are_for_linear_calls() {
+    let case = Case::new(5, 9, 6, 2, 2);
+    for (across, down) in [
+        (Siting::CoSited, Siting::Centred),
+        (Siting::Centred, Siting::CoSited),
+        (Siting::CoSited, Siting::CoSited),
+    ] {
+        let layout = Layout {
+            siting_across: across,
+            siting_down: down,
+            ..case.layout
+        };
+        let [y, cb, cr] =
+            [(0, 11), (1, 7), (2, 7)].map(|(k, stride)| Plane::new(&case.planes[k], stride));
+        let picture = Picture::new(layout, y, cb, cr).unwrap();
+        assert_eq!(picture.reader().unwrap_err(), Refusal::NotCentred);
+        let mut rgb = vec![7; 9 * 6 * 3];
+        let mut scratch = Scratch::new();
+        let mut filled = |way| fill(&picture, way, Kernel::Exact, 3, &mut scratch, &mut rgb);
+        assert_eq!(filled(Upsampling::LumaGuided), Err(Refusal::NotCentred));
+        assert_eq!(filled(Upsampling::Linear), Ok(()));
+        assert!(rgb.iter().any(|b| *b != 7));
+        let mut out = vec![0; 9 * 6];
+        assert_eq!(
+            guided_plane(layout, y, cb, &mut scratch, &mut out),
+            Err(Refusal::NotCentred)
+        );
+        assert_eq!(
+            triangular_plane(layout, cb, &mut out),
+            Err(Refusal::NotCentred)
+        );
+        assert_eq!(linear_plane(layout, cb, &mut scratch, &mut out), Ok(()));
+        // Over a cell's first pixel, co-sited both ways, lies the cell itself.
+        if across == Siting::CoSited && down == Siting::CoSited {
+            for (i, j) in [(0, 0), (1, 2), (2, 4)] {
+                assert_eq!(out[2 * i * 9 + 2 * j], case.planes[1][i * 7 + j] as u16);
+            }
+        }
+    }
 }

@@ -14,11 +14,12 @@ use Rattle.fill.specs.declared.options.ChromaUpsampling.{ChromaUpsampling}
 use Rattle.fill.specs.declared.options.ChromaUpsampling.the-variants.{Linear, LumaGuided}
 use Rattle.picture.specs.declared.Outcome.{Outcome}
 use Rattle.picture.specs.declared.Outcome.the-variants.{Written, Refused}
+use Rattle.ffi.specs.declared.types.ChromaLayout.{ChromaLayout}
 use Rattle.ffi.specs.declared.types.ChromaReader.{ChromaReader}
 use Rattle.ffi.specs.declared.types.ChromaReply.{ChromaReply}
 use Rattle.ffi.specs.declared.types.ChromaPixel.{ChromaPixel}
 use Rattle.ffi.specs.declared.types.ChromaWritten.{ChromaWritten}
-use Rattle.ffi.specs.Types.{numberOf, strangePhases}
+use Rattle.ffi.specs.Types.{numberOf, strangeLayout}
 use Rattle.ffi.specs.Replies.{replyTo}
 
 -- ---- numbers for answers
@@ -29,6 +30,11 @@ pub record Answered (Given : Answer → Type 0) (r : ℕ) : Type 0 where
   pub given : Given answer
   pub number : r ≡ numberOf answer
 
+-- the number of a call that is handed a layout or a switch: 255, before all else and with nothing changed (`Kept`), where one of C's numbers stands for none (`strange`); else that of the Rattle call's answer
+pub record Numbered (strangely : Bool) (Kept : Type 0) (Given : Answer → Type 0) (r : ℕ) : Type 0 where
+  pub strange : strangely ≡ true → (r ≡ 255) × Kept
+  pub plain : strangely ≡ false → Answered Given r
+
 -- ---- the reader
 
 -- a reply that stands for the Rattle call's, of which `Given` holds
@@ -37,10 +43,10 @@ pub record Replied (handed : ChromaReader) (Given : Reply → Type 0) (r : Chrom
   pub given : Given reply
   pub is : r ≡ replyTo handed reply
 
--- a reply of a call that looks at the state that it was handed: 1 for one that stands for none, with nothing changed (`Kept`), else the Rattle call's
-pub record Checked (handed : ChromaReader) (Kept : Type 0) (Given : Reply → Type 0) (r : ChromaReply) : Type 0 where
-  pub strange : strangePhases handed ≡ true → (r ≡ record { refusal = 1; reader = handed }) × Kept
-  pub plain : strangePhases handed ≡ false → Replied handed Given r
+-- a reply that has a number of its own, with nothing changed (`Kept`), where what C handed stands for none, and else is the Rattle call's: 255 for open's layout, 1 for the state of seek and row
+pub record Checked (strangely : Bool) (number : ℕ) (handed : ChromaReader) (Kept : Type 0) (Given : Reply → Type 0) (r : ChromaReply) : Type 0 where
+  pub strange : strangely ≡ true → (r ≡ record { refusal = number; reader = handed }) × Kept
+  pub plain : strangely ≡ false → Replied handed Given r
 
 -- ---- fill
 
@@ -61,14 +67,9 @@ asUpsampling n = pickUpsampling (eqb n 1) LumaGuided Linear
 unfoldable pub asKernel : ℕ → YcbcrKernel
 asKernel n = pickKernel (eqb n 1) FixedPoint16 Exact
 
--- another number than 0 and 1 stands for no way to fill
-unfoldable pub noSuchWay : ℕ → ℕ → Bool
-noSuchWay upsampling kernel = ltb 1 upsampling || ltb 1 kernel
-
--- what `chroma_fill` promises: 255, before all else and with nothing changed, where a switch stands for none; else `fill`'s answer by its number
-pub record Filled (upsampling kernel : ℕ) (Kept : Type 0) (Given : ChromaUpsampling → YcbcrKernel → Answer → Type 0) (r : ℕ) : Type 0 where
-  pub strange : noSuchWay upsampling kernel ≡ true → (r ≡ 255) × Kept
-  pub plain : noSuchWay upsampling kernel ≡ false → Answered (Given (asUpsampling upsampling) (asKernel kernel)) r
+-- another number than 0 and 1 stands for no way to fill, and for no siting
+unfoldable pub noSuchWay : ChromaLayout → ℕ → ℕ → Bool
+noSuchWay l upsampling kernel = (ltb 1 upsampling || ltb 1 kernel) || strangeLayout l
 
 -- ---- pixels and the picture
 

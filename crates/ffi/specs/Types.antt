@@ -1,5 +1,5 @@
 -- What C's structs and numbers stand for. Definitions only.
-use mathlib.Core.Bool.{Bool, _||_, cond}
+use mathlib.Core.Bool.{Bool, true, false, _||_, cond}
 use mathlib.Core.List.{[], _∷_}
 use Prim.Native.Nat.{ℕ}
 use lib.Dec.{eqb, ltb}
@@ -7,6 +7,9 @@ use lib.ListN.{getD}
 use lib.Ieee.{nan}
 use Rattle.laws.specs.declared.answers.Answer.{Answer}
 use Rattle.laws.specs.declared.answers.Answer.the-variants.{Accepted, Refused}
+use Rattle.laws.specs.declared.axes.Siting.{Siting}
+use Rattle.laws.specs.declared.axes.Siting.the-variants.{Centred, CoSited}
+use Rattle.laws.specs.declared.axes.Axis.{Axis}
 use Rattle.image.specs.declared.layout.Layout.{Layout}
 use Rattle.image.specs.declared.strides.Strides.{Strides}
 use Rattle.taps.specs.declared.phases.Phase.{Phase}
@@ -17,13 +20,32 @@ use Rattle.ffi.specs.declared.types.ChromaStrides.{ChromaStrides}
 use Rattle.ffi.specs.declared.types.ChromaPhase.{ChromaPhase}
 use Rattle.ffi.specs.declared.types.ChromaReader.{ChromaReader}
 
--- 0 for accepted, else document 01's number
+-- CHROMA_VERSION: 0.2.0 as major, minor and patch, a byte each
+abbrev pub version : ℕ
+version = 0x00_0200
+
+-- 0 for accepted, else the papers' number
 abbrev pub numberOf : Answer → ℕ
 numberOf Accepted = 0
 numberOf (Refused n) = n
 
+-- ---- layouts
+
+-- a where the bool is true, else b
+abbrev pub pickSiting : Bool → Siting → Siting → Siting
+pickSiting true a b = a
+pickSiting false a b = b
+
+-- 0 centred, 1 co-sited
+unfoldable pub asAxis : ℕ → Axis
+asAxis n = record { siting = pickSiting (eqb n 1) CoSited Centred }
+
+-- a siting that is neither 0 nor 1: no layout has this form
+unfoldable pub strangeLayout : ChromaLayout → Bool
+strangeLayout l = ltb 1 (l .«siting_across») || ltb 1 (l .«siting_down»)
+
 unfoldable pub asLayout : ChromaLayout → Layout
-asLayout l = record { w = l .w; h = l .h; rh = l .rh; rv = l .rv; cw = l .cw; ch = l .ch; «sample_bytes» = l .«sample_bytes»; maxval = l .maxval }
+asLayout l = record { w = l .w; h = l .h; rh = l .rh; rv = l .rv; cw = l .cw; ch = l .ch; across = asAxis (l .«siting_across»); down = asAxis (l .«siting_down»); «sample_bytes» = l .«sample_bytes»; maxval = l .maxval }
 
 unfoldable pub asStrides : ChromaStrides → Strides
 asStrides s = record { y = s .y; cb = s .cb; cr = s .cr }

@@ -3,15 +3,17 @@ ghost use mathlib.Core.Path.{_≡_};
 ghost use Rattle.fill.specs.Fill.{FillGiven};
 ghost use Rattle.fill.specs.Tests.{fillCall};
 ghost use Rattle.ffi.specs.Types.{asStrides, asLayout};
-ghost use Rattle.ffi.specs.Calls.{Filled, asUpsampling, asKernel};
+ghost use Rattle.ffi.specs.Calls.{Numbered, noSuchWay, asUpsampling, asKernel};
 ghost use Rattle.image.specs.Picture.{planesOf};
 use crate::types::ChromaLayout;
 use crate::types::ChromaStrides;
 use crate::types::number_of;
+use crate::types::strange_layout;
 use crate::types::to_layout;
 use crate::types::to_strides;
 use fill::ChromaUpsampling;
 use kernels::YcbcrKernel;
+use laws::either;
 
 // The chroma that C's switch stands for: 1 is guided. Another number than 0 and 1 was answered before.
 fn to_upsampling(n: u32) -> ChromaUpsampling
@@ -33,7 +35,14 @@ fn to_kernel(n: u32) -> YcbcrKernel
     YcbcrKernel::Exact
 }
 
-// `fill`: chroma linear (0) or guided (1), kernel exact (0) or fixed (1); 255 for any other switch, before all else.
+// Whether C's switches or the layout's sitings stand for no way to fill.
+fn no_such_way(layout: ChromaLayout, upsampling: u32, kernel: u32) -> bool
+    ensures { λ r. ⌜ r ≡ noSuchWay layout upsampling kernel ⌝ }
+{
+    either(either(1 < upsampling, 1 < kernel), strange_layout(layout))
+}
+
+// `fill`: chroma linear (0) or guided (1), kernel exact (0) or fixed (1); 255 for any other switch or siting, before all else.
 #[no_mangle]
 pub extern "C" fn chroma_fill(
     layout: ChromaLayout,
@@ -47,15 +56,15 @@ pub extern "C" fn chroma_fill(
     s: &mut [f32],
     out: &mut [u8],
 ) -> u32
-    ensures { λ r. ⌜ Filled upsampling kernel
+    ensures { λ r. ⌜ Numbered (noSuchWay layout upsampling kernel)
         ((now (s .exit) ≡ now (s .entry)) × (now (out .exit) ≡ now (out .entry)))
-        (λ u k a. FillGiven
+        (λ a. FillGiven
         (fillCall (asLayout layout) (planesOf (now (y .entry)) (now (cb .entry)) (now (cr .entry)) (asStrides strides))
-        u k size (now (s .entry)) (now (out .entry)))
+        (asUpsampling upsampling) (asKernel kernel) size (now (s .entry)) (now (out .entry)))
         a (now (s .exit)) (now (out .exit)))
         r ⌝ }
 {
-    if laws::either(1 < upsampling, 1 < kernel) {
+    if no_such_way(layout, upsampling, kernel) {
         return 255;
     }
     number_of(fill::fill(

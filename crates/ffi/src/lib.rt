@@ -8,6 +8,7 @@ mod planes;
 mod reading;
 mod replies;
 mod types;
+mod version;
 
 pub use filling::chroma_fill;
 pub use pictures::chroma_picture;
@@ -26,3 +27,4 @@ pub use types::ChromaReader;
 pub use types::ChromaReply;
 pub use types::ChromaStrides;
 pub use types::ChromaWritten;
+pub use version::chroma_version;

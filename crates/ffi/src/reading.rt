@@ -1,20 +1,21 @@
 // The reader's calls for C: open, seek and row.
 ghost use mathlib.Core.Path.{_≡_};
 ghost use Rattle.guided.specs.Calls.{openCall, seekCall, rowCall, OpenGiven, SeekGiven, RowGiven};
-ghost use Rattle.ffi.specs.Types.{asStrides, asLayout, asReader};
-ghost use Rattle.ffi.specs.Calls.{Replied, Checked};
+ghost use Rattle.ffi.specs.Types.{asStrides, asLayout, asReader, strangeLayout, strangePhases};
+ghost use Rattle.ffi.specs.Calls.{Checked};
 ghost use Rattle.image.specs.Picture.{planesOf};
 use crate::replies::reply_to;
 use crate::types::ChromaLayout;
 use crate::types::ChromaReader;
 use crate::types::ChromaReply;
 use crate::types::ChromaStrides;
+use crate::types::strange_layout;
 use crate::types::strange_phases;
 use crate::types::to_layout;
 use crate::types::to_reader;
 use crate::types::to_strides;
 
-// `open`: a picture's reader at row 0. The state that it is handed may hold anything.
+// `open`: a picture's reader at row 0. The state that it is handed may hold anything. A siting that stands for none is 255, before all else.
 #[no_mangle]
 pub extern "C" fn chroma_open(
     layout: ChromaLayout,
@@ -25,12 +26,18 @@ pub extern "C" fn chroma_open(
     s: &[f32],
     reader: ChromaReader,
 ) -> ChromaReply
-    ensures { λ r. ⌜ Replied reader
+    ensures { λ r. ⌜ Checked (strangeLayout layout) 255 reader Unit
         (OpenGiven (openCall (asLayout layout)
         (planesOf (now (y .entry)) (now (cb .entry)) (now (cr .entry)) (asStrides strides))
         (now (s .entry)) (asReader reader)))
         r ⌝ }
 {
+    if strange_layout(layout) {
+        return ChromaReply {
+            refusal: 255,
+            reader,
+        };
+    }
     let reply = reader::open(
         to_layout(layout),
         y,
@@ -46,7 +53,7 @@ pub extern "C" fn chroma_open(
 // `seek`: the reader at row y.
 #[no_mangle]
 pub extern "C" fn chroma_seek(reader: ChromaReader, y: usize) -> ChromaReply
-    ensures { λ r. ⌜ Checked reader Unit (SeekGiven (seekCall y (asReader reader))) r ⌝ }
+    ensures { λ r. ⌜ Checked (strangePhases reader) 1 reader Unit (SeekGiven (seekCall y (asReader reader))) r ⌝ }
 {
     if strange_phases(reader) {
         return ChromaReply { refusal: 1, reader };
@@ -68,7 +75,7 @@ pub extern "C" fn chroma_row(
     out_cb: &mut [f32],
     out_cr: &mut [f32],
 ) -> ChromaReply
-    ensures { λ r. ⌜ Checked reader
+    ensures { λ r. ⌜ Checked (strangePhases reader) 1 reader
         ((now (s .exit) ≡ now (s .entry))
         × (now («out_cb» .exit) ≡ now («out_cb» .entry))
         × (now («out_cr» .exit) ≡ now («out_cr» .entry)))

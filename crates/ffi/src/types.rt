@@ -1,16 +1,18 @@
 // What crosses the boundary to C, and its translation: structs with C's layout, whose numbers stand for the Rattle calls' bools and
 // enums.
 ghost use mathlib.Core.Path.{_≡_};
-ghost use Rattle.ffi.specs.Types.{asStrides, asLayout, asPhase, chromaPhase, asReader, chromaReader, strangePhases, numberOf};
+ghost use Rattle.ffi.specs.Types.{asStrides, asAxis, asLayout, strangeLayout, asPhase, chromaPhase, asReader, chromaReader, strangePhases, numberOf};
 use guided::Geometry;
 use guided::Reader;
 use image::Layout;
 use image::Strides;
 use laws::Answer;
+use laws::Axis;
+use laws::Siting;
 use laws::either;
 use taps::Phase;
 
-// A picture's numbers, as `Layout` has them.
+// A picture's numbers, as `Layout` has them. A siting is 0 for centred and 1 for co-sited; another number stands for none.
 #[repr(C)]
 pub struct ChromaLayout {
     pub w: usize,
@@ -21,6 +23,8 @@ pub struct ChromaLayout {
     pub ch: usize,
     pub sample_bytes: usize,
     pub maxval: u32,
+    pub siting_across: u32,
+    pub siting_down: u32,
 }
 
 // How many bytes apart the rows of each plane begin.
@@ -78,6 +82,25 @@ pub struct ChromaWritten {
     pub len: usize,
 }
 
+// The axis that C's siting stands for. Another number than 0 and 1 was answered before.
+fn to_axis(siting: u32) -> Axis
+    ensures { λ r. ⌜ r ≡ asAxis siting ⌝ }
+{
+    if siting == 1 {
+        return Axis {
+            siting: Siting::CoSited,
+        };
+    }
+    Axis::PLAIN
+}
+
+// Inner: whether a siting is neither 0 nor 1, so that the layout stands for none.
+pub fn strange_layout(l: ChromaLayout) -> bool
+    ensures { λ r. ⌜ r ≡ strangeLayout l ⌝ }
+{
+    either(1 < l.siting_across, 1 < l.siting_down)
+}
+
 // Inner: the layout that C's stands for.
 pub fn to_layout(l: ChromaLayout) -> Layout
     ensures { λ r. ⌜ r ≡ asLayout l ⌝ }
@@ -89,6 +112,8 @@ pub fn to_layout(l: ChromaLayout) -> Layout
         rv: l.rv,
         cw: l.cw,
         ch: l.ch,
+        across: to_axis(l.siting_across),
+        down: to_axis(l.siting_down),
         sample_bytes: l.sample_bytes,
         maxval: l.maxval,
     }

@@ -19,13 +19,13 @@ ready c e =
     let l = c .layout in
     let ps = c .planes in
     let f = failed-both (layoutTests (isFixed (c .kernel)) l) _ (accepted-failed (fillTests c) e) in
-    let p = neither (shortPlane l (l .w) (l .h) (ps .y)) _ (f .1 .0) in
+    let p = neither (shortPlane l (l .w) (l .h) (ps .y)) _ (f .1 .1 .0) in
     let q = neither (shortPlane l (l .cw) (l .ch) (ps .cb)) (shortPlane l (l .cw) (l .ch) (ps .cr)) (p .1) in
-    let z = within 3 4 (c .size) (f .1 .1 .0) in
+    let z = within 3 4 (c .size) (f .1 .1 .1 .0) in
     record {
       lent = record { sound = sound (isFixed (c .kernel)) l (f .0); luma = p .0; cb = q .0; cr = λ _. q .1 };
       size-least = z .0;
       size-most = z .1;
-      scratch = ltb-false (length (c .scratch)) (scratchNeed l) (f .1 .1 .1 .0);
-      output = ltb-false (length (c .out)) (l .w * l .h * c .size) (f .1 .1 .1 .1 .0);
+      scratch = ltb-false (length (c .scratch)) (scratchNeed l) (f .1 .1 .1 .1 .0);
+      output = ltb-false (length (c .out)) (l .w * l .h * c .size) (f .1 .1 .1 .1 .1 .0);
     }

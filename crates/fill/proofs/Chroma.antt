@@ -17,7 +17,7 @@ use Rattle.image.specs.declared.chroma.Chroma.{Chroma}
 use Rattle.image.specs.declared.chroma.Chroma.the-variants.{Cb, Cr}
 use Rattle.image.specs.Picture.{Planes, chromaPlane, inside, pictureOf}
 use Rattle.image.proofs.Pictures.{inside-is}
-use Rattle.taps.specs.Taps.{tapOf}
+use Rattle.taps.specs.Taps.{tapBy}
 use Rattle.taps.specs.Inner.Taps.{TapGiven}
 use Rattle.linear.specs.Linear.{linearDown, linearSample, linearRow}
 use Rattle.image.specs.Scratch.{scratchNeed, cellAt}
@@ -38,15 +38,15 @@ module _ (l : Layout) (o : Sound l) (c d : ℕ → ℕ → ℕ) (E : (i j : ℕ)
   down-same : (y i : ℕ) → y < l .h → i < l .cw → linearDown l c y i ≡ linearDown l d y i
   unfolding linearDown
   down-same y i Y I =
-      let t = tapOf (l .rv) (l .ch) y in
-      let n : TapGiven (l .rv) (l .ch) y t = tap-given (l .rv) (l .ch) y t (o .ch-some) (omega arith) refl in
+      let t = tapBy (l .down) (l .rv) (l .ch) y in
+      let n : TapGiven (l .down) (l .rv) (l .ch) y t = tap-given (l .down) (l .rv) (l .ch) y t (o .ch-some) (omega arith) refl in
       rw (E i (t .i0) I (n .i0-inside), E i (t .i1) I (n .i1-inside)) refl
 
   linear-same : (y x : ℕ) → y < l .h → x < l .w → linearSample l c y x ≡ linearSample l d y x
   unfolding linearSample
   linear-same y x Y X =
-      let t = tapOf (l .rh) (l .cw) x in
-      let n : TapGiven (l .rh) (l .cw) x t = tap-given (l .rh) (l .cw) x t (o .cw-some) (omega arith) refl in
+      let t = tapBy (l .across) (l .rh) (l .cw) x in
+      let n : TapGiven (l .across) (l .rh) (l .cw) x t = tap-given (l .across) (l .rh) (l .cw) x t (o .cw-some) (omega arith) refl in
       rw (down-same y (t .i0) Y (n .i0-inside), down-same y (t .i1) Y (n .i1-inside)) refl
 
 -- ---- the two rows of a linear pair

@@ -1,5 +1,5 @@
 -- 'fill to RGB (linear or guided)' of document 01: what it is handed, and the reasons for turning the call down. Definitions only.
-use mathlib.Core.Bool.{Bool, true, false}
+use mathlib.Core.Bool.{Bool, true, false, _&&_}
 use mathlib.Core.List.{List, [], _∷_, _++_}
 use Prim.Native.Nat.{ℕ, _*_}
 use lib.Dec.{ltb}
@@ -8,12 +8,13 @@ use lib.Ieee.{Float}
 use Rattle.laws.specs.Refusals.{Test}
 use Rattle.image.specs.declared.layout.Layout.{Layout}
 use Rattle.laws.specs.Numbers.{outsideOf}
-use Rattle.image.specs.Tests.{layoutTests}
+use Rattle.image.specs.Tests.{badSiting, layoutTests}
 use Rattle.image.specs.Picture.{Planes, badPlanes}
 use Rattle.image.specs.Scratch.{scratchNeed}
 use Rattle.kernels.specs.declared.kernel.YcbcrKernel.{YcbcrKernel}
 use Rattle.kernels.specs.declared.kernel.YcbcrKernel.the-variants.{Exact, FixedPoint16}
 use Rattle.fill.specs.declared.options.ChromaUpsampling.{ChromaUpsampling}
+use Rattle.fill.specs.declared.options.ChromaUpsampling.the-variants.{Linear, LumaGuided}
 
 -- what a fill is handed
 pub record FillCall : Type 0 where
@@ -34,9 +35,13 @@ abbrev pub isFixed : YcbcrKernel → Bool
 isFixed Exact = false
 isFixed FixedPoint16 = true
 
--- 2, 3, 4, 5, then 7, 8: "pixel size not 3 or 4", 9 and 10: "output too short"
+abbrev pub isGuided : ChromaUpsampling → Bool
+isGuided Linear = false
+isGuided LumaGuided = true
+
+-- 2, 3, 4, 5, then 16: "Co-sited on either axis with guided", "looked at right after 6", 7, 8: "pixel size not 3 or 4", 9 and 10: "output too short"
 unfoldable pub fillTests : FillCall → List Test
 fillTests c =
     let l = c .layout in
     layoutTests (isFixed (c .kernel)) l
-    ++ ((badPlanes l (c .planes), 7) ∷ (outsideOf 3 4 (c .size), 8) ∷ (ltb (length (c .scratch)) (scratchNeed l), 9) ∷ (ltb (length (c .out)) (l .w * l .h * c .size), 10) ∷ [])
+    ++ ((isGuided (c .upsampling) && badSiting l, 16) ∷ (badPlanes l (c .planes), 7) ∷ (outsideOf 3 4 (c .size), 8) ∷ (ltb (length (c .scratch)) (scratchNeed l), 9) ∷ (ltb (length (c .out)) (l .w * l .h * c .size), 10) ∷ [])

@@ -1,7 +1,9 @@
-// The checks of fill, in the order of their numbers.
+// The checks of fill, in the order of the table.
 ghost use mathlib.Core.Path.{_≡_};
+ghost use mathlib.Core.Bool.{_&&_};
 ghost use Rattle.laws.specs.Refusals.{first};
-ghost use Rattle.fill.specs.Tests.{isFixed, fillCall, fillTests};
+ghost use Rattle.image.specs.Tests.{badSiting};
+ghost use Rattle.fill.specs.Tests.{isFixed, isGuided, fillCall, fillTests};
 ghost use Rattle.image.specs.Picture.{planesOf};
 use crate::options::ChromaUpsampling;
 use image::Layout;
@@ -17,6 +19,23 @@ fn is_fixed(kernel: YcbcrKernel) -> bool
         YcbcrKernel::Exact => false,
         YcbcrKernel::FixedPoint16 => true,
     }
+}
+
+// Whether chroma is guided by luma, which refusal 16 holds to centred axes.
+fn is_guided(upsampling: ChromaUpsampling) -> bool
+    ensures { λ r. ⌜ r ≡ isGuided upsampling ⌝ }
+{
+    match upsampling {
+        ChromaUpsampling::Linear => false,
+        ChromaUpsampling::LumaGuided => true,
+    }
+}
+
+// Refusal 16's test: guided chroma with a co-sited axis.
+fn bad_guided(layout: Layout, upsampling: ChromaUpsampling) -> bool
+    ensures { λ r. ⌜ r ≡ (isGuided upsampling && badSiting layout) ⌝ }
+{
+    laws::both(is_guided(upsampling), layout.bad_siting())
 }
 
 // Inner: the lowest refusal of `fill` that applies. It writes nothing.
@@ -37,6 +56,7 @@ pub fn fill_answer(
         upsampling kernel size (now (s .entry)) (now (out .entry)))) ⌝ }
 {
     let answer = layout.answer(is_fixed(kernel));
+    let answer = laws::then(answer, bad_guided(layout, upsampling), 16);
     let answer = laws::then(answer, image::bad_planes(layout, y, cb, cr, strides), 7);
     let answer = laws::then(answer, laws::outside(3, 4, size), 8);
     let answer = laws::then(answer, image::short_scratch(layout, s.len()), 9);

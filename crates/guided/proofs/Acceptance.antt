@@ -13,7 +13,7 @@ use borrow.Author.Tests.{ltb-false, leb-false, eqb-true, not-false}
 use Rattle.laws.specs.declared.answers.Answer.{Answer}
 use Rattle.laws.specs.Refusals.{Test, first, accepted}
 use Rattle.laws.proofs.Refusals.{Failed, accepted-failed, accepted-is, failed-both}
-use Rattle.image.specs.Tests.{layoutTests}
+use Rattle.image.specs.Tests.{badSiting, layoutTests}
 use Rattle.image.specs.Inner.Tests.{Sound}
 use Rattle.image.specs.Picture.{badPlanes}
 use Rattle.image.proofs.Layouts.{neither, sound, sound-answer}
@@ -79,6 +79,7 @@ fine s e = let t = state-tests s e in record { sound = sound-answer false (reade
 
 pub record OpenHanded (o : OpenCall) : Type 0 where
   pub layout : Failed (layoutTests false (o .layout))
+  pub siting : badSiting (o .layout) ≡ false
   pub planes : badPlanes (o .layout) (o .planes) ≡ false
   pub room : scratchNeed (o .layout) ≤ length (o .scratch)
 
@@ -87,7 +88,7 @@ pub open-handed : (o : OpenCall) → Failed (openTests o) → OpenHanded o
 unfolding openTests
 open-handed o h =
     let f = failed-both (layoutTests false (o .layout)) _ h in
-    record { layout = f .0; planes = f .1 .0; room = ltb-false (length (o .scratch)) (scratchNeed (o .layout)) (f .1 .1 .0) }
+    record { layout = f .0; siting = f .1 .0; planes = f .1 .1 .0; room = ltb-false (length (o .scratch)) (scratchNeed (o .layout)) (f .1 .1 .1 .0) }
 
 pub record SeekHanded (k : SeekCall) : Type 0 where
   pub state : badState (k .reader) ≡ false

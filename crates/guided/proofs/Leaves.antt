@@ -15,7 +15,7 @@ use Rattle.laws.specs.declared.answers.Answer.the-variants.{Accepted}
 use Rattle.laws.specs.Refusals.{first, accepted}
 use Rattle.laws.proofs.Refusals.{accepted-failed, accepted-is, failed-accepted, passed-early}
 use Rattle.image.specs.declared.layout.Layout.{Layout}
-use Rattle.image.specs.Tests.{layoutTests, badPlane}
+use Rattle.image.specs.Tests.{badSiting, layoutTests, badPlane}
 use Rattle.image.specs.Samples.{Plane}
 use Rattle.image.specs.Picture.{Planes, shortPlane, badPlanes}
 use Rattle.image.specs.Scratch.{scratchNeed}
@@ -33,7 +33,7 @@ pub data Left : Reader → Type 0 where
 -- what is left passes
 pub left-passes : (s : Reader) → Left s → badState s ≡ false
 unfolding readerLayout
-left-passes s (by-open o a e) = rw e (after-open-passes (o .layout) (open-handed o (accepted-failed (openTests o) a) .layout))
+left-passes s (by-open o a e) = let h = open-handed o (accepted-failed (openTests o) a) in rw e (after-open-passes (o .layout) (h .layout) (h .siting))
 left-passes s (by-seek k l a e) = let h = seek-handed k (accepted-failed (seekTests k) a) in rw e (after-seek-passes (k .reader) (k .y) (h .state) (h .inside))
 left-passes s (by-row c l a e) = let h = row-handed c (accepted-failed (rowTests c) a) in rw e (after-row-passes (c .reader) (c .y) (h .state) (h .inside))
 
@@ -61,9 +61,16 @@ openOf l s = record { layout = l; planes = blanks l; scratch = replicate (scratc
 abbrev rowOf : Layout → ℕ → RowCall
 rowOf l y = record { y = y; planes = blanks l; reader = afterOpen l; scratch = replicate (scratchNeed l) nan; outCb = replicate (l .w) nan; outCr = replicate (l .w) nan }
 
-module _ (l : Layout) (a : accepted (first (layoutTests false l)) ≡ true) where
+module _ (t : Reader) (a : accepted (first (layoutTests false (readerLayout t))) ≡ true) where
+  abbrev l : Layout
+  l = readerLayout t
+
+  centred : badSiting l ≡ false
+  unfolding readerLayout badSiting
+  centred = refl
+
   after-open-state : badState (afterOpen l) ≡ false
-  after-open-state = after-open-passes l (accepted-failed (layoutTests false l) (accepted-is (first (layoutTests false l)) a))
+  after-open-state = after-open-passes l (accepted-failed (layoutTests false l) (accepted-is (first (layoutTests false l)) a)) centred
 
   scratch-long : ltb (length (replicate (scratchNeed l) nan)) (scratchNeed l) ≡ false
   scratch-long = rw length-replicate (le-ltb (scratchNeed l) (scratchNeed l) (le-refl (scratchNeed l)))
@@ -73,14 +80,14 @@ module _ (l : Layout) (a : accepted (first (layoutTests false l)) ≡ true) wher
 
   open-accepted : (s : Reader) → first (openTests (openOf l s)) ≡ Accepted
   unfolding openTests
-  open-accepted s = passed-early (layoutTests false l) _ a ∙ failed-accepted _ (blanks-long l, (scratch-long, tt))
+  open-accepted s = passed-early (layoutTests false l) _ a ∙ failed-accepted _ (centred, (blanks-long l, (scratch-long, tt)))
 
   after-open-left : (s : Reader) → Left (afterOpen l)
   after-open-left s = by-open (openOf l s) (open-accepted s) refl
 
   module _ (y : ℕ) (Y : y < l .h) where
     seek-accepted : first (seekTests (record { y = y; reader = afterOpen l })) ≡ Accepted
-    unfolding seekTests afterOpen readerAt geometryOf
+    unfolding seekTests afterOpen readerAt geometryOf readerLayout
     seek-accepted = failed-accepted (seekTests (record { y = y; reader = afterOpen l })) (after-open-state, (lt-leb (l .h) y Y, tt))
 
     row-accepted : first (rowTests (rowOf l y)) ≡ Accepted
@@ -94,6 +101,6 @@ passes-left s t e =
     let l = readerLayout s in
     let p = state-tests s e in
     elim (left-states s t e) [
-      | inl q ↦ by-seek (record { y = s .place; reader = afterOpen l }) (after-open-left l (p .0) s) (seek-accepted l (p .0) (s .place) (p .2)) q
-      | inr q ↦ by-row (rowOf l (s .place)) (after-open-left l (p .0) s) (row-accepted l (p .0) (s .place) (p .2)) q
+      | inl q ↦ by-seek (record { y = s .place; reader = afterOpen l }) (after-open-left s (p .0) s) (seek-accepted s (p .0) (s .place) (p .2)) q
+      | inr q ↦ by-row (rowOf l (s .place)) (after-open-left s (p .0) s) (row-accepted s (p .0) (s .place) (p .2)) q
     ]

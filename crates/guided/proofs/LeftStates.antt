@@ -2,7 +2,7 @@
 -- One way is computation: the tests of what a call leaves. The other is `geometry-is`: phases that pass bit for bit are open's own, since two
 -- f32 that pass for the same are the same (`same-float`), and four entries make the array. The counters then leave two cases, seek's and
 -- row's.
-use mathlib.Core.Path.{_≡_, refl, sym, ap}
+use mathlib.Core.Path.{_≡_, refl, sym, ap, _∙_}
 use mathlib.Core.Logic.{_⊎_, inl, inr}
 use mathlib.Core.Bool.{Bool, true, false, _&&_, _||_, not, cond, Bool·beq}
 use mathlib.Core.List.{List, [], _∷_}
@@ -13,12 +13,13 @@ use lib.ListN.{length, getD}
 use lib.Ieee.{binary32, fits, isNan, toBits}
 use lib.Ieee.Fits.{div-fits, ofInt-fits}
 use borrow.Author.Tests.{lt-leb, eq-eqb, not-false}
+use Rattle.laws.specs.Axes.{plain}
 use Rattle.laws.specs.Floats.{f32}
 use Rattle.laws.specs.Refusals.{first, accepted}
 use Rattle.laws.proofs.Refusals.{Failed, failed-accepted}
 use Rattle.image.specs.declared.layout.Layout.{Layout}
-use Rattle.image.specs.Tests.{layoutTests}
-use Rattle.image.proofs.Layouts.{sound}
+use Rattle.image.specs.Tests.{badSiting, layoutTests}
+use Rattle.image.proofs.Layouts.{sound, plain-axes}
 use Rattle.fround.specs.Rounding.{sameFloat}
 use Rattle.fround.proofs.Laws.{same-float}
 use Rattle.taps.specs.declared.phases.Phase.{Phase}
@@ -26,7 +27,7 @@ use Rattle.taps.specs.Taps.{fractionOf, phaseOf, pickPhase}
 use Rattle.guided.specs.declared.geometry.Geometry.{Geometry}
 use Rattle.guided.specs.declared.state.Reader.{Reader}
 use Rattle.taps.specs.Taps.{phaseAt, phasesOf}
-use Rattle.guided.specs.Calls.{geometryOf, readerLayout, freshH, freshF, doneH, doneF, readerAt, afterOpen, afterSeek, afterRow, samePhase, phaseIn, badPhases, badCounters, badState}
+use Rattle.guided.specs.Calls.{geometryOf, readerLayout, topOf, freshH, freshF, doneH, doneF, readerAt, afterOpen, afterSeek, afterRow, samePhase, phaseIn, badPhases, badCounters, badState}
 use Rattle.guided.proofs.Acceptance.{state-tests, fine, both}
 
 -- ---- what open, seek and row leave passes
@@ -57,12 +58,24 @@ phases-pass : (l : Layout) → badPhases (geometryOf l) ≡ false
 unfolding badPhases geometryOf phasesOf
 phases-pass l = rw (same-self (phaseAt (l .rh) 0), same-self (phaseAt (l .rh) 1), same-self (phaseAt (l .rh) 2), same-self (phaseAt (l .rh) 3)) refl
 
+-- a layout with plain axes in the place of its own
+abbrev flat : Layout → Layout
+flat l = record { w = l .w; h = l .h; rh = l .rh; rv = l .rv; cw = l .cw; ch = l .ch; across = plain; down = plain; «sample_bytes» = l .«sample_bytes»; maxval = l .maxval }
+
+-- where 16 does not apply that is the layout itself, so that a reader fresh from an accepted open has the layout that open was given
+pub plain-back : (l : Layout) → badSiting l ≡ false → readerLayout (afterOpen l) ≡ l
+unfolding afterOpen readerAt readerLayout geometryOf
+plain-back l e = let p = plain-axes l e in flat-is (p .0) (p .1)
+  where
+    flat-is : l .across ≡ plain → l .down ≡ plain → flat l ≡ l
+    flat-is a d = λ i. record { w = l .w; h = l .h; rh = l .rh; rv = l .rv; cw = l .cw; ch = l .ch; across = sym a i; down = sym d i; «sample_bytes» = l .«sample_bytes»; maxval = l .maxval }
+
 -- what open leaves, what seek leaves and what row leaves
-pub after-open-passes : (l : Layout) → Failed (layoutTests false l) → badState (afterOpen l) ≡ false
-unfolding badState badCounters afterOpen readerAt readerLayout geometryOf
-after-open-passes l f =
-    passes (accepted (first (layoutTests false l))) (badPhases (geometryOf l)) (leb (l .h) 0) (badCounters (afterOpen l))
-    (ap accepted (failed-accepted (layoutTests false l) f)) (phases-pass l) (lt-leb (l .h) 0 (sound false l f .h-some)) (first-pair (freshH l 0) (freshF l 0) _)
+pub after-open-passes : (l : Layout) → Failed (layoutTests false l) → badSiting l ≡ false → badState (afterOpen l) ≡ false
+unfolding badState badCounters afterOpen readerAt readerLayout geometryOf topOf
+after-open-passes l f e =
+    passes (accepted (first (layoutTests false (flat l)))) (badPhases (geometryOf l)) (leb (l .h) 0) (badCounters (afterOpen l))
+    (ap accepted (ap (λ (k : Layout). first (layoutTests false k)) (plain-back l e) ∙ failed-accepted (layoutTests false l) f)) (phases-pass l) (lt-leb (l .h) 0 (sound false l f .h-some)) (first-pair (freshH l 0) (freshF l 0) _)
 
 module _ (s : Reader) (y : ℕ) (e : badState s ≡ false) (Y : y < s .geometry .h) where
   pub after-seek-passes : badState (afterSeek s y) ≡ false

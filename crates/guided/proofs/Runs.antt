@@ -30,7 +30,7 @@ use Rattle.guided.proofs.Held.{Has}
 use Rattle.guided.proofs.Window.{Win, Counters, win-fresh}
 use Rattle.guided.proofs.FinishedRows.{row-window, row-finished}
 use Rattle.guided.proofs.Acceptance.{all-failed, fine, OpenHanded, open-handed, SeekHanded, seek-handed, RowHanded, row-handed}
-use Rattle.guided.proofs.LeftStates.{after-open-passes, after-seek-passes, after-row-passes}
+use Rattle.guided.proofs.LeftStates.{plain-back, after-open-passes, after-seek-passes, after-row-passes}
 
 -- planes that hold a picture's samples make that picture
 pub shows-is : (o : OpenCall) (ps : Planes) → Shows (pictureBy o) ps → pictureOf (o .layout) ps ≡ pictureBy o
@@ -147,8 +147,8 @@ pick false x y t = absurd t
 open-ok : (o : OpenCall) (b : Bytes o) → OpenHanded o → Ok (record { by = o; reader = afterOpen (o .layout); scratch = o .scratch })
 unfolding afterOpen readerAt readerLayout geometryOf pictureOf
 open-ok o b h = record {
-  state = after-open-passes (o .layout) (h .layout);
-  layout = refl;
+  state = after-open-passes (o .layout) (h .layout) (h .siting);
+  layout = plain-back (o .layout) (h .siting);
   planes = h .planes;
   bytes = b;
   win = win-fresh (pictureBy o) (Cb ∷ Cr ∷ []) (topOf (o .layout) 0) (o .scratch) (h .room);

@@ -9,7 +9,8 @@ use lib.Ieee.Nearest.{div-mono}
 use Rattle.image.specs.declared.layout.Layout.{Layout}
 use Rattle.image.specs.Inner.Tests.{Sound}
 use Rattle.image.proofs.Quotients.{cell-inside}
-use Rattle.taps.specs.Taps.{tapOf}
+use Rattle.laws.specs.declared.axes.Siting.the-variants.{Centred}
+use Rattle.taps.specs.Taps.{tapBy, tapOf}
 use Rattle.taps.proofs.Spots.{spot-around, spot-beside, spot-inside, spot-ordered}
 use Rattle.guided.specs.Calls.{topOf, lastOf}
 
@@ -34,12 +35,12 @@ pub record Taken (l : Layout) (y : ℕ) : Type 0 where
 
 -- a row of the picture has them
 pub taken : (l : Layout) → Sound l → (y : ℕ) → y < l .h → Taken l y
-unfolding topOf lastOf tapOf
+unfolding topOf lastOf tapBy
 taken l s y h =
     let q : y / l .rv < l .ch = own-row l s y h in
     let a = spot-around (l .rv) (l .ch) y (s .rv-some) q in
-    let b = spot-beside 1 (l .rv) (l .ch) y in
-    let c = spot-inside 1 (l .rv) (l .ch) y (s .ch-some) (one q) in
+    let b = spot-beside Centred 1 (l .rv) (l .ch) y in
+    let c = spot-inside Centred 1 (l .rv) (l .ch) y (s .ch-some) (one q) in
     record {
       first = refl;
       second-low = b .low;
@@ -56,12 +57,12 @@ taken l s y h =
 
 -- a later row takes from no earlier rows
 pub top-later : (l : Layout) → Sound l → (y z : ℕ) → y ≤ z → topOf l y ≤ topOf l z
-unfolding topOf tapOf
-top-later l s y z h = spot-ordered 1 (l .rv) (l .ch) y z (s .rv-some) h .near
+unfolding topOf tapBy
+top-later l s y z h = spot-ordered Centred 1 (l .rv) (l .ch) y z (s .rv-some) h .near
 
 pub last-later : (l : Layout) → Sound l → (y z : ℕ) → y ≤ z → lastOf l y ≤ lastOf l z
-unfolding lastOf tapOf
+unfolding lastOf tapBy
 last-later l s y z h =
-    let a = spot-ordered 1 (l .rv) (l .ch) y z (s .rv-some) h .far in
+    let a = spot-ordered Centred 1 (l .rv) (l .ch) y z (s .rv-some) h .far in
     let b = div-mono y (l .rv) z (l .rv) (s .rv-some) (s .rv-some) (mul-le-mul-right (l .rv) h) in
     omega arith

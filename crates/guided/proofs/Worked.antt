@@ -10,16 +10,17 @@ use lib.ListN.{length, getD, replicate}
 use lib.Ieee.{Float, nan, binary32, add, sub, sum, neg, mul, div, round, size, span, climb, units, odd, lt, ofInt, ofBits, ofFields}
 use lib.Count.{trailingZeros}
 use Rattle.laws.specs.declared.answers.Answer.the-variants.{Accepted, Refused}
+use Rattle.laws.specs.Axes.{plain}
 use Rattle.laws.specs.Floats.{f32}
 use Rattle.laws.specs.Lists.{table}
 use Rattle.laws.specs.Refusals.{first, accepted}
 use Rattle.laws.proofs.Refusals.{Failed, failed-accepted}
 use Rattle.image.specs.declared.layout.Layout.{Layout}
-use Rattle.image.specs.Tests.{badSize, badRatio, badSamples, divCeil, badChroma, layoutTests, badPlane}
+use Rattle.image.specs.Tests.{badSize, badRatio, badSamples, divCeil, badChroma, badSiting, layoutTests, badPlane}
 use Rattle.image.specs.Samples.{sampleOf, sampleAt}
 use Rattle.image.specs.declared.chroma.Chroma.the-variants.{Cb, Cr}
 use Rattle.image.specs.Picture.{Planes, chromaPlane, inside, pictureOf, shortPlane, badPlanes}
-use Rattle.taps.specs.Taps.{spotAt, spotOf, tapOf, phaseOf}
+use Rattle.taps.specs.Taps.{spotAt, sitedAt, spotOf, tapBy, phaseOf}
 use Rattle.image.specs.Scratch.{scratchNeed}
 use Rattle.guided.specs.declared.state.Reader.{Reader}
 use Rattle.guided.specs.Guided.{sumTo, three, lumaOf, extremeOf, cellLuma, cellOf, acrossVal, extreme, epsilon, mean, slopeOf, downTo, acrossTo, detailOf, valueOf, slope, guidedSample, guidedRow}
@@ -56,14 +57,14 @@ junk = record { geometry = record { w = 9; h = 9; rh = 0; rv = 7; cw = 1; ch = 1
 
 -- 2 by 2, ratio 2 across and 1 down, luma at a stride of 3 and Cr at one of 2
 abbrev layoutA : Layout
-layoutA = record { w = 2; h = 2; rh = 2; rv = 1; cw = 1; ch = 2; «sample_bytes» = 1; maxval = 255 }
+layoutA = record { w = 2; h = 2; rh = 2; rv = 1; cw = 1; ch = 2; across = plain; down = plain; «sample_bytes» = 1; maxval = 255 }
 
 abbrev planesA : Planes
 planesA = record { y = record { bytes = 10 ∷ 20 ∷ 99 ∷ 30 ∷ 40 ∷ []; stride = 3 }; cb = record { bytes = 100 ∷ 60 ∷ []; stride = 1 }; cr = record { bytes = 200 ∷ 9 ∷ 77 ∷ []; stride = 2 } }
 
 -- 1 by 1
 abbrev layoutB : Layout
-layoutB = record { w = 1; h = 1; rh = 1; rv = 1; cw = 1; ch = 1; «sample_bytes» = 1; maxval = 255 }
+layoutB = record { w = 1; h = 1; rh = 1; rv = 1; cw = 1; ch = 1; across = plain; down = plain; «sample_bytes» = 1; maxval = 255 }
 
 abbrev planesB : Planes
 planesB = record { y = record { bytes = 230 ∷ []; stride = 1 }; cb = record { bytes = 3 ∷ []; stride = 1 }; cr = record { bytes = 128 ∷ []; stride = 1 } }
@@ -73,7 +74,7 @@ openA = record { layout = layoutA; planes = planesA; scratch = replicate 80 nan;
 
 -- refused as 2, over any state and scratch
 abbrev badOpen : OpenCall
-badOpen = record { layout = record { w = 0; h = 2; rh = 2; rv = 2; cw = 1; ch = 1; «sample_bytes» = 1; maxval = 255 }; planes = planesB; scratch = []; reader = junk }
+badOpen = record { layout = record { w = 0; h = 2; rh = 2; rv = 2; cw = 1; ch = 1; across = plain; down = plain; «sample_bytes» = 1; maxval = 255 }; planes = planesB; scratch = []; reader = junk }
 
 -- refused as 1
 abbrev badRow : RowCall
@@ -104,7 +105,7 @@ unfolding rowScratch
 length-scratch c = length-row _ _ _ _ _ _ (c .scratch)
 
 openA-answer : first (openTests openA) ≡ Accepted
-unfolding openTests first layoutTests badSize badRatio badSamples divCeil badChroma badPlane shortPlane badPlanes scratchNeed
+unfolding openTests first layoutTests badSize badRatio badSamples divCeil badChroma badSiting badPlane shortPlane badPlanes scratchNeed
 openA-answer = refl
 
 badOpen-answer : first (openTests badOpen) ≡ Refused 2
@@ -124,7 +125,8 @@ unfolding layoutTests badSize badRatio badSamples divCeil badChroma
 layoutB-sound = (refl, (refl, (refl, (refl, tt))))
 
 state0 : badState (afterOpen layoutA) ≡ false
-state0 = after-open-passes layoutA layoutA-sound
+unfolding badSiting
+state0 = after-open-passes layoutA layoutA-sound refl
 
 state1 : badState (afterRow (afterOpen layoutA) 0) ≡ false
 unfolding afterOpen readerAt geometryOf
@@ -153,12 +155,12 @@ unfolding rowTests afterOpen afterRow afterSeek readerAt geometryOf readerLayout
 row1-answer = failed-accepted (rowTests row1) (state2, (refl, (rw scratch0 refl, (refl, (refl, (refl, tt))))))
 
 openB-answer : first (openTests openB) ≡ Accepted
-unfolding openTests layoutTests badSize badRatio badSamples divCeil badChroma badPlane shortPlane badPlanes scratchNeed
-openB-answer = failed-accepted (openTests openB) (refl, (refl, (refl, (refl, (refl, (rw scratch1 refl, tt))))))
+unfolding openTests layoutTests badSize badRatio badSamples divCeil badChroma badSiting badPlane shortPlane badPlanes scratchNeed
+openB-answer = failed-accepted (openTests openB) (refl, (refl, (refl, (refl, (refl, (refl, (rw scratch1 refl, tt)))))))
 
 row2-answer : first (rowTests row2) ≡ Accepted
-unfolding rowTests afterOpen readerAt geometryOf readerLayout badPlane shortPlane badPlanes scratchNeed
-row2-answer = failed-accepted (rowTests row2) (after-open-passes layoutB layoutB-sound, (refl, (rw scratch1 refl, (refl, (refl, (refl, tt))))))
+unfolding rowTests afterOpen readerAt geometryOf readerLayout badPlane shortPlane badPlanes scratchNeed badSiting
+row2-answer = failed-accepted (rowTests row2) (after-open-passes layoutB layoutB-sound refl, (refl, (rw scratch1 refl, (refl, (refl, (refl, tt))))))
 
 -- ---- the list meets the premise
 
@@ -246,15 +248,15 @@ unfolding slope slopeOf mean epsilon acrossVal cellOf cellLuma lumaOf three sumT
 slopes = (refl, refl, refl, refl)
 
 computed-0 : (guidedRow (pictureBy openA) Cb 0 ≡ cb0) × (guidedRow (pictureBy openA) Cr 0 ≡ cr0)
-unfolding guidedRow table guidedSample valueOf detailOf acrossTo downTo extreme extremeOf acrossVal cellOf cellLuma lumaOf three sumTo phaseOf tapOf spotOf spotAt pictureOf inside sampleAt sampleOf add sub mul div sum neg round size span climb units odd lt ofInt trailingZeros ofBits ofFields
+unfolding guidedRow table guidedSample valueOf detailOf acrossTo downTo extreme extremeOf acrossVal cellOf cellLuma lumaOf three sumTo phaseOf tapBy spotOf sitedAt spotAt pictureOf inside sampleAt sampleOf add sub mul div sum neg round size span climb units odd lt ofInt trailingZeros ofBits ofFields
 computed-0 = (rw (slopes .0) refl, rw (slopes .1) refl)
 
 computed-1 : (guidedRow (pictureBy openA) Cb 1 ≡ cb1) × (guidedRow (pictureBy openA) Cr 1 ≡ cr1)
-unfolding guidedRow table guidedSample valueOf detailOf acrossTo downTo extreme extremeOf acrossVal cellOf cellLuma lumaOf three sumTo phaseOf tapOf spotOf spotAt pictureOf inside sampleAt sampleOf add sub mul div sum neg round size span climb units odd lt ofInt trailingZeros ofBits ofFields
+unfolding guidedRow table guidedSample valueOf detailOf acrossTo downTo extreme extremeOf acrossVal cellOf cellLuma lumaOf three sumTo phaseOf tapBy spotOf sitedAt spotAt pictureOf inside sampleAt sampleOf add sub mul div sum neg round size span climb units odd lt ofInt trailingZeros ofBits ofFields
 computed-1 = (rw (slopes .2) refl, rw (slopes .3) refl)
 
 computed-2 : (guidedRow (pictureBy openB) Cb 0 ≡ f32 3 ∷ []) × (guidedRow (pictureBy openB) Cr 0 ≡ f32 128 ∷ [])
-unfolding guidedRow table guidedSample valueOf detailOf acrossTo downTo slope slopeOf mean epsilon extreme extremeOf acrossVal cellOf cellLuma lumaOf three sumTo phaseOf tapOf spotOf spotAt pictureOf inside sampleAt sampleOf add sub mul div sum neg round size span climb units odd lt ofInt trailingZeros ofBits ofFields
+unfolding guidedRow table guidedSample valueOf detailOf acrossTo downTo slope slopeOf mean epsilon extreme extremeOf acrossVal cellOf cellLuma lumaOf three sumTo phaseOf tapBy spotOf sitedAt spotAt pictureOf inside sampleAt sampleOf add sub mul div sum neg round size span climb units odd lt ofInt trailingZeros ofBits ofFields
 computed-2 = (refl, refl)
 
 -- the rows that the list gives: row 0 and row 1 of the first picture, and row 0 of the second

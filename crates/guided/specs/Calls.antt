@@ -7,11 +7,12 @@ use lib.Dec.{leb, ltb, eqb}
 use lib.ListN.{length, getD}
 use lib.Ieee.{Float, nan}
 use Rattle.laws.specs.declared.answers.Answer.{Answer}
+use Rattle.laws.specs.Axes.{plain}
 use Rattle.laws.specs.Floats.{f32}
 use Rattle.laws.specs.Lists.{put}
 use Rattle.laws.specs.Refusals.{Test, first, accepted}
 use Rattle.image.specs.declared.layout.Layout.{Layout}
-use Rattle.image.specs.Tests.{layoutTests}
+use Rattle.image.specs.Tests.{badSiting, layoutTests}
 use Rattle.image.specs.Samples.{Plane}
 use Rattle.image.specs.declared.chroma.Chroma.{Chroma}
 use Rattle.image.specs.declared.chroma.Chroma.the-variants.{Cb, Cr}
@@ -31,9 +32,9 @@ use Rattle.guided.specs.Scratch.{rowSteps, finishedAt}
 unfoldable pub geometryOf : Layout → Geometry
 geometryOf l = record { w = l .w; h = l .h; rh = l .rh; rv = l .rv; cw = l .cw; ch = l .ch; phases = phasesOf (l .rh) }
 
--- the layout that a reader's picture was opened with
+-- the layout that a reader's picture was opened with: an accepted open's axes are plain
 unfoldable pub readerLayout : Reader → Layout
-readerLayout s = record { w = s .geometry .w; h = s .geometry .h; rh = s .geometry .rh; rv = s .geometry .rv; cw = s .geometry .cw; ch = s .geometry .ch; «sample_bytes» = s .«sample_bytes»; maxval = s .maxval }
+readerLayout s = record { w = s .geometry .w; h = s .geometry .h; rh = s .geometry .rh; rv = s .geometry .rv; cw = s .geometry .cw; ch = s .geometry .ch; across = plain; down = plain; «sample_bytes» = s .«sample_bytes»; maxval = s .maxval }
 
 -- the first and the last chroma row that picture row y takes from
 unfoldable pub topOf : Layout → ℕ → ℕ
@@ -125,8 +126,9 @@ seekCall y reader = record { y = y; reader = reader }
 abbrev pub rowCall : ℕ → Planes → Reader → List Float → List Float → List Float → RowCall
 rowCall y planes reader scratch outCb outCr = record { y = y; planes = planes; reader = reader; scratch = scratch; outCb = outCb; outCr = outCr }
 
+-- "Co-sited on either axis with guided (open included)" is 16, "looked at right after 6"
 unfoldable pub openTests : OpenCall → List Test
-openTests o = layoutTests false (o .layout) ++ ((badPlanes (o .layout) (o .planes), 7) ∷ (ltb (length (o .scratch)) (scratchNeed (o .layout)), 9) ∷ [])
+openTests o = layoutTests false (o .layout) ++ ((badSiting (o .layout), 16) ∷ (badPlanes (o .layout) (o .planes), 7) ∷ (ltb (length (o .scratch)) (scratchNeed (o .layout)), 9) ∷ [])
 
 unfoldable pub seekTests : SeekCall → List Test
 seekTests k = (badState (k .reader), 1) ∷ (leb (k .reader .geometry .h) (k .y), 11) ∷ []

@@ -10,7 +10,7 @@ use Rattle.laws.specs.Lists.{rows}
 use Rattle.laws.specs.Refusals.{Test, first, accepted}
 use Rattle.laws.specs.declared.answers.Answer.{Answer}
 use Rattle.image.specs.declared.layout.Layout.{Layout}
-use Rattle.image.specs.Tests.{layoutTests}
+use Rattle.image.specs.Tests.{badSiting, layoutTests}
 use Rattle.image.specs.Samples.{Plane}
 use Rattle.image.specs.declared.chroma.Chroma.the-variants.{Cb}
 use Rattle.image.specs.Picture.{Picture, Planes, pictureOf, shortPlane}
@@ -30,9 +30,9 @@ pictureWith l y c = pictureOf l (planesWith y c)
 unfoldable pub shortPair : Layout → Plane → Plane → Bool
 shortPair l y c = shortPlane l (l .w) (l .h) y || shortPlane l (l .cw) (l .ch) c
 
--- "refusals 2, 3, 4, 5, 7, 9, 10"; `space` and `room` are how many values scratch and output hold
+-- "refusals 2, 3, 4, 5, 7, 9, 10", and 16, "looked at right after 6"; `space` and `room` are how many values scratch and output hold
 unfoldable pub guidedTests : Layout → Plane → Plane → ℕ → ℕ → List Test
-guidedTests l y c space room = layoutTests false l ++ ((shortPair l y c, 7) ∷ (ltb space (scratchNeed l), 9) ∷ (ltb room (l .w * l .h), 10) ∷ [])
+guidedTests l y c space room = layoutTests false l ++ ((badSiting l, 16) ∷ (shortPair l y c, 7) ∷ (ltb space (scratchNeed l), 9) ∷ (ltb room (l .w * l .h), 10) ∷ [])
 
 -- the output afterwards: w·h guided samples row by row, "rounded and limited to 0..maxval"; the rest is as it was
 unfoldable pub guidedPlane : Picture → List ℕ → List ℕ

@@ -42,6 +42,7 @@ fn plane_answer(
         (planeOf (now (y .entry)) «y_stride») (planeOf (now (c .entry)) «c_stride») space room) ⌝ }
 {
     let answer = layout.answer(false);
+    let answer = laws::then(answer, layout.bad_siting(), 16);
     let answer = laws::then(answer, bad_pair(layout, y, y_stride, c, c_stride), 7);
     let answer = laws::then(answer, image::short_scratch(layout, space), 9);
     laws::then(answer, laws::product_passes(layout.w, layout.h, room), 10)
@@ -104,8 +105,8 @@ fn plane_rows(
     }
 }
 
-// One whole chroma plane, guided by luma: w by h values, rounded and limited to 0..=maxval, into out. Refusals 2, 3, 4, 5, 7, 9
-// and 10. Scratch afterwards is `guidedRows` of guided_rows' specs/CatchingUp.
+// One whole chroma plane, guided by luma: w by h values, rounded and limited to 0..=maxval, into out. Refusals 2, 3, 4, 5, 16, 7,
+// 9 and 10. Scratch afterwards is `guidedRows` of guided_rows' specs/CatchingUp.
 pub fn guided_plane(
     layout: Layout,
     y: &[u8],

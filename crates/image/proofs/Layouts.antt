@@ -11,7 +11,11 @@ use Rattle.laws.specs.Refusals.{first, accepted, placeOf, Ascending}
 use Rattle.laws.proofs.Refusals.{Failed, accepted-failed, accepted-is}
 use Rattle.image.specs.declared.layout.Layout.{Layout}
 use Rattle.laws.specs.Numbers.{outsideOf}
-use Rattle.image.specs.Tests.{mostOf, divCeil, badSize, badRatio, badSamples, badChroma, layoutTests}
+use Rattle.laws.specs.Axes.{plain}
+use Rattle.laws.specs.declared.axes.Siting.{Siting}
+use Rattle.laws.specs.declared.axes.Siting.the-variants.{Centred, CoSited}
+use Rattle.laws.specs.declared.axes.Axis.{Axis}
+use Rattle.image.specs.Tests.{mostOf, divCeil, badSize, badRatio, badSamples, badChroma, coSited, badSiting, layoutTests}
 use Rattle.image.specs.Inner.Tests.{Sound}
 use Rattle.image.proofs.Quotients.{ceil-covers, ceil-most, ceil-some}
 
@@ -90,6 +94,21 @@ sound fixed l f =
 -- a layout whose answer is no refusal is sound
 pub sound-answer : (fixed : Bool) (l : Layout) → accepted (first (layoutTests fixed l)) ≡ true → Sound l
 sound-answer fixed l e = sound fixed l (accepted-failed (layoutTests fixed l) (accepted-is (first (layoutTests fixed l)) e))
+
+-- ---- where 16 does not apply both axes are plain
+
+axis-plain : (a : Axis) → coSited (a .siting) ≡ false → a ≡ plain
+axis-plain a e = let s : a .siting ≡ Centred = centred (a .siting) e in λ i. record { siting = s i }
+  where
+    centred : (s : Siting) → coSited s ≡ false → s ≡ Centred
+    centred Centred e = refl
+    centred CoSited e = let z : _≡_ {A = ℕ} 0 1 = cc in absurd (omega arith)
+
+pub plain-axes : (l : Layout) → badSiting l ≡ false → (l .across ≡ plain) × (l .down ≡ plain)
+unfolding badSiting
+plain-axes l e =
+    let p = neither (coSited (l .across .siting)) (coSited (l .down .siting)) e in
+    (axis-plain (l .across) (p .0), axis-plain (l .down) (p .1))
 
 -- the number of pixels is no product that wraps
 pub area : {l : Layout} → Sound l → l .w * l .h ≤ 67108864

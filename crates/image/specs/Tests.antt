@@ -1,10 +1,12 @@
--- The tests behind refusals 2, 3, 4, 5 and 7, in the order and words of document 01's table. Definitions only.
+-- The tests behind refusals 2, 3, 4, 5, 16 and 7, in the order and words of document 01's table and, for 16, document 02's request W2. Definitions only.
 use mathlib.Core.Bool.{Bool, true, false, _&&_, _||_, not, cond}
 use mathlib.Core.List.{List, [], _∷_}
 use Prim.Native.Nat.{ℕ, _+_, _-_, _*_, _/_}
 use lib.Dec.{ltb, eqb}
 use Rattle.laws.specs.Refusals.{Test}
 use Rattle.laws.specs.Numbers.{outsideOf}
+use Rattle.laws.specs.declared.axes.Siting.{Siting}
+use Rattle.laws.specs.declared.axes.Siting.the-variants.{Centred, CoSited}
 use Rattle.image.specs.declared.layout.Layout.{Layout}
 
 -- 2: "width or height 0 or over 8,192"
@@ -34,6 +36,14 @@ badChroma l = not (eqb (l .cw) (divCeil (l .w) (l .rh))) || not (eqb (l .ch) (di
 -- the tests that open, the planes and fill begin with
 unfoldable pub layoutTests : Bool → Layout → List Test
 layoutTests fixed l = (badSize l, 2) ∷ (badRatio l, 3) ∷ (badSamples fixed l, 4) ∷ (badChroma l, 5) ∷ []
+
+abbrev pub coSited : Siting → Bool
+coSited Centred = false
+coSited CoSited = true
+
+-- 16: "Co-sited on either axis with guided (open included) or triangular"
+unfoldable pub badSiting : Layout → Bool
+badSiting l = coSited (l .across .siting) || coSited (l .down .siting)
 
 -- 7: "a plane's stride below its row, or data ending before its last row's end": h rows of w samples, in `len` bytes
 unfoldable pub badPlane : ℕ → ℕ → ℕ → ℕ → ℕ → Bool

@@ -1,14 +1,17 @@
-// Sizes, ratios, sample bytes and maxval, and the tests on them. Each test answers for every number, so that any may be asked first.
+// Sizes, ratios, axes, sample bytes and maxval, and the tests on them. Each test answers for every number, so that any may be asked first.
 ghost use mathlib.Core.Path.{_≡_};
 ghost use Rattle.laws.specs.Refusals.{first};
-ghost use Rattle.image.specs.Tests.{mostOf, divCeil, badSize, badRatio, badSamples, badChroma, layoutTests};
+ghost use Rattle.image.specs.Tests.{mostOf, divCeil, badSize, badRatio, badSamples, badChroma, coSited, badSiting, layoutTests};
 use laws::Answer;
+use laws::Axis;
+use laws::Siting;
 use laws::both;
 use laws::either;
 use laws::outside;
 use laws::then;
 
-// The numbers of a picture: w by h pixels, rh by rv of them to a cell, cw by ch cells, and how a sample is stored.
+// The numbers of a picture: w by h pixels, rh by rv of them to a cell, cw by ch cells, where a sample sits in its cell across and down, and how
+// it is stored.
 pub struct Layout {
     pub w: usize,
     pub h: usize,
@@ -16,6 +19,8 @@ pub struct Layout {
     pub rv: usize,
     pub cw: usize,
     pub ch: usize,
+    pub across: Axis,
+    pub down: Axis,
     pub sample_bytes: usize,
     pub maxval: u32,
 }
@@ -46,6 +51,17 @@ fn most(sample_bytes: usize) -> usize
     ensures { λ r. ⌜ r ≡ mostOf «sample_bytes» ⌝ }
 {
     if sample_bytes == 1 { 255 } else { 65_535 }
+}
+
+// Whether an axis is sampled over the first output of each cell.
+fn co_sited(axis: Axis) -> bool
+    ensures { λ r. ⌜ r ≡ coSited (axis .siting) ⌝ }
+{
+    let siting = axis.siting;
+    match siting {
+        Siting::Centred => false,
+        Siting::CoSited => true,
+    }
 }
 
 impl Layout {
@@ -86,6 +102,13 @@ impl Layout {
             self.cw != div_ceil(self.w, self.rh),
             self.ch != div_ceil(self.h, self.rv),
         )
+    }
+
+    // Inner: refusal 16's test, whether an axis is co-sited, for the calls that take centred chroma alone.
+    pub fn bad_siting(self) -> bool
+        ensures { λ r. ⌜ r ≡ badSiting self ⌝ }
+    {
+        either(co_sited(self.across), co_sited(self.down))
     }
 
     // Inner: the lowest of refusals 2 to 5 that applies, with which open, the calls for planes and fill begin.

@@ -4,4 +4,5 @@ pub mod Differences
 pub mod Rounding
 pub mod Floats
 pub mod Numbers
+pub mod Axes
 pub mod Inner

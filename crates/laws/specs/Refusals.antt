@@ -2,9 +2,9 @@
 use mathlib.Core.Path.{_≡_}
 use mathlib.Core.Logic.{_⊎_}
 use Prim.Native.Nat.{ℕ, _*_, _<_, _≤_}
-use mathlib.Core.Bool.{Bool, true, false}
+use mathlib.Core.Bool.{Bool, true, false, cond}
 use mathlib.Core.List.{List, [], _∷_}
-use lib.Dec.{T}
+use lib.Dec.{T, eqb}
 use Rattle.laws.specs.declared.answers.Answer.{Answer}
 use Rattle.laws.specs.declared.answers.Answer.the-variants.{Accepted, Refused}
 
@@ -26,9 +26,9 @@ unfoldable pub first : List Test → Answer
 first [] = Accepted
 first (t ∷ ts) = pickAnswer (t .0) (Refused (t .1)) (first ts)
 
--- the place of a number in the table: ten apart, since later requests put their numbers between
+-- the place of a number in the table: ten apart, since requests put their numbers between. 16 is "looked at right after 6"
 unfoldable pub placeOf : ℕ → ℕ
-placeOf n = 10 * n
+placeOf n = cond (eqb n 16) 65 (10 * n)
 
 -- the list stands in the table's order: every place is greater than those before it and than `least`, so that the first test that applies is the lowest
 unfoldable pub Ascending : ℕ → List Test → Type 0

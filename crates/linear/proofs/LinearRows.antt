@@ -21,7 +21,7 @@ use Rattle.image.proofs.Layouts.{sound}
 use Rattle.image.specs.Samples.{Plane, sampleAt}
 use Rattle.fround.specs.Rounding.{roundClamped}
 use Rattle.taps.specs.declared.positions.Tap.{Tap}
-use Rattle.taps.specs.Taps.{tapOf}
+use Rattle.taps.specs.Taps.{tapBy}
 use Rattle.taps.specs.Inner.Taps.{TapGiven}
 use Rattle.linear.specs.Linear.{downBy, linearDown, linearSample, linearRow, linearScratch, linearCellsAt, linearTests}
 use Rattle.linear.specs.Inner.Linear.{Ready}
@@ -34,7 +34,7 @@ use Rattle.taps.proofs.Spots.{tap-given}
 use Rattle.laws.proofs.Counts.{none-plus, plus-none}
 
 -- down by the row's tap: what is put into scratch are the definition's cells
-pub down-is : (l : Layout) (p : Plane) (y : ℕ) (t : Tap) (s : List Float) → t ≡ tapOf (l .rv) (l .ch) y
+pub down-is : (l : Layout) (p : Plane) (y : ℕ) (t : Tap) (s : List Float) → t ≡ tapBy (l .down) (l .rv) (l .ch) y
     → downRun (p .bytes) (l .«sample_bytes») (t .i0 * p .stride) (t .i1 * p .stride) (t .f) (l .cw) (linearCellsAt l) s ≡ put s (linearCellsAt l) (l .cw) (linearDown l (sampleAt (l .«sample_bytes») p) y)
 unfolding downRun linearDown sampleAt
 down-is l p y t s e = ap (λ (u : Tap). put s (linearCellsAt l) (l .cw) (downBy u (sampleAt (l .«sample_bytes») p))) e
@@ -45,16 +45,16 @@ across-read s at cw f t h p q = rw (put-inside s at cw f (t .i0) nan p h, put-in
 
 -- across from the cells that scratch holds: scratch afterwards is `linearRow`'s
 pub row-is : (l : Layout) (p : Plane) (dst y : ℕ) (s : List Float) → Sound l → linearCellsAt l + l .cw ≤ length s
-    → acrossRun (linearCellsAt l) (l .cw) (l .rh) dst 0 (l .w) (put s (linearCellsAt l) (l .cw) (linearDown l (sampleAt (l .«sample_bytes») p) y)) ≡ linearRow l p dst y s
+    → acrossRun (l .across) (linearCellsAt l) (l .cw) (l .rh) dst 0 (l .w) (put s (linearCellsAt l) (l .cw) (linearDown l (sampleAt (l .«sample_bytes») p) y)) ≡ linearRow l p dst y s
 unfolding acrossRun linearRow linearSample
 row-is l p dst y s o h =
     let g = linearDown l (sampleAt (l .«sample_bytes») p) y in
     let xs = put s (linearCellsAt l) (l .cw) g in
-    ap (λ (at : ℕ). put xs at (l .w) (λ i. acrossBy (tapOf (l .rh) (l .cw) (0 + i)) (cellAt xs (linearCellsAt l)))) (plus-none dst)
+    ap (λ (at : ℕ). put xs at (l .w) (λ i. acrossBy (tapBy (l .across) (l .rh) (l .cw) (0 + i)) (cellAt xs (linearCellsAt l)))) (plus-none dst)
     ∙ put-same xs dst (l .w) _ _ (λ i k.
-    let t = tapOf (l .rh) (l .cw) i in
-    let n : TapGiven (l .rh) (l .cw) i t = tap-given (l .rh) (l .cw) i t (o .cw-some) (within i k (o .cells)) refl in
-    ap (λ (j : ℕ). acrossBy (tapOf (l .rh) (l .cw) j) (cellAt xs (linearCellsAt l))) (none-plus i)
+    let t = tapBy (l .across) (l .rh) (l .cw) i in
+    let n : TapGiven (l .across) (l .rh) (l .cw) i t = tap-given (l .across) (l .rh) (l .cw) i t (o .cw-some) (within i k (o .cells)) refl in
+    ap (λ (j : ℕ). acrossBy (tapBy (l .across) (l .rh) (l .cw) j) (cellAt xs (linearCellsAt l))) (none-plus i)
     ∙ across-read s (linearCellsAt l) (l .cw) g t h (n .i0-inside) (n .i1-inside))
   where
     within : (i : ℕ) → i < l .w → l .w ≤ l .cw * l .rh → i < l .cw * l .rh

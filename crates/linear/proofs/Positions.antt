@@ -6,11 +6,13 @@ use Prim.Native.Nat.{ℕ, _+_, _-_, _*_, _/_, _%_, _≤_, _<_}
 use native.Mathlib.Nat.{mul-div-cancel, mul-mod-left, div-lt-iff-lt-mul, le-div-iff-mul-le}
 use native.Mathlib.Omega.{arith}
 use lib.Ieee.{Float, nan, inf, fin, up, down}
+use Rattle.laws.specs.declared.axes.Siting.{Siting}
+use Rattle.laws.specs.declared.axes.Siting.the-variants.{Centred, CoSited}
 use Rattle.laws.specs.Inner.Floats.{NearFraction}
 use Rattle.laws.proofs.Nearness.{near-widen, near-aim}
 use Rattle.taps.specs.Taps.{Spot, onCell, spotAt, spotOf}
-use Rattle.taps.proofs.Spots.{between, by-spot, by-place}
-use Rattle.linear.specs.Bound.{Position, centredAt, exactBetween, exactNum, exactDen, Sixteenth}
+use Rattle.taps.proofs.Spots.{between, by-centred, by-co-sited, by-place}
+use Rattle.linear.specs.Bound.{Position, centredAt, coSitedAt, placedAt, exactBetween, exactNum, exactDen, Sixteenth}
 use Rattle.linear.proofs.Bound.{mix, spotNum, spotDen}
 
 -- the position's value is the spot's, both parts of the fraction times n
@@ -33,11 +35,11 @@ in-between m d p e = record { n = 1; den = omega arith; num = λ f. rw e (same (
     same : (a b j k : ℕ) → j * a + k * b ≡ (a * j + b * k) * 1
     same a b j k = omega arith
 
--- an output's spot and its position
-spot-position : (r len o : ℕ) → 0 < r → 0 < len → o < len * r → Same (spotOf 1 r len o) (centredAt r len o)
+-- an output's spot and its position, centred
+centred-position : (r len o : ℕ) → 0 < r → 0 < len → o < len * r → Same (spotOf Centred 1 r len o) (centredAt r len o)
 unfolding centredAt
-spot-position r len o z L O =
-    by-spot (λ (s : Spot). Same s (centredAt r len o)) 1 r len o (λ e. on-cell o (2 * r) (centredAt r len o .p) (omega arith) (one e)) (λ h. on-cell 0 (2 * r) (centredAt r len o .p) (omega arith) (none h))
+centred-position r len o z L O =
+    by-centred (λ (s : Spot). Same s (centredAt r len o)) 1 r len o (λ e. on-cell o (2 * r) (centredAt r len o .p) (omega arith) (one e)) (λ h. on-cell 0 (2 * r) (centredAt r len o .p) (omega arith) (none h))
     (λ h. by-place (λ (s : Spot). Same s (centredAt r len o)) ((2 * o + 1) * 1 - r) (2 * r) len
     (λ g. on-cell (len - 1) (2 * r) (centredAt r len o .p) (omega arith) (past (le-div-iff-mul-le (omega arith) .0 g)))
     (λ g. in-between ((2 * o + 1) * 1 - r) (2 * r) (centredAt r len o .p) (before (div-lt-iff-lt-mul (omega arith) .0 g))))
@@ -55,6 +57,30 @@ spot-position r len o z L O =
 
     before : (2 * o + 1) * 1 - r < (len - 1) * (2 * r) → centredAt r len o .p ≡ (2 * o + 1) * 1 - r
     before h = omega arith
+
+-- co-sited
+co-sited-position : (r len o : ℕ) → 0 < r → 0 < len → o < len * r → Same (spotOf CoSited 1 r len o) (coSitedAt r len o)
+unfolding coSitedAt
+co-sited-position r len o z L O =
+    by-co-sited (λ (s : Spot). Same s (coSitedAt r len o)) 1 r len o (λ e. on-cell o r (coSitedAt r len o .p) z (one e))
+    (by-place (λ (s : Spot). Same s (coSitedAt r len o)) (o * 1) r len
+    (λ g. on-cell (len - 1) r (coSitedAt r len o .p) z (past (le-div-iff-mul-le z .0 g)))
+    (λ g. in-between (o * 1) r (coSitedAt r len o .p) (before (div-lt-iff-lt-mul z .0 g))))
+  where
+    one : 1 ≡ r → coSitedAt r len o .p ≡ o * r
+    one e =
+        let h : o < len * 1 = subst (λ (x : ℕ). o < len * x) (sym e) O in
+        subst (λ (x : ℕ). coSitedAt x len o .p ≡ o * x) e (omega arith)
+
+    past : (len - 1) * r ≤ o * 1 → coSitedAt r len o .p ≡ (len - 1) * r
+    past h = omega arith
+
+    before : o * 1 < (len - 1) * r → coSitedAt r len o .p ≡ o * 1
+    before h = omega arith
+
+spot-position : (siting : Siting) (r len o : ℕ) → 0 < r → 0 < len → o < len * r → Same (spotOf siting 1 r len o) (placedAt siting r len o)
+spot-position Centred r len o z L O = centred-position r len o z L O
+spot-position CoSited r len o z L O = co-sited-position r len o z L O
 
 -- sixteen 256ths are a sixteenth
 sixteenth : (x : Float) (num den : ℕ) → NearFraction x num 0 den 16 → Sixteenth x num den
@@ -85,8 +111,8 @@ module _ (c : ℕ → ℕ → ℕ) (v h : Spot) (p q : Position) (a : Same v p) 
       rw (num-is, den-is) (sixteenth x (spotNum c v h * n) (spotDen v h * n) (near-aim x (spotNum c v h * n) (0 * n) (spotDen v h * n) 16 (spotNum c v h * n) 0 (omega arith) (near-widen x (spotNum c v h) 0 (spotDen v h) 16 n g)))
 
 -- what is within 16 / 256 of the value by two outputs' spots is within a sixteenth of the value by their positions
-pub position-sixteenth : (c : ℕ → ℕ → ℕ) (rv ch y rh cw x : ℕ) → 0 < rv → 0 < ch → y < ch * rv → 0 < rh → 0 < cw → x < cw * rh
-    → (z : Float) → NearFraction z (spotNum c (spotOf 1 rv ch y) (spotOf 1 rh cw x)) 0 (spotDen (spotOf 1 rv ch y) (spotOf 1 rh cw x)) 16
-    → Sixteenth z (exactNum c (centredAt rv ch y) (centredAt rh cw x)) (exactDen (centredAt rv ch y) (centredAt rh cw x))
-position-sixteenth c rv ch y rh cw x a b Y d e X z g =
-    near-sixteenth c (spotOf 1 rv ch y) (spotOf 1 rh cw x) (centredAt rv ch y) (centredAt rh cw x) (spot-position rv ch y a b Y) (spot-position rh cw x d e X) z g
+pub position-sixteenth : (c : ℕ → ℕ → ℕ) (down : Siting) (rv ch y : ℕ) (across : Siting) (rh cw x : ℕ) → 0 < rv → 0 < ch → y < ch * rv → 0 < rh → 0 < cw → x < cw * rh
+    → (z : Float) → NearFraction z (spotNum c (spotOf down 1 rv ch y) (spotOf across 1 rh cw x)) 0 (spotDen (spotOf down 1 rv ch y) (spotOf across 1 rh cw x)) 16
+    → Sixteenth z (exactNum c (placedAt down rv ch y) (placedAt across rh cw x)) (exactDen (placedAt down rv ch y) (placedAt across rh cw x))
+position-sixteenth c down rv ch y across rh cw x a b Y d e X z g =
+    near-sixteenth c (spotOf down 1 rv ch y) (spotOf across 1 rh cw x) (placedAt down rv ch y) (placedAt across rh cw x) (spot-position down rv ch y a b Y) (spot-position across rh cw x d e X) z g

@@ -5,6 +5,8 @@ use Prim.Native.Nat.{ℕ, _+_, _-_, _*_, _/_, _%_, _≤_, _<_, min}
 use lib.Dec.{T}
 use lib.Ieee.{Float, nan, inf, fin, up, down, le}
 use Rattle.laws.specs.declared.answers.Answer.the-variants.{Accepted}
+use Rattle.laws.specs.declared.axes.Siting.{Siting}
+use Rattle.laws.specs.declared.axes.Siting.the-variants.{Centred, CoSited}
 use Rattle.laws.specs.Floats.{f32, over, under}
 use Rattle.laws.specs.Refusals.{first}
 use Rattle.image.specs.declared.layout.Layout.{Layout}
@@ -23,6 +25,15 @@ pub record Position : Type 0 where
 unfoldable pub centredAt : ℕ → ℕ → ℕ → Position
 centredAt r len o = record { p = min (2 * o + 1 - r) ((len - 1) * (2 * r)); q = 2 * r }
 
+-- "Co-sited, output o of ratio r sits at u = o/r, with the same edge rule": likewise limited to 0 .. len − 1
+unfoldable pub coSitedAt : ℕ → ℕ → ℕ → Position
+coSitedAt r len o = record { p = min o ((len - 1) * r); q = r }
+
+-- "a siting for each axis, centred or co-sited"
+abbrev pub placedAt : Siting → ℕ → ℕ → ℕ → Position
+placedAt Centred r len o = centredAt r len o
+placedAt CoSited r len o = coSitedAt r len o
+
 -- the exact value at p / q, where f is the value of each cell, is exactBetween / q: rest = p mod q parts of q of the next cell, and the other q − rest of the cell at or before it
 abbrev pub exactBetween : Position → (ℕ → ℕ) → ℕ
 exactBetween s f = (s .q - s .p % s .q) * f (s .p / s .q) + s .p % s .q * f (s .p / s .q + 1)
@@ -36,10 +47,10 @@ exactDen v h = v .q * h .q
 
 -- the place of row y down and of column x across
 abbrev pub rowPosition : Layout → ℕ → Position
-rowPosition l y = centredAt (l .rv) (l .ch) y
+rowPosition l y = placedAt (l .down .siting) (l .rv) (l .ch) y
 
 abbrev pub columnPosition : Layout → ℕ → Position
-columnPosition l x = centredAt (l .rh) (l .cw) x
+columnPosition l x = placedAt (l .across .siting) (l .rh) (l .cw) x
 
 -- (P − N) / D and num / den differ by a sixteenth at most, multiplied out
 pub record SixteenthApart (P N D num den : ℕ) : Type 0 where
@@ -55,10 +66,10 @@ Sixteenth (fin s m e) num den = SixteenthApart (over s (m * up e)) (under s (m *
 -- ---- the span
 
 abbrev pub rowSpot : Layout → ℕ → Spot
-rowSpot l y = spotOf 1 (l .rv) (l .ch) y
+rowSpot l y = spotOf (l .down .siting) 1 (l .rv) (l .ch) y
 
 abbrev pub columnSpot : Layout → ℕ → Spot
-columnSpot l x = spotOf 1 (l .rh) (l .cw) x
+columnSpot l x = spotOf (l .across .siting) 1 (l .rh) (l .cw) x
 
 -- all four cells of the value lie between lo and hi; a field's first word is of the cell's row, its second of the column
 pub record Spanned (c : ℕ → ℕ → ℕ) (v h : Spot) (lo hi : ℕ) : Type 0 where
@@ -70,7 +81,7 @@ pub record Spanned (c : ℕ → ℕ → ℕ) (v h : Spot) (lo hi : ℕ) : Type 0
 -- ---- the claims
 
 pub record LinearClaims : Type 0 where
-  -- at every row and column of a layout that no call refuses, for samples up to 65,535
+  -- at every row and column of a layout that no linear call refuses, whatever its axes ("The 1/16 bound holds for both"), for samples up to 65,535
   pub within : (l : Layout) → first (layoutTests false l) ≡ Accepted → (c : ℕ → ℕ → ℕ) → ((j i : ℕ) → c j i ≤ 65535) → (y x : ℕ) → y < l .h → x < l .w
       → Sixteenth (linearSample l c y x) (exactNum c (rowPosition l y) (columnPosition l x)) (exactDen (rowPosition l y) (columnPosition l x))
   -- the float lies between any two whole numbers that its four cells lie between, ratios 1 to 4

@@ -1,4 +1,5 @@
--- 'Linear' of document 01: "lerp down by the tap, then across", whole planes of it, and the reasons for turning the call down. Definitions only.
+-- 'Linear' of document 01: "lerp down by the tap, then across", each tap by the siting of its axis (W2), whole planes of it, and the reasons for turning the
+-- call down. Definitions only.
 use mathlib.Core.Path.{_≡_}
 use mathlib.Core.Bool.{Bool, false, cond}
 use mathlib.Core.List.{List, [], _∷_, _++_}
@@ -17,7 +18,7 @@ use Rattle.image.specs.Picture.{shortPlane}
 use Rattle.image.specs.Scratch.{scratchNeed}
 use Rattle.fround.specs.Rounding.{roundClamped}
 use Rattle.taps.specs.declared.positions.Tap.{Tap}
-use Rattle.taps.specs.Taps.{lerpOf, tapOf}
+use Rattle.taps.specs.Taps.{lerpOf, tapBy}
 
 -- two cells of column i lerped down by a tap
 abbrev pub downBy : Tap → (ℕ → ℕ → ℕ) → ℕ → Float
@@ -25,7 +26,7 @@ downBy t c i = lerpOf (f32 (c (t .i0) i)) (f32 (c (t .i1) i)) (t .f)
 
 -- cell i of row y, lerped down by the row's tap
 unfoldable pub linearDown : Layout → (ℕ → ℕ → ℕ) → ℕ → ℕ → Float
-linearDown l c y i = downBy (tapOf (l .rv) (l .ch) y) c i
+linearDown l c y i = downBy (tapBy (l .down) (l .rv) (l .ch) y) c i
 
 -- a row of cells lerped across by a tap
 abbrev pub acrossBy : Tap → (ℕ → Float) → Float
@@ -33,7 +34,7 @@ acrossBy t g = lerpOf (g (t .i0)) (g (t .i1)) (t .f)
 
 -- row y, column x of the cells c, where c j i is cell i of row j
 unfoldable pub linearSample : Layout → (ℕ → ℕ → ℕ) → ℕ → ℕ → Float
-linearSample l c y x = acrossBy (tapOf (l .rh) (l .cw) x) (linearDown l c y)
+linearSample l c y x = acrossBy (tapBy (l .across) (l .rh) (l .cw) x) (linearDown l c y)
 
 -- "refusals 2, 3, 4, 5, 7, 9, 10"; `space` and `room` are how many values scratch and output hold
 unfoldable pub linearTests : Layout → Plane → ℕ → ℕ → List Test

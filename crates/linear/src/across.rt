@@ -6,44 +6,41 @@ ghost use lib.Ieee.{nan};
 ghost use lib.ListN.{length, getD};
 ghost use Rattle.laws.specs.Lists.{put};
 ghost use Rattle.taps.specs.Taps.{lerpOf};
-ghost use Rattle.linear.specs.Inner.AcrossRows.{acrossRun, partOf, betweenRun};
+ghost use Rattle.linear.specs.Inner.AcrossRows.{acrossRun, headOf, partOf, partsIn, betweenRun};
+use crate::sitings::head_of;
+use crate::sitings::lead_of;
+use crate::sitings::parts_of;
 use crate::twos::Twos;
 use crate::twos::across_twos;
-use taps::fraction;
+use laws::Axis;
+use laws::Siting;
 use taps::lerp;
 use taps::tap_at;
 
 // Outputs from, .. from + n - 1 of a row over the cw cells at src, each by its own tap. This form is for the edges of a row, for ratio 1
 // and for narrow rows. A row has at most `Layout::SIDE` = 8,192 outputs, and the cells lie behind them, so that no store reaches a cell.
-fn across_taps(s: &mut [f32], src: usize, cw: usize, r: usize, dst: usize, from: usize, n: usize)
+fn across_taps(
+    axis: Axis,
+    s: &mut [f32],
+    src: usize,
+    cw: usize,
+    r: usize,
+    dst: usize,
+    from: usize,
+    n: usize,
+)
     requires { ⌜ (0 < r) × (r ≤ 4) × (0 < cw) × (from + n ≤ 8192) × (from + n ≤ cw * r) ⌝ }
     requires { ⌜ (dst + from + n ≤ src) × (src + cw ≤ length (now s)) ⌝ }
-    ensures { λ _. ⌜ now (s .exit) ≡ acrossRun src cw r dst from n (now (s .entry)) ⌝ }
+    ensures { λ _. ⌜ now (s .exit) ≡ acrossRun axis src cw r dst from n (now (s .entry)) ⌝ }
 {
     let mut i = 0;
     while i < n {
-        let t = tap_at(r, cw, from + i);
+        let t = tap_at(axis, r, cw, from + i);
         let i0 = t.i0;
         let i1 = t.i1;
         s[dst + from + i] = lerp(s[src + i0], s[src + i1], t.f);
         i += 1;
     }
-}
-
-// The fractions of the outputs between two neighbouring cells at ratio r. An array has four places, and what stands past the ratio is no
-// output's.
-fn parts_of(r: usize) -> [f32; 4]
-    requires { ⌜ r ≤ 4 ⌝ }
-    ensures { λ f. ⌜ ((k : ℕ) → k < 4 → getD f k nan ≡ partOf r k) ⌝ }
-{
-    let n = 2 * (r / 2) + 1 - r;
-    let d = 2 * r;
-    [
-        fraction(n, d),
-        fraction(n + 2, d),
-        fraction(n + 4, d),
-        fraction(n + 6, d),
-    ]
 }
 
 // The r outputs between the cell at src and the next, to s from dst on.
@@ -61,13 +58,12 @@ fn put_between(s: &mut [f32], src: usize, r: usize, parts: [f32; 4], dst: usize)
     }
 }
 
-// The outputs between each of n pairs of neighbouring cells, r to a pair. It is called with a literal ratio, so that the compiler makes a
-// loop for each.
-fn across_each(s: &mut [f32], src: usize, r: usize, n: usize, dst: usize)
+// The outputs between each of n pairs of neighbouring cells, r to a pair, by the fractions in `parts`. It is called with a literal ratio, so
+// that the compiler makes a loop for each.
+fn across_each(s: &mut [f32], src: usize, r: usize, parts: [f32; 4], n: usize, dst: usize)
     requires { ⌜ (r ≤ 4) × (dst + r * n ≤ src) × (src + (n + 1) ≤ length (now s)) ⌝ }
-    ensures { λ _. ⌜ now (s .exit) ≡ betweenRun r src n dst (now (s .entry)) ⌝ }
+    ensures { λ _. ⌜ now (s .exit) ≡ betweenRun (partsIn parts) r src n dst (now (s .entry)) ⌝ }
 {
-    let parts = parts_of(r);
     let mut i = 0;
     while i < n {
         put_between(s, src + i, r, parts, dst + r * i);
@@ -75,41 +71,65 @@ fn across_each(s: &mut [f32], src: usize, r: usize, n: usize, dst: usize)
     }
 }
 
-// The outputs between n pairs of neighbouring cells, by a loop for each ratio that has no tap in it.
-fn across_between(s: &mut [f32], src: usize, r: usize, n: usize, dst: usize)
+// The outputs between n pairs of neighbouring cells, by a loop for each ratio that has no tap in it. The siting is looked at here, before
+// the loops, which serve both.
+fn across_between(siting: Siting, s: &mut [f32], src: usize, r: usize, n: usize, dst: usize)
     requires { ⌜ (1 < r) × (r ≤ 4) × (dst + r * n ≤ src) × (src + (n + 1) ≤ length (now s)) × (r ≡ 2 → 8 ≤ n) ⌝ }
-    ensures { λ _. ⌜ now (s .exit) ≡ betweenRun r src n dst (now (s .entry)) ⌝ }
+    ensures { λ _. ⌜ now (s .exit) ≡ betweenRun (partOf siting r) r src n dst (now (s .entry)) ⌝ }
 {
+    let parts = parts_of(siting, r);
     if r == 2 {
-        across_twos(s, src, n, dst);
+        across_twos(s, src, parts, n, dst);
         return;
     }
     if r == 3 {
-        across_each(s, src, 3, n, dst);
+        across_each(s, src, 3, parts, n, dst);
         return;
     }
-    across_each(s, src, 4, n, dst);
+    across_each(s, src, 4, parts, n, dst);
 }
 
-// Inner: a row of w outputs at ratio r over the cw cells at src, to s from dst on. The first r / 2 outputs lie before the middle of cell 0;
-// then come those between pairs of cells, r to a pair, then the rest.
-pub fn across_row(s: &mut [f32], src: usize, cw: usize, r: usize, dst: usize, w: usize)
+// A row of w outputs in three parts: `head` outputs before the first pair of cells, those between n pairs, r to a pair, then the rest.
+fn across_parts(
+    axis: Axis,
+    s: &mut [f32],
+    src: usize,
+    cw: usize,
+    r: usize,
+    dst: usize,
+    w: usize,
+    head: usize,
+    n: usize,
+)
+    requires { ⌜ (1 < r) × (r ≤ 4) × (w ≤ 8192) × (w ≤ cw * r) ⌝ }
+    requires { ⌜ (head ≡ headOf (axis .siting) r) × (head + r * n ≤ w) × (n < cw) × (r ≡ 2 → 8 ≤ n) ⌝ }
+    requires { ⌜ (dst + w ≤ src) × (src + cw ≤ length (now s)) ⌝ }
+    ensures { λ _. ⌜ now (s .exit) ≡ acrossRun axis src cw r dst 0 w (now (s .entry)) ⌝ }
+{
+    let siting = axis.siting;
+    let rest = head + r * n;
+    across_taps(axis, s, src, cw, r, dst, 0, head);
+    across_between(siting, s, src, r, n, dst + head);
+    across_taps(axis, s, src, cw, r, dst, rest, w - rest);
+}
+
+// Inner: a row of w outputs at ratio r over the cw cells at src, to s from dst on. At ratio 1 and in narrow rows each output has its tap;
+// else the row goes by its head, its pairs of cells and the rest.
+pub fn across_row(axis: Axis, s: &mut [f32], src: usize, cw: usize, r: usize, dst: usize, w: usize)
     requires { ⌜ (0 < r) × (r ≤ 4) × (0 < cw) × (0 < w) × (w ≤ 8192) × (w ≤ cw * r) ⌝ }
     requires { ⌜ (dst + w ≤ src) × (src + cw ≤ length (now s)) ⌝ }
-    ensures { λ _. ⌜ now (s .exit) ≡ acrossRun src cw r dst 0 w (now (s .entry)) ⌝ }
+    ensures { λ _. ⌜ now (s .exit) ≡ acrossRun axis src cw r dst 0 w (now (s .entry)) ⌝ }
 {
-    let head = r / 2;
-    if head == 0 {
-        across_taps(s, src, cw, r, dst, 0, w);
+    if r == 1 {
+        across_taps(axis, s, src, cw, r, dst, 0, w);
         return;
     }
     if w < Twos::ROW {
-        across_taps(s, src, cw, r, dst, 0, w);
+        across_taps(axis, s, src, cw, r, dst, 0, w);
         return;
     }
-    let n = (w - head) / r;
-    let pairs = r * n;
-    across_taps(s, src, cw, r, dst, 0, head);
-    across_between(s, src, r, n, dst + head);
-    across_taps(s, src, cw, r, dst, head + pairs, w - (head + pairs));
+    let siting = axis.siting;
+    let head = head_of(siting, r);
+    let lead = lead_of(siting, r);
+    across_parts(axis, s, src, cw, r, dst, w, head, (w - lead) / r);
 }

@@ -6,6 +6,7 @@ mod across;
 mod down;
 mod plane;
 mod rounded;
+mod sitings;
 mod twos;
 
 pub use plane::linear_plane;

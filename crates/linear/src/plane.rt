@@ -20,12 +20,12 @@ pub fn linear_row(layout: Layout, plane: &[u8], stride: usize, y: usize, s: &mut
     requires { ⌜ (y < layout .h) × (dst ≤ layout .w) ⌝ }
     ensures { λ _. ⌜ now (s .exit) ≡ linearRow layout (planeOf (now (plane .entry)) stride) dst y (now (s .entry)) ⌝ }
 {
-    let t = tap_at(layout.rv, layout.ch, y);
+    let t = tap_at(layout.down, layout.rv, layout.ch, y);
     let a = t.i0 * stride;
     let b = t.i1 * stride;
     let cells = 2 * layout.w;
     down_row(plane, layout.sample_bytes, a, b, t.f, layout.cw, s, cells);
-    across_row(s, cells, layout.cw, layout.rh, dst, layout.w);
+    across_row(layout.across, s, cells, layout.cw, layout.rh, dst, layout.w);
 }
 
 // Inner: the lowest refusal of `linear_plane` that applies. `space` and `room` are the lengths of scratch and output; nothing is written.

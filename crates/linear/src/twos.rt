@@ -3,10 +3,9 @@ ghost use mathlib.Core.Path.{_≡_};
 ghost use Prim.Native.Nat.{ℕ, _+_, _*_, _≤_, _<_};
 ghost use lib.Ieee.{nan};
 ghost use lib.ListN.{length, getD};
-ghost use Rattle.linear.specs.Inner.AcrossRows.{betweenAt, betweenRun};
+ghost use Rattle.linear.specs.Inner.AcrossRows.{partsIn, betweenAt, betweenRun};
 use lanes::Lanes;
 use lanes::put_block;
-use taps::fraction;
 use taps::lerp;
 
 // Rows at ratio 2, two outputs to a cell.
@@ -17,33 +16,31 @@ impl Twos {
     pub const ROW: usize = 18;
 }
 
-// The outputs between eight pairs of the cells at src, from pair i on.
-fn twos_block(s: &[f32], src: usize, i: usize) -> [f32; Lanes::PIXELS]
+// The outputs between eight pairs of the cells at src, from pair i on, by the two fractions that stand first in `parts`.
+fn twos_block(s: &[f32], src: usize, parts: [f32; 4], i: usize) -> [f32; Lanes::PIXELS]
     requires { ⌜ src + (i + 9) ≤ length (now s) ⌝ }
-    ensures { λ r. ⌜ ((k : ℕ) → k < 16 → getD r k nan ≡ betweenAt 2 (now (s .entry)) src (2 * i + k)) ⌝ }
+    ensures { λ r. ⌜ ((k : ℕ) → k < 16 → getD r k nan ≡ betweenAt (partsIn parts) 2 (now (s .entry)) src (2 * i + k)) ⌝ }
 {
-    let f0 = fraction(1, 4);
-    let f1 = fraction(3, 4);
     let mut v = [0.0f32; Lanes::PIXELS];
     for k in 0..Lanes::CELLS {
         let a = s[src + (i + k)];
         let b = s[src + (i + k + 1)];
-        v[2 * k] = lerp(a, b, f0);
-        v[2 * k + 1] = lerp(a, b, f1);
+        v[2 * k] = lerp(a, b, parts[0]);
+        v[2 * k + 1] = lerp(a, b, parts[1]);
     }
     v
 }
 
 // Inner: the outputs between n pairs of the cells at src, to s from dst on. The last block ends with the last pair: it overlaps the block
 // before it and stores again what that stored.
-pub fn across_twos(s: &mut [f32], src: usize, n: usize, dst: usize)
+pub fn across_twos(s: &mut [f32], src: usize, parts: [f32; 4], n: usize, dst: usize)
     requires { ⌜ (8 ≤ n) × (dst + 2 * n ≤ src) × (src + (n + 1) ≤ length (now s)) ⌝ }
-    ensures { λ _. ⌜ now (s .exit) ≡ betweenRun 2 src n dst (now (s .entry)) ⌝ }
+    ensures { λ _. ⌜ now (s .exit) ≡ betweenRun (partsIn parts) 2 src n dst (now (s .entry)) ⌝ }
 {
     let mut done = 0;
     while done < n {
         let i = laws::least(done, n - Lanes::CELLS);
-        let v = twos_block(s, src, i);
+        let v = twos_block(s, src, parts, i);
         put_block(s, dst + 2 * i, v);
         done = i + Lanes::CELLS;
     }

@@ -14,7 +14,7 @@ use Rattle.laws.specs.declared.answers.Answer.the-variants.{Accepted, Refused a
 use Rattle.laws.specs.Refusals.{first}
 use Rattle.laws.proofs.Refusals.{Failed, accepted-failed, failed-accepted, failed-both}
 use Rattle.image.specs.declared.layout.Layout.{Layout}
-use Rattle.image.specs.Tests.{divCeil, badSize, badRatio, badSamples, badChroma, layoutTests}
+use Rattle.image.specs.Tests.{divCeil, badSize, badRatio, badSamples, badChroma, badSiting, layoutTests}
 use Rattle.image.proofs.Layouts.{neither}
 use Rattle.netpbm.specs.declared.reading.Reading.the-variants.{Read}
 use Rattle.netpbm.specs.Images.{widthOf, heightOf, rowsAt, imageEnd, imageTests}
@@ -26,6 +26,7 @@ use Rattle.netpbm.proofs.Ratios.{Fits, ratio-fits}
 pub record Taken (s : List ℕ) (l : Layout) (y cb cr : ℕ) : Type 0 where
   pub short : length s ≤ 49152
   pub passes : first (layoutTests false l) ≡ Accepted
+  pub centred : badSiting l ≡ false
   pub width : l .w ≤ 128
   pub bytes : l .«sample_bytes» ≡ 1
   pub maxval : l .maxval ≡ 255
@@ -98,10 +99,11 @@ module _ (s : List ℕ) (a : first (readingTests s) ≡ Accepted) where
   same-sides = (across .other ∙ sym (across .one), down .other ∙ sym (down .one))
 
   accepted-taken : Taken s (inputLayout s) (rowsAt s 0) (rowsAt s (cbAt s)) (rowsAt s (crAt s))
-  unfolding inputLayout imageEnd
+  unfolding inputLayout imageEnd badSiting
   accepted-taken = record {
     short = short-is;
     passes = passed;
+    centred = refl;
     width = three .0 .width;
     bytes = refl;
     maxval = refl;

@@ -5,6 +5,7 @@ use mathlib.Core.Logic.{inl, inr}
 use mathlib.Core.List.{List, [], _∷_, _++_}
 use Prim.Native.Nat.{ℕ}
 use native.Mathlib.Omega.{arith}
+use Rattle.laws.specs.Axes.{plain}
 use Rattle.laws.specs.Refusals.{first}
 use Rattle.image.specs.Tests.{divCeil, badSize}
 use Rattle.netpbm.specs.declared.reading.Reading.the-variants.{Read, Refused}
@@ -22,7 +23,7 @@ header = 80 ∷ 53 ∷ 32 ∷ 49 ∷ 32 ∷ 49 ∷ 32 ∷ 50 ∷ 53 ∷ 53 ∷ 1
 -- what the whole input comes to
 pub record Inputs : Type 0 where
   -- "three 1 by 1 images holding 230, 3, 128"
-  pub one-by-one : readingOf (header ++ (230 ∷ header) ++ (3 ∷ header) ++ (128 ∷ [])) ≡ Read (record { w = 1; h = 1; rh = 1; rv = 1; cw = 1; ch = 1; «sample_bytes» = 1; maxval = 255 }) 11 23 35
+  pub one-by-one : readingOf (header ++ (230 ∷ header) ++ (3 ∷ header) ++ (128 ∷ [])) ≡ Read (record { w = 1; h = 1; rh = 1; rv = 1; cw = 1; ch = 1; across = plain; down = plain; «sample_bytes» = 1; maxval = 255 }) 11 23 35
   -- a byte left over
   pub one-more : readingOf (header ++ (230 ∷ header) ++ (3 ∷ header) ++ (128 ∷ 10 ∷ [])) ≡ Refused 14
   -- two whitespace bytes behind the maxval: the second is the row, and no magic stands behind it
@@ -36,7 +37,7 @@ pub record Inputs : Type 0 where
   -- a width of 128 goes on, and the height is missing
   pub width-128 : readingOf (80 ∷ 53 ∷ 32 ∷ 49 ∷ 50 ∷ 56 ∷ []) ≡ Refused 14
   -- `P5#c`, newline, `1 1 255`, newline, in the second image: a comment in the place of whitespace
-  pub comment : readingOf (header ++ (230 ∷ 80 ∷ 53 ∷ 35 ∷ 99 ∷ 10 ∷ 49 ∷ 32 ∷ 49 ∷ 32 ∷ 50 ∷ 53 ∷ 53 ∷ 10 ∷ 3 ∷ header) ++ (128 ∷ [])) ≡ Read (record { w = 1; h = 1; rh = 1; rv = 1; cw = 1; ch = 1; «sample_bytes» = 1; maxval = 255 }) 11 25 37
+  pub comment : readingOf (header ++ (230 ∷ 80 ∷ 53 ∷ 35 ∷ 99 ∷ 10 ∷ 49 ∷ 32 ∷ 49 ∷ 32 ∷ 50 ∷ 53 ∷ 53 ∷ 10 ∷ 3 ∷ header) ++ (128 ∷ [])) ≡ Read (record { w = 1; h = 1; rh = 1; rv = 1; cw = 1; ch = 1; across = plain; down = plain; «sample_bytes» = 1; maxval = 255 }) 11 25 37
   -- `P5 1 1 255#`, CR, and the row: "the byte just after the maxval is still single"
   pub comment-behind : readingOf ((80 ∷ 53 ∷ 32 ∷ 49 ∷ 32 ∷ 49 ∷ 32 ∷ 50 ∷ 53 ∷ 53 ∷ 35 ∷ 13 ∷ 230 ∷ header) ++ (3 ∷ header) ++ (128 ∷ [])) ≡ Refused 14
   -- `P5 #1 1 255`: "a comment that never ends is a bad header"

@@ -4,6 +4,7 @@ use mathlib.Core.List.{List, [], _∷_, _++_}
 use Prim.Native.Nat.{ℕ, zero, suc}
 use lib.Dec.{ltb, eqb}
 use lib.ListN.{length}
+use Rattle.laws.specs.Axes.{plain}
 use Rattle.laws.specs.Refusals.{Test}
 use Rattle.image.specs.declared.layout.Layout.{Layout}
 use Rattle.image.specs.Tests.{divCeil, badSize}
@@ -31,7 +32,7 @@ smallest p r (suc k) = cond (p r) r (smallest p (suc r) k)
 unfoldable pub ratioFor : ℕ → ℕ → ℕ → ℕ
 ratioFor n a b = smallest (fitsBoth n a b) 1 4
 
--- the layout that the input's three images make. "Maxval is 255 in all three", so a sample is one byte
+-- the layout that the input's three images make: centred, as the program's guided fill takes it. "Maxval is 255 in all three", so a sample is one byte
 unfoldable pub inputLayout : List ℕ → Layout
 inputLayout s = record {
   w = widthOf s 0;
@@ -40,6 +41,8 @@ inputLayout s = record {
   rv = ratioFor (heightOf s 0) (heightOf s (cbAt s)) (heightOf s (crAt s));
   cw = widthOf s (cbAt s);
   ch = heightOf s (cbAt s);
+  across = plain;
+  down = plain;
   «sample_bytes» = 1;
   maxval = 255;
 }

@@ -4,6 +4,7 @@ ghost use Rattle.netpbm.specs.Reading.{fitsBoth, ratioFor, noRatio};
 ghost use Rattle.netpbm.specs.Inner.HeldInput.{layoutHeld};
 use crate::pgm::Image;
 use image::Layout;
+use laws::Axis;
 
 // Whether ratio r fits both chroma images along a side of n pixels: each has as many cells, a and b, as n pixels make at that ratio.
 fn fits_both(n: usize, a: usize, b: usize, r: usize) -> bool
@@ -40,6 +41,8 @@ pub fn layout_of(y: Image, cb: Image, cr: Image) -> Layout
         rv,
         cw: cb.w,
         ch: cb.h,
+        across: Axis::PLAIN,
+        down: Axis::PLAIN,
         // A maxval of 255, which is `Image::MAXVAL`, makes samples of one byte.
         sample_bytes: 1,
         maxval: 255,

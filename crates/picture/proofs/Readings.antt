@@ -17,7 +17,7 @@ use Rattle.laws.specs.Refusals.{first, accepted}
 use Rattle.laws.proofs.Refusals.{accepted-failed, failed-accepted, passed-early, refused-early, refused-here, passed-over}
 use Rattle.image.specs.declared.layout.Layout.{Layout}
 use Rattle.image.specs.Picture.{Planes, shortPlane, badPlanes, Picture, pictureOf}
-use Rattle.image.specs.Tests.{badPlane, layoutTests}
+use Rattle.image.specs.Tests.{badSiting, badPlane, layoutTests}
 use Rattle.image.specs.Inner.Tests.{Sound}
 use Rattle.image.proofs.Layouts.{sound}
 use Rattle.image.specs.Scratch.{scratchNeed}
@@ -96,7 +96,7 @@ module _ {s : List ℕ} {l : Layout} {y cb cr : ℕ} (t : Taken s l y cb cr) whe
   unfolding fillTests
   fill-takes scratch out g h =
       passed-early (layoutTests false l) _ (ap accepted (t .passes))
-      ∙ failed-accepted ((badPlanes l (planesFrom s l y cb cr), 7) ∷ (false, 8) ∷ (ltb (length scratch) (scratchNeed l), 9) ∷ (ltb (length out) (l .w * l .h * 3), 10) ∷ []) (planes-hold, (refl, (le-ltb _ _ g, (le-ltb _ _ h, tt))))
+      ∙ failed-accepted ((badSiting l, 16) ∷ (badPlanes l (planesFrom s l y cb cr), 7) ∷ (false, 8) ∷ (ltb (length scratch) (scratchNeed l), 9) ∷ (ltb (length out) (l .w * l .h * 3), 10) ∷ []) (t .centred, (planes-hold, (refl, (le-ltb _ _ g, (le-ltb _ _ h, tt)))))
 
 -- what fill leaves, lent those parts of the input
 module _ (s : List ℕ) (l : Layout) (y cb cr : ℕ) (e : readingOf s ≡ Read l y cb cr) (scratch : List Float) (out : List ℕ) (g : scratchNeed l ≤ length scratch) (h : l .w * l .h * 3 ≤ length out) (a : Answer) (scratch' : List Float) (out' : List ℕ) where

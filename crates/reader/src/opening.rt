@@ -34,11 +34,12 @@ fn open_answer(
         (openCall layout (planesOf (now (y .entry)) (now (cb .entry)) (now (cr .entry)) strides) (now (s .entry)) reader))) ⌝ }
 {
     let answer = layout.answer(false);
+    let answer = laws::then(answer, layout.bad_siting(), 16);
     let answer = laws::then(answer, image::bad_planes(layout, y, cb, cr, strides), 7);
     laws::then(answer, image::short_scratch(layout, s.len()), 9)
 }
 
-// Opens a picture: its reader is at row 0, and nothing of an earlier picture is left in it. Refusals 2, 3, 4, 5, 7 and 9.
+// Opens a picture: its reader is at row 0, and nothing of an earlier picture is left in it. Refusals 2, 3, 4, 5, 16, 7 and 9.
 // `s` is the scratch that the row calls will be lent. `reader` comes back where the picture is refused.
 pub fn open(
     layout: Layout,

@@ -9,8 +9,9 @@ use crate::phases::bad_phases;
 use guided::Geometry;
 use guided::Reader;
 use image::Layout;
+use laws::Axis;
 
-// Inner: the layout that a reader's picture was opened with, put together from its state.
+// Inner: the layout that a reader's picture was opened with, put together from its state. Open takes plain axes alone.
 pub fn reader_layout(reader: Reader) -> Layout
     ensures { λ l. ⌜ l ≡ readerLayout reader ⌝ }
 {
@@ -22,6 +23,8 @@ pub fn reader_layout(reader: Reader) -> Layout
         rv: g.rv,
         cw: g.cw,
         ch: g.ch,
+        across: Axis::PLAIN,
+        down: Axis::PLAIN,
         sample_bytes: reader.sample_bytes,
         maxval: reader.maxval,
     }
@@ -33,7 +36,7 @@ pub fn top_of(layout: Layout, y: usize) -> usize
     requires { ⌜ y < layout .h ⌝ }
     ensures { λ r. ⌜ (r ≡ topOf layout y) × (r < layout .ch) ⌝ }
 {
-    let t = taps::tap_at(layout.rv, layout.ch, y);
+    let t = taps::tap_at(Axis::PLAIN, layout.rv, layout.ch, y);
     t.i0
 }
 
@@ -43,7 +46,7 @@ pub fn last_of(layout: Layout, y: usize) -> usize
     requires { ⌜ y < layout .h ⌝ }
     ensures { λ r. ⌜ (r ≡ lastOf layout y) × (r < layout .ch) ⌝ }
 {
-    let t = taps::tap_at(layout.rv, layout.ch, y);
+    let t = taps::tap_at(Axis::PLAIN, layout.rv, layout.ch, y);
     let own = y / layout.rv;
     if t.i1 < own { own } else { t.i1 }
 }

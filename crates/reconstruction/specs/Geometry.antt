@@ -5,6 +5,9 @@ pub use Rattle.image.specs.Samples.{Plane, planeOf, sampleOf, sampleAt}
 pub use Rattle.image.specs.Picture.{Picture, Planes, planesOf, chromaPlane, pictureOf}
 -- "A tap is two indices and a fraction."
 pub use Rattle.taps.specs.Taps.{Spot, spotOf, tapOf}
+-- W2: "a siting for each axis, centred or co-sited"
+pub use Rattle.laws.specs.Axes.{plain}
+pub use Rattle.taps.specs.Taps.{sitedAt, tapBy}
 -- "lerp(a,b,f) = a + f·(b−a), three roundings."
 pub use Rattle.taps.specs.Taps.{lerpOf}
 -- "The geometry keeps the phase fractions of its ratio, four at most."

@@ -1,4 +1,4 @@
 -- 'Linear (`Linear`): lerp down by the tap, then across.'
 pub use Rattle.linear.specs.Linear.{linearSample, linearPlane, LinearGiven}
 -- "Its float lies within 1/16 of the exact bilinear value, a fraction of whole numbers, for samples up to 65,535."
-pub use Rattle.linear.specs.Bound.{Position, centredAt, exactBetween, exactNum, exactDen, Sixteenth, LinearClaims}
+pub use Rattle.linear.specs.Bound.{Position, centredAt, coSitedAt, placedAt, exactBetween, exactNum, exactDen, Sixteenth, LinearClaims}

@@ -13,6 +13,8 @@ pub use kernels::YcbcrKernel;
 pub use kernels::ycbcr_frac_to_rgb8;
 pub use kernels::ycbcr_to_rgb8_fixed16;
 pub use laws::Answer;
+pub use laws::Axis;
+pub use laws::Siting;
 pub use linear::linear_plane;
 pub use reader::open;
 pub use reader::row;

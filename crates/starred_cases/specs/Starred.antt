@@ -5,6 +5,7 @@ use mathlib.Core.List.{List, [], _∷_, map}
 use Prim.Native.Nat.{ℕ, _+_, _*_, _/_, _%_}
 use lib.ListN.{getD}
 use lib.Ieee.{Float, nan, binary32, ofBits}
+use Rattle.laws.specs.Axes.{plain}
 use Rattle.laws.specs.Floats.{f32}
 use Rattle.laws.specs.Lists.{table}
 use Rattle.image.specs.declared.layout.Layout.{Layout}
@@ -41,9 +42,9 @@ Holds (Linear l cs row) = table (l .w) (linearSample l (cellsOf (l .cw) cs) 0) �
 Holds (Triangular l cs out) = table (l .w * l .h) (λ k. triangularSample l (cellsOf (l .cw) cs) (k / l .w) (k % l .w)) ≡ out
 Holds (Phases r ps) = phasesOf r ≡ ps
 
--- a layout of one-byte samples
+-- a layout of one-byte samples, centred
 abbrev sizes : ℕ → ℕ → ℕ → ℕ → ℕ → ℕ → Layout
-sizes w h rh rv cw ch = record { w = w; h = h; rh = rh; rv = rv; cw = cw; ch = ch; «sample_bytes» = 1; maxval = 255 }
+sizes w h rh rv cw ch = record { w = w; h = h; rh = rh; rv = rv; cw = cw; ch = ch; across = plain; down = plain; «sample_bytes» = 1; maxval = 255 }
 
 abbrev rgb : ℕ → ℕ → ℕ → Colour
 rgb r g b = record { red = r; green = g; blue = b }

@@ -1,5 +1,5 @@
--- Laws of `spotOf` for any num and den: its part is below 1, its cells are there, in order, and beside the output's own cell.
--- Each goes by the cases of the definition (`by-spot`, `by-place`). The hard one is `spot-around`, where the floor of u and the output's
+-- Laws of `spotOf` for either siting and any num and den: its part is below 1, its cells are there, in order, and beside the output's own cell.
+-- Each goes by the cases of the definition (`by-spot`, `by-place`). The hard one is `spot-around`, of centred outputs, where the floor of u and the output's
 -- own cell o / r are held against each other by the remainders of both divisions.
 use mathlib.Core.Path.{_≡_, sym, ap, subst}
 use mathlib.Core.Bool.{Bool, true, false, not}
@@ -8,9 +8,12 @@ use native.Mathlib.Nat.{le-refl, not-le-of-lt, le-of-suc-le-suc, div-one, le-tra
 use native.Mathlib.Omega.{arith}
 use lib.Dec.{T, ltb, leb, eqb, ltb→lt, nltb→le, leb→le, nleb→lt, eqb→eq, lit≤}
 use lib.Ieee.Nearest.{div-mono}
-use Rattle.taps.specs.Taps.{Spot, pickSpot, onCell, spotAt, spotOf, tapOf}
+use Rattle.taps.specs.Taps.{Spot, pickSpot, onCell, spotAt, sitedAt, spotOf, tapBy}
 use Rattle.taps.specs.Inner.Taps.{TapGiven}
 use Rattle.taps.specs.declared.positions.Tap.{Tap}
+use Rattle.laws.specs.declared.axes.Siting.{Siting}
+use Rattle.laws.specs.declared.axes.Siting.the-variants.{Centred, CoSited}
+use Rattle.laws.specs.declared.axes.Axis.{Axis}
 
 -- ---- by cases: on a cell, or between two
 
@@ -28,34 +31,43 @@ pub by-place : (P : Spot → Type 0) (m d len : ℕ) → (len - 1 ≤ m / d → 
 unfolding spotAt
 by-place P m d len f g = by-pick P (leb (len - 1) (m / d)) (onCell (len - 1)) (between m d) (λ t. f (leb→le (len - 1) (m / d) t)) (λ t. g (nleb→lt (len - 1) (m / d) t))
 
--- the three cases of an output: one cell to each output, below the first cell, and else
-pub by-spot : (P : Spot → Type 0) (num den len o : ℕ) → (num ≡ den → P (onCell o)) → ((2 * o + 1) * num < den → P (onCell 0)) → (den ≤ (2 * o + 1) * num → P (spotAt ((2 * o + 1) * num - den) (2 * den) len)) → P (spotOf num den len o)
+-- the cases of an output that has fewer cells than outputs: below the first cell, and else at m / d, where d is den or its double
+by-sited : (P : Spot → Type 0) (siting : Siting) (num den len o : ℕ) → P (onCell 0) → ((m d : ℕ) → (0 < den → 0 < d) → d ≤ 2 * den → P (spotAt m d len)) → P (sitedAt siting num den len o)
+unfolding sitedAt
+by-sited P Centred num den len o g h =
+    by-pick P (ltb ((2 * o + 1) * num) den) (onCell 0) (spotAt ((2 * o + 1) * num - den) (2 * den) len) (λ _. g) (λ _. h ((2 * o + 1) * num - den) (2 * den) (λ (z : 0 < den). omega arith) (le-refl (2 * den)))
+by-sited P CoSited num den len o g h = h (o * num) den (λ (z : 0 < den). z) (omega arith)
+
+-- the cases of an output: one cell to each output, and else as it is sited
+by-own : (P : Spot → Type 0) (siting : Siting) (num den len o : ℕ) → (num ≡ den → P (onCell o)) → P (sitedAt siting num den len o) → P (spotOf siting num den len o)
 unfolding spotOf
-by-spot P num den len o f g h =
-    by-pick P (eqb num den) (onCell o) (pickSpot (ltb ((2 * o + 1) * num) den) (onCell 0) (spotAt ((2 * o + 1) * num - den) (2 * den) len)) (λ t. f (eqb→eq num den t))
-    (λ _. by-pick P (ltb ((2 * o + 1) * num) den) (onCell 0) (spotAt ((2 * o + 1) * num - den) (2 * den) len) (λ t. g (ltb→lt ((2 * o + 1) * num) den t)) (λ t. h (nltb→le ((2 * o + 1) * num) den t)))
+by-own P siting num den len o f g = by-pick P (eqb num den) (onCell o) (sitedAt siting num den len o) (λ t. f (eqb→eq num den t)) (λ _. g)
+
+-- both at once
+by-spot : (P : Spot → Type 0) (siting : Siting) (num den len o : ℕ) → (num ≡ den → P (onCell o)) → P (onCell 0) → ((m d : ℕ) → (0 < den → 0 < d) → d ≤ 2 * den → P (spotAt m d len)) → P (spotOf siting num den len o)
+by-spot P siting num den len o f g h = by-own P siting num den len o f (by-sited P siting num den len o g h)
 
 -- ---- its part is below 1, and in eighths or coarser at ratios 1 to 4
 
--- the remainder of u is below 1, at any num and den
-pub spot-part : (num den len o : ℕ) → 0 < den → spotOf num den len o .k < spotOf num den len o .d
-spot-part num den len o z =
-    by-spot (λ (s : Spot). s .k < s .d) num den len o (λ _. lit≤ tt) (λ _. lit≤ tt)
-    (λ _. by-place (λ (s : Spot). s .k < s .d) ((2 * o + 1) * num - den) (2 * den) len (λ _. lit≤ tt) (λ _. mod-lt ((2 * o + 1) * num - den) (omega arith)))
+-- the remainder of u is below 1, at any siting, num and den
+pub spot-part : (siting : Siting) (num den len o : ℕ) → 0 < den → spotOf siting num den len o .k < spotOf siting num den len o .d
+spot-part siting num den len o z =
+    by-spot (λ (s : Spot). s .k < s .d) siting num den len o (λ _. lit≤ tt) (lit≤ tt)
+    (λ m d p _. by-place (λ (s : Spot). s .k < s .d) m d len (λ _. lit≤ tt) (λ _. mod-lt m (p z)))
 
 -- what the table of fractions asks of a spot
 pub record Valid (s : Spot) : Type 0 where
   pub part : s .k < s .d
   pub small : s .d < 9
 
--- every spot at a ratio that a layout has is in the table
-pub spot-valid : (num den len o : ℕ) → (0 < den) × (den ≤ 4) → Valid (spotOf num den len o)
-spot-valid num den len o l =
+-- every spot of a pair that a layout has is in the table
+pub spot-valid : (siting : Siting) (num den len o : ℕ) → (0 < den) × (den ≤ 4) → Valid (spotOf siting num den len o)
+spot-valid siting num den len o l =
     record {
-      part = spot-part num den len o (l .0);
+      part = spot-part siting num den len o (l .0);
       small =
-          by-spot (λ (s : Spot). s .d < 9) num den len o (λ _. lit≤ tt) (λ _. lit≤ tt)
-          (λ _. by-place (λ (s : Spot). s .d < 9) ((2 * o + 1) * num - den) (2 * den) len (λ _. lit≤ tt) (λ _. omega arith));
+          by-spot (λ (s : Spot). s .d < 9) siting num den len o (λ _. lit≤ tt) (lit≤ tt)
+          (λ m d _ k. by-place (λ (s : Spot). s .d < 9) m d len (λ _. lit≤ tt) (λ _. omega arith));
     }
 
 -- ---- its cells are there
@@ -63,16 +75,16 @@ pub record Inside (s : Spot) (len : ℕ) : Type 0 where
   pub near : s .near < len
   pub far : s .far < len
 
-pub spot-inside : (num den len o : ℕ) → 0 < len → (num ≡ den → o < len) → Inside (spotOf num den len o) len
-spot-inside num den len o z h =
-    by-spot (λ (s : Spot). Inside s len) num den len o (λ e. record { near = h e; far = h e }) (λ _. record { near = z; far = z })
-    (λ _. by-place (λ (s : Spot). Inside s len) ((2 * o + 1) * num - den) (2 * den) len (λ _. record { near = last; far = last }) (λ l. go (((2 * o + 1) * num - den) / (2 * den)) l))
+pub spot-inside : (siting : Siting) (num den len o : ℕ) → 0 < len → (num ≡ den → o < len) → Inside (spotOf siting num den len o) len
+spot-inside siting num den len o z h =
+    by-spot (λ (s : Spot). Inside s len) siting num den len o (λ e. record { near = h e; far = h e }) (record { near = z; far = z })
+    (λ m d _ _. by-place (λ (s : Spot). Inside s len) m d len (λ _. record { near = last; far = last }) (λ l. go (m / d) (m % d) d l))
   where
     last : len - 1 < len
     last = omega arith
 
-    go : (q : ℕ) → q < len - 1 → Inside (record { near = q; far = q + 1; k = ((2 * o + 1) * num - den) % (2 * den); d = 2 * den }) len
-    go q l = record { near = omega arith; far = omega arith }
+    go : (q k d : ℕ) → q < len - 1 → Inside (record { near = q; far = q + 1; k = k; d = d }) len
+    go q k d l = record { near = omega arith; far = omega arith }
 
 -- ---- the far cell is the near one or the next
 pub record Beside (s : Spot) : Type 0 where
@@ -82,13 +94,12 @@ pub record Beside (s : Spot) : Type 0 where
 cell-beside : (i : ℕ) → Beside (onCell i)
 cell-beside i = record { low = le-refl i; high = omega arith }
 
-pub spot-beside : (num den len o : ℕ) → Beside (spotOf num den len o)
-spot-beside num den len o =
-    by-spot Beside num den len o (λ _. cell-beside o) (λ _. cell-beside 0)
-    (λ _. by-place Beside ((2 * o + 1) * num - den) (2 * den) len (λ _. cell-beside (len - 1)) (λ _. go (((2 * o + 1) * num - den) / (2 * den))))
+pub spot-beside : (siting : Siting) (num den len o : ℕ) → Beside (spotOf siting num den len o)
+spot-beside siting num den len o =
+    by-spot Beside siting num den len o (λ _. cell-beside o) (cell-beside 0) (λ m d _ _. by-place Beside m d len (λ _. cell-beside (len - 1)) (λ _. go (m / d) (m % d) d))
   where
-    go : (q : ℕ) → Beside (record { near = q; far = q + 1; k = ((2 * o + 1) * num - den) % (2 * den); d = 2 * den })
-    go q = record { low = omega arith; high = le-refl (q + 1) }
+    go : (q k d : ℕ) → Beside (record { near = q; far = q + 1; k = k; d = d })
+    go q k d = record { low = omega arith; high = le-refl (q + 1) }
 
 -- ---- a later output takes no earlier cells
 pub record Ordered (s t : Spot) : Type 0 where
@@ -113,9 +124,12 @@ place-ordered m m' d len z h =
     go : (s t : Spot) (p q l : ℕ) → (s .near ≡ min l p) × (s .far ≡ min l (p + 1)) → (t .near ≡ min l q) × (t .far ≡ min l (q + 1)) → p ≤ q → Ordered s t
     go s t p q l e f h = omega arith
 
-pub spot-ordered : (num den len o o' : ℕ) → 0 < den → o ≤ o' → Ordered (spotOf num den len o) (spotOf num den len o')
-unfolding spotOf
-spot-ordered num den len o o' z h = go (eqb num den)
+sited-ordered : (siting : Siting) (num den len o o' : ℕ) → 0 < den → o ≤ o' → Ordered (sitedAt siting num den len o) (sitedAt siting num den len o')
+unfolding sitedAt
+sited-ordered CoSited num den len o o' z h = place-ordered (o * num) (o' * num) den len z (mul-le-mul-right num h)
+sited-ordered Centred num den len o o' z h =
+    by-pick (λ (s : Spot). Ordered s (rest o')) (ltb ((2 * o + 1) * num) den) (onCell 0) (spotAt ((2 * o + 1) * num - den) (2 * den) len) (λ _. record { near = zero-le; far = zero-le })
+    (λ t. later (nltb→le ((2 * o + 1) * num) den t))
   where
     rest : ℕ → Spot
     rest i = pickSpot (ltb ((2 * i + 1) * num) den) (onCell 0) (spotAt ((2 * i + 1) * num - den) (2 * den) len)
@@ -132,11 +146,13 @@ spot-ordered num den len o o' z h = go (eqb num den)
         (λ t. absurd (not-le-of-lt (ltb→lt ((2 * o' + 1) * num) den t) (le-trans l less)))
         (λ _. place-ordered ((2 * o + 1) * num - den) ((2 * o' + 1) * num - den) (2 * den) len (omega arith) (fewer ((2 * o + 1) * num) ((2 * o' + 1) * num) less))
 
-    go : (b : Bool) → Ordered (pickSpot b (onCell o) (rest o)) (pickSpot b (onCell o') (rest o'))
+pub spot-ordered : (siting : Siting) (num den len o o' : ℕ) → 0 < den → o ≤ o' → Ordered (spotOf siting num den len o) (spotOf siting num den len o')
+unfolding spotOf
+spot-ordered siting num den len o o' z h = go (eqb num den)
+  where
+    go : (b : Bool) → Ordered (pickSpot b (onCell o) (sitedAt siting num den len o)) (pickSpot b (onCell o') (sitedAt siting num den len o'))
     go true = record { near = h; far = h }
-    go false =
-        by-pick (λ (s : Spot). Ordered s (rest o')) (ltb ((2 * o + 1) * num) den) (onCell 0) (spotAt ((2 * o + 1) * num - den) (2 * den) len) (λ _. record { near = zero-le; far = zero-le })
-        (λ t. later (nltb→le ((2 * o + 1) * num) den t))
+    go false = sited-ordered siting num den len o o' z h
 
 -- ---- at ratio r the output's own cell is q = o / r, and its two cells are q - 1 and q, or q and q + 1, the last cell standing for those past it
 pub record Around (s : Spot) (q : ℕ) : Type 0 where
@@ -144,9 +160,21 @@ pub record Around (s : Spot) (q : ℕ) : Type 0 where
   pub high : q ≤ s .near + 1
   pub far : q ≤ s .far
 
-pub spot-around : (r len o : ℕ) → 0 < r → o / r < len → Around (spotOf 1 r len o) (o / r)
+-- the cases of a centred output, with what is known in each
+pub by-centred : (P : Spot → Type 0) (num den len o : ℕ) → (num ≡ den → P (onCell o)) → ((2 * o + 1) * num < den → P (onCell 0)) → (den ≤ (2 * o + 1) * num → P (spotAt ((2 * o + 1) * num - den) (2 * den) len)) → P (spotOf Centred num den len o)
+unfolding sitedAt
+by-centred P num den len o f g h =
+    by-own P Centred num den len o f
+    (by-pick P (ltb ((2 * o + 1) * num) den) (onCell 0) (spotAt ((2 * o + 1) * num - den) (2 * den) len) (λ t. g (ltb→lt ((2 * o + 1) * num) den t)) (λ t. h (nltb→le ((2 * o + 1) * num) den t)))
+
+-- and of a co-sited one
+pub by-co-sited : (P : Spot → Type 0) (num den len o : ℕ) → (num ≡ den → P (onCell o)) → P (spotAt (o * num) den len) → P (spotOf CoSited num den len o)
+unfolding sitedAt
+by-co-sited P num den len o f g = by-own P CoSited num den len o f g
+
+pub spot-around : (r len o : ℕ) → 0 < r → o / r < len → Around (spotOf Centred 1 r len o) (o / r)
 spot-around r len o z h =
-    by-spot (λ (s : Spot). Around s (o / r)) 1 r len o
+    by-centred (λ (s : Spot). Around s (o / r)) 1 r len o
     (λ e. on o (subst (λ (x : ℕ). o / x ≡ o) e (div-one o)))
     (λ l. on 0 (le-zero (div-lt-iff-lt-mul z .1 (omega arith))))
     (λ l. go (spotAt ((2 * o + 1) * 1 - r) (2 * r) len) (((2 * o + 1) * 1 - r) / (2 * r)) (o / r) (place-cells ((2 * o + 1) * 1 - r) (2 * r) len) h (below l) (above l))
@@ -179,10 +207,10 @@ spot-around r len o z h =
     go s p q e h a b = omega arith
 
 -- ---- a tap is its spot's: what `tap_at` promises of it
-pub tap-given : (r len o : ℕ) (t : Tap) → 0 < len → o < len * r → t ≡ tapOf r len o → TapGiven r len o t
-unfolding tapOf
-tap-given r len o t p h e =
-    let i = spot-inside 1 r len o p one in
+pub tap-given : (a : Axis) (r len o : ℕ) (t : Tap) → 0 < len → o < len * r → t ≡ tapBy a r len o → TapGiven a r len o t
+unfolding tapBy
+tap-given a r len o t p h e =
+    let i = spot-inside (a .siting) 1 r len o p one in
     record { is = e; i0-inside = rw e (i .near); i1-inside = rw e (i .far) }
   where
     one : 1 ≡ r → o < len

@@ -1,10 +1,15 @@
--- 'Geometry' of document 01's chroma row: where an output sits among the cells, its tap, a pixel's phase, and lerp. Definitions only.
+-- 'Geometry' of document 01's chroma row: where an output sits among the cells, its tap, a pixel's phase, and lerp; and document 02's co-sited outputs
+-- (W2). Definitions only.
 use mathlib.Core.Bool.{Bool, true, false}
 use mathlib.Core.List.{List, [], _∷_}
 use Prim.Native.Nat.{ℕ, _+_, _-_, _*_, _/_, _%_}
 use lib.Dec.{ltb, leb, eqb}
 use lib.Ieee.{Float, binary32, add, sub, mul, div}
 use Rattle.laws.specs.Floats.{f32}
+use Rattle.laws.specs.Axes.{plain}
+use Rattle.laws.specs.declared.axes.Siting.{Siting}
+use Rattle.laws.specs.declared.axes.Siting.the-variants.{Centred, CoSited}
+use Rattle.laws.specs.declared.axes.Axis.{Axis}
 use Rattle.taps.specs.declared.positions.Tap.{Tap}
 use Rattle.taps.specs.declared.phases.Phase.{Phase}
 
@@ -35,21 +40,29 @@ onCell i = record { near = i; far = i; k = 0; d = 1 }
 unfoldable pub spotAt : ℕ → ℕ → ℕ → Spot
 spotAt m d len = pickSpot (leb (len - 1) (m / d)) (onCell (len - 1)) (record { near = m / d; far = m / d + 1; k = m % d; d = d })
 
--- output o over len cells, num cells to den outputs (ratio r is 1 to r): "Ratio 1 gives cell o";
--- else u = ((2o+1)·num − den)/(2·den), and "Below 0 it takes cell 0"
-unfoldable pub spotOf : ℕ → ℕ → ℕ → ℕ → Spot
-spotOf num den len o =
-    pickSpot (eqb num den) (onCell o)
-    (pickSpot (ltb ((2 * o + 1) * num) den) (onCell 0)
-    (spotAt ((2 * o + 1) * num - den) (2 * den) len))
+-- output o over len cells, num cells to den outputs (ratio r is 1 to r). Centred it sits at u = ((2o+1)·num − den)/(2·den), and "Below 0 it takes cell 0";
+-- "Co-sited, output o of ratio r sits at u = o/r, with the same edge rule"
+unfoldable pub sitedAt : Siting → ℕ → ℕ → ℕ → ℕ → Spot
+sitedAt Centred num den len o =
+    pickSpot (ltb ((2 * o + 1) * num) den) (onCell 0)
+    (spotAt ((2 * o + 1) * num - den) (2 * den) len)
+sitedAt CoSited num den len o = spotAt (o * num) den len
+
+-- "Ratio 1 gives cell o", by either siting
+unfoldable pub spotOf : Siting → ℕ → ℕ → ℕ → ℕ → Spot
+spotOf siting num den len o = pickSpot (eqb num den) (onCell o) (sitedAt siting num den len o)
 
 -- "A tap is two indices and a fraction"
 abbrev pub tapOn : Spot → Tap
 tapOn s = record { i0 = s .near; i1 = s .far; f = fractionOf (s .k) (s .d) }
 
--- the tap of output o over len cells at ratio r
-unfoldable pub tapOf : ℕ → ℕ → ℕ → Tap
-tapOf r len o = tapOn (spotOf 1 r len o)
+-- the tap of output o over len cells at ratio r, by the axis
+unfoldable pub tapBy : Axis → ℕ → ℕ → ℕ → Tap
+tapBy a r len o = tapOn (spotOf (a .siting) 1 r len o)
+
+-- centred, as document 01 has it
+abbrev pub tapOf : ℕ → ℕ → ℕ → Tap
+tapOf r len o = tapBy plain r len o
 
 abbrev pub pickPhase : Bool → Phase → Phase → Phase
 pickPhase true a b = a

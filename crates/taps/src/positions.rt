@@ -1,8 +1,10 @@
 // Where an output sits among the chroma cells, and how far between two of them.
 ghost use mathlib.Core.Path.{_≡_};
 ghost use Prim.Native.Nat.{_*_, _≤_, _<_};
-ghost use Rattle.taps.specs.Taps.{lerpOf, fractionOf, onCell, spotAt, tapOn};
+ghost use Rattle.taps.specs.Taps.{lerpOf, fractionOf, onCell, spotAt, sitedAt, tapOn};
 ghost use Rattle.taps.specs.Inner.Taps.{TapGiven};
+use laws::Axis;
+use laws::Siting;
 
 // Two cells, and how far an output lies on the way from i0 to i1.
 pub struct Tap {
@@ -53,19 +55,34 @@ fn spot_at(m: usize, d: usize, len: usize) -> Tap
     }
 }
 
-// Inner: the tap of output o over len cells at ratio r.
+// The tap of output o over len cells at ratio r, where a cell has more than one output.
 //
-// It lies at (2o + 1 - r) / 2r cells. That is below 0 in the first half of the first cell, so the sign is looked at before the difference.
-pub fn tap_at(r: usize, len: usize, o: usize) -> Tap
+// Centred it lies at (2o + 1 - r) / 2r cells. That is below 0 in the first half of the first cell, so the sign is looked at before the
+// difference. Co-sited it lies at o / r, never below 0.
+fn sited_at(siting: Siting, r: usize, len: usize, o: usize) -> Tap
+    requires { ⌜ (0 < r) × (r ≤ 4) × (0 < len) × (o ≤ 8192) ⌝ }
+    ensures { λ t. ⌜ t ≡ tapOn (sitedAt siting 1 r len o) ⌝ }
+{
+    match siting {
+        Siting::Centred => {
+            let n = 2 * o + 1;
+            if n < r {
+                return on_cell(0);
+            }
+            spot_at(n - r, 2 * r, len)
+        }
+        Siting::CoSited => spot_at(o, r, len),
+    }
+}
+
+// Inner: the tap of output o over len cells at ratio r, by the axis's siting.
+pub fn tap_at(axis: Axis, r: usize, len: usize, o: usize) -> Tap
     requires { ⌜ (0 < r) × (r ≤ 4) × (0 < len) × (o ≤ 8192) × (o < len * r) ⌝ }
-    ensures { λ t. ⌜ TapGiven r len o t ⌝ }
+    ensures { λ t. ⌜ TapGiven axis r len o t ⌝ }
 {
     if r == 1 {
         return on_cell(o);
     }
-    let n = 2 * o + 1;
-    if n < r {
-        return on_cell(0);
-    }
-    spot_at(n - r, 2 * r, len)
+    let siting = axis.siting;
+    sited_at(siting, r, len, o)
 }

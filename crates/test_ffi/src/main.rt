@@ -57,6 +57,8 @@ fn layout(text: &[u8]) -> ChromaLayout {
         ch: l.ch,
         sample_bytes: l.sample_bytes,
         maxval: l.maxval,
+        siting_across: test_support::siting(text, 2),
+        siting_down: test_support::siting(text, 3),
     }
 }
 
@@ -202,7 +204,7 @@ fn row(text: &[u8], given: ChromaReader, y: &[u8], cb: &[u8], cr: &[u8], s: &mut
 // The answer to the call of a whole plane that a line's kind names.
 fn plane_answer(text: &[u8], y: &[u8], cb: &[u8], s: &mut [f32], out: &mut [u16]) -> u32 {
     let strides = strides(text);
-    match test_support::byte(text, 0) {
+    match test_support::kind(text) {
         b'l' => ffi::chroma_linear_plane(layout(text), cb, strides.cb, s, out),
         b'g' => ffi::chroma_guided_plane(layout(text), y, strides.y, cb, strides.cb, s, out),
         _ => ffi::chroma_triangular_plane(layout(text), cb, strides.cb, out),
@@ -260,7 +262,7 @@ fn picture(input: &[u8], s: &mut [f32], out: &mut [u8]) -> Left {
 
 // The call of a picture or of a fill, as a line's kind says.
 fn bytes_into(text: &[u8], y: &[u8], cb: &[u8], cr: &[u8], s: &mut [f32], out: &mut [u8]) -> Left {
-    if test_support::byte(text, 0) == b'p' {
+    if test_support::kind(text) == b'p' {
         return picture(y, s, out);
     }
     fill(text, y, cb, cr, s, out)
@@ -286,7 +288,7 @@ fn pixel(text: &[u8]) -> Left {
     let y = number(text, 0);
     let cb = number(text, 2);
     let cr = number(text, 4);
-    if test_support::byte(text, 0) == b'e' {
+    if test_support::kind(text) == b'e' {
         return coloured(ffi::chroma_exact_pixel(y, cb, cr, number(text, 6)));
     }
     coloured(ffi::chroma_fixed_pixel(y, cb, cr))
@@ -294,7 +296,7 @@ fn pixel(text: &[u8]) -> Left {
 
 // The call, of those without a state, that a line's kind names.
 fn stateless(text: &[u8], y: &[u8], cb: &[u8], cr: &[u8], s: &mut [f32]) -> Left {
-    match test_support::byte(text, 0) {
+    match test_support::kind(text) {
         b'f' | b'p' => bytes(text, y, cb, cr, s),
         b'e' | b'x' => pixel(text),
         _ => plane(text, y, cb, s),
@@ -303,7 +305,7 @@ fn stateless(text: &[u8], y: &[u8], cb: &[u8], cr: &[u8], s: &mut [f32]) -> Left
 
 // The call that a line's kind names, lent three planes and scratch.
 fn lent(text: &[u8], given: ChromaReader, y: &[u8], cb: &[u8], cr: &[u8], s: &mut [f32]) -> Done {
-    match test_support::byte(text, 0) {
+    match test_support::kind(text) {
         b'o' => open(text, given, y, cb, cr, s),
         b's' => seek(text, given),
         b'r' => row(text, given, y, cb, cr, s),

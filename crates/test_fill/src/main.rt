@@ -3,7 +3,7 @@
 // digits. A fill's:
 // w h rh rv cw ch sample_bytes maxval(2) y_stride cb_stride cr_stride y_len cb_len cr_len seed y_shape cb_shape cr_shape
 // kernel size space(2) room. A pixel's: y(2) cb(2) cr(2) maxval(2), sixteen of 0. A line that is no call spells the bytes that planes of
-// shape 3 have in the calls behind it.
+// shape 3 have in the calls behind it. Where a fill's kind is a capital, the words rh and rv have the axis' siting as their first digit.
 ghost use Prim.Native.Nat.{_<_};
 use fill::ChromaUpsampling;
 use kernels::Pixel;
@@ -60,7 +60,7 @@ fn fixed(text: &[u8]) {
 
 // How a fill's chroma is reconstructed, which its line's kind says: `l` is linear, `g` guided.
 fn upsampling(text: &[u8]) -> ChromaUpsampling {
-    if test_support::byte(text, 0) == b'l' {
+    if test_support::kind(text) == b'l' {
         return ChromaUpsampling::Linear;
     }
     ChromaUpsampling::LumaGuided
@@ -118,7 +118,7 @@ fn fill(text: &[u8], spelling: &[u8]) {
 
 // Makes the call that a line's kind names.
 fn replay(text: &[u8; 122], spelling: &[u8; 122]) {
-    match test_support::byte(text, 0) {
+    match test_support::kind(text) {
         b'e' => exact(text),
         b'f' => fixed(text),
         _ => fill(text, spelling),

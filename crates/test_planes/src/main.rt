@@ -2,7 +2,8 @@
 // what it left. oracle/plane-cases made the list and what must be written for it: a line of 77 bytes for each call, a kind and 15 words of
 // four hex digits:
 // w h rh rv cw ch sample_bytes maxval(2) stride plane_len space(2) room seed.
-// The plane of a line is chroma; in a guided call of kind `y` it is luma.
+// The plane of a line is chroma; in a guided call of kind `y` it is luma. Where the kind is a capital, the words rh and rv have the axis'
+// siting as their first digit.
 use laws::Answer;
 use libc::STDIN_FILENO;
 
@@ -31,7 +32,7 @@ fn guided(text: &[u8], plane: &[u8], s: &mut [f32], out: &mut [u16]) -> Answer {
     let layout = test_support::layout(text);
     let stride = test_support::size(text, 9);
     let apart = other_stride(layout.w);
-    if test_support::byte(text, 0) == b'y' {
+    if test_support::kind(text) == b'y' {
         return reconstruction::guided_plane(layout, plane, stride, &other[..20_000], apart, s, out);
     }
     reconstruction::guided_plane(layout, &other[..20_000], apart, plane, stride, s, out)
@@ -39,7 +40,7 @@ fn guided(text: &[u8], plane: &[u8], s: &mut [f32], out: &mut [u16]) -> Answer {
 
 // The answer to the call that a line's kind names.
 fn called(text: &[u8], plane: &[u8], s: &mut [f32], out: &mut [u16]) -> Answer {
-    match test_support::byte(text, 0) {
+    match test_support::kind(text) {
         b't' => reconstruction::triangular_plane(
             test_support::layout(text),
             plane,

@@ -170,7 +170,7 @@ fn seek(text: &[u8], given: Reader) -> Done {
 
 // The call that a line's kind names, lent three planes and scratch.
 fn lent(text: &[u8], given: Reader, y: &[u8], cb: &[u8], cr: &[u8], s: &mut [f32]) -> Done {
-    match test_support::byte(text, 0) {
+    match test_support::kind(text) {
         b'o' => open(text, given, y, cb, cr, s),
         b's' => seek(text, given),
         _ => row(text, given, y, cb, cr, s),

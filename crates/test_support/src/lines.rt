@@ -1,19 +1,71 @@
 // What the words of a line say together: the layout and the strides that its call is handed, and how much of scratch it may touch.
+ghost use Prim.Native.Nat.{_<_};
+use crate::words::byte;
 use crate::words::long;
 use crate::words::size;
 use crate::words::word;
 use image::Layout;
 use image::Strides;
+use laws::Axis;
+use laws::Siting;
+
+// Whether a line's kind is a capital, which says that the words of its ratios hold more than these.
+fn capital(text: &[u8]) -> bool {
+    let kind = byte(text, 0);
+    laws::both(b'A' <= kind, kind <= b'Z')
+}
+
+// Inner: a line's kind, as a small letter.
+pub fn kind(text: &[u8]) -> u8 {
+    let kind = byte(text, 0);
+    if capital(text) { kind | 32 } else { kind }
+}
+
+// The ratio in word k of a line.
+fn ratio(text: &[u8], k: usize) -> usize
+    requires { ⌜ k < 999 ⌝ }
+{
+    if capital(text) {
+        word(text, k) % 4_096
+    } else {
+        size(text, k)
+    }
+}
+
+// Inner: the siting in word k of a line, as C has it: the first digit where the kind is a capital, and else 0.
+pub fn siting(text: &[u8], k: usize) -> u32
+    requires { ⌜ k < 999 ⌝ }
+{
+    if capital(text) {
+        (word(text, k) / 4_096) as u32
+    } else {
+        0
+    }
+}
+
+// The axis whose siting is in word k of a line.
+fn axis(text: &[u8], k: usize) -> Axis
+    requires { ⌜ k < 999 ⌝ }
+{
+    if siting(text, k) == 1 {
+        return Axis {
+            siting: Siting::CoSited,
+        };
+    }
+    Axis::PLAIN
+}
 
 // Inner: the layout that a line begins with. It takes nine words, the maxval two of them.
 pub fn layout(text: &[u8]) -> Layout {
     Layout {
         w: size(text, 0),
         h: size(text, 1),
-        rh: size(text, 2),
-        rv: size(text, 3),
+        rh: ratio(text, 2),
+        rv: ratio(text, 3),
         cw: size(text, 4),
         ch: size(text, 5),
+        across: axis(text, 2),
+        down: axis(text, 3),
         sample_bytes: size(text, 6),
         maxval: long(text, 7) as u32,
     }

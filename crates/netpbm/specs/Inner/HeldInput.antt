@@ -2,6 +2,7 @@
 use mathlib.Core.Bool.{Bool}
 use mathlib.Core.List.{[], _∷_}
 use Rattle.laws.specs.declared.answers.Answer.{Answer}
+use Rattle.laws.specs.Axes.{plain}
 use Rattle.laws.specs.Inner.Refusals.{folded}
 use Rattle.image.specs.declared.layout.Layout.{Layout}
 use Rattle.image.specs.Tests.{badSize}
@@ -17,6 +18,8 @@ layoutHeld y cb cr = record {
   rv = ratioFor (y .h) (cb .h) (cr .h);
   cw = cb .w;
   ch = cb .h;
+  across = plain;
+  down = plain;
   «sample_bytes» = 1;
   maxval = 255;
 }

@@ -18,8 +18,8 @@ size-requires c κs = search needs
 other-stride-requires : tie.Need-other-stride-requires
 other-stride-requires c κs = search needs
 
-byte-requires : tie.Need-byte-requires
-byte-requires c κs = search needs
+kind-requires : tie.Need-kind-requires
+kind-requires c κs = search needs
 
 array-share-prefix-other : tie.Need-array-share-prefix-other
 array-share-prefix-other c = search needs
@@ -65,7 +65,7 @@ guided-spec =
     layout-requires
     size-requires
     other-stride-requires
-    byte-requires
+    kind-requires
     array-share-prefix-other
     slice-aggregate-guided-plane
     guided-plane-requires

@@ -1,19 +1,17 @@
--- Two cases by `noSuchWay`: a switch that stands for none is answered with nothing changed; else the promise is that of `fill`, once each
+-- Two cases by `noSuchWay`: a switch or siting that stands for none is answered with nothing changed; else the promise is that of `fill`, once each
 -- translated argument is replaced by what C's stands for.
 use mathlib.Core.Bool.{true≢false}
 use mathlib.Core.Path.{refl, sym, _∙_}
 use borrow.Author.Needs.{needs}
 use Rattle.ffi.proofs.filling.chroma_fill.Statement.{statement}
-use Rattle.ffi.specs.Calls.{noSuchWay}
 use Rattle.ffi.proofs.filling.chroma_fill.Tie as tie
 
-either-requires : tie.Need-either-requires
-either-requires c κs = search needs
+no-such-way-requires : tie.Need-no-such-way-requires
+no-such-way-requires c κs = search needs
 
 returns : tie.Need-returns
-unfolding noSuchWay
 returns c =
-    let e = sym (c .before .either .ensures) ∙ c .if1 .taken in
+    let e = sym (c .before .no-such-way .ensures) ∙ c .if1 .taken in
     record { strange = λ _. (refl, (refl, refl)); plain = λ f. absurd (true≢false (sym e ∙ f)) }
 
 to-layout-requires : tie.Need-to-layout-requires
@@ -41,12 +39,11 @@ same-length-2 : tie.Need-same-length-2
 same-length-2 c = search needs
 
 returns-2 : tie.Need-returns-2
-unfolding noSuchWay
 returns-2 c =
     let k = c .before .before .before .before .before in
     let t = k .before .before .before in
     let l = t .before .before .before in
-    let e = sym (l .before .before .either .ensures) ∙ l .before .if1 .left in
+    let e = sym (l .before .before .no-such-way .ensures) ∙ l .before .if1 .left in
     record {
       strange = λ f. absurd (true≢false (sym f ∙ e));
       plain = λ _. record { answer = k .fill .result; given = rw (sym (l .to-layout .ensures), sym (t .before .before .to-strides .ensures), sym (t .before .to-upsampling .ensures), sym (t .to-kernel .ensures)) (k .fill .ensures); number = c .number-of .ensures };
@@ -56,7 +53,7 @@ pub chroma-fill-spec : {M : Type 1} → statement M
 chroma-fill-spec =
     tie.close
     (tie.spec
-    either-requires
+    no-such-way-requires
     returns
     to-layout-requires
     to-strides-requires

@@ -1,7 +1,16 @@
-use mathlib.Core.Path.{sym}
+use mathlib.Core.Bool.{true≢false}
+use mathlib.Core.Path.{refl, sym, _∙_}
 use borrow.Author.Needs.{needs}
 use Rattle.ffi.proofs.reading.chroma_open.Statement.{statement}
 use Rattle.ffi.proofs.reading.chroma_open.Tie as tie
+
+strange-layout-requires : tie.Need-strange-layout-requires
+strange-layout-requires c κs = search needs
+
+returns : tie.Need-returns
+returns c =
+    let e = sym (c .before .strange-layout .ensures) ∙ c .if1 .taken in
+    record { strange = λ _. (refl, tt); plain = λ f. absurd (true≢false (sym e ∙ f)) }
 
 to-layout-requires : tie.Need-to-layout-requires
 to-layout-requires c κs = search needs
@@ -18,10 +27,25 @@ open-requires c κs = search needs
 reply-to-requires : tie.Need-reply-to-requires
 reply-to-requires c κs = search needs
 
-returns : tie.Need-returns
-returns c = record { reply = c .before .«open» .result; given = rw (sym (c .before .before .before .before .to-layout .ensures), sym (c .before .before .before .to-strides .ensures), sym (c .before .before .to-reader .ensures)) (c .before .«open» .ensures); is = c .reply-to .ensures }
+returns-2 : tie.Need-returns-2
+returns-2 c =
+    let k = c .before in
+    let l = k .before .before .before in
+    let e = sym (l .before .before .strange-layout .ensures) ∙ l .before .if1 .left in
+    record {
+      strange = λ f. absurd (true≢false (sym f ∙ e));
+      plain = λ _. record { reply = k .«open» .result; given = rw (sym (l .to-layout .ensures), sym (k .before .before .to-strides .ensures), sym (k .before .to-reader .ensures)) (k .«open» .ensures); is = c .reply-to .ensures };
+    }
 
 pub chroma-open-spec : {M : Type 1} → statement M
 chroma-open-spec =
     tie.close
-    (tie.spec to-layout-requires to-strides-requires to-reader-requires open-requires reply-to-requires returns)
+    (tie.spec
+    strange-layout-requires
+    returns
+    to-layout-requires
+    to-strides-requires
+    to-reader-requires
+    open-requires
+    reply-to-requires
+    returns-2)

@@ -11,29 +11,35 @@ is-fixed-requires c κs = search needs
 answer-requires : tie.Need-answer-requires
 answer-requires c κs = search needs
 
-bad-planes-requires : tie.Need-bad-planes-requires
-bad-planes-requires c κs = search needs
+bad-guided-requires : tie.Need-bad-guided-requires
+bad-guided-requires c κs = search needs
 
 then-requires : tie.Need-then-requires
 then-requires c κs = search needs
 
-outside-requires : tie.Need-outside-requires
-outside-requires c κs = search needs
+bad-planes-requires : tie.Need-bad-planes-requires
+bad-planes-requires c κs = search needs
 
 then-requires-2 : tie.Need-then-requires-2
 then-requires-2 c κs = search needs
 
-short-scratch-requires : tie.Need-short-scratch-requires
-short-scratch-requires c κs = search needs
+outside-requires : tie.Need-outside-requires
+outside-requires c κs = search needs
 
 then-requires-3 : tie.Need-then-requires-3
 then-requires-3 c κs = search needs
 
-volume-passes-requires : tie.Need-volume-passes-requires
-volume-passes-requires c κs = search needs
+short-scratch-requires : tie.Need-short-scratch-requires
+short-scratch-requires c κs = search needs
 
 then-requires-4 : tie.Need-then-requires-4
 then-requires-4 c κs = search needs
+
+volume-passes-requires : tie.Need-volume-passes-requires
+volume-passes-requires c κs = search needs
+
+then-requires-5 : tie.Need-then-requires-5
+then-requires-5 c κs = search needs
 
 returns : tie.Need-returns
 unfolding fillTests
@@ -41,8 +47,9 @@ returns c =
     let s = c .before .before in
     let z = s .before .before in
     let p = z .before .before in
-    let a = p .before .before in
-    rw (first-further, c .then4 .ensures, c .before .volume-passes .ensures, s .then3 .ensures, s .before .short-scratch .ensures, z .then2 .ensures, z .before .outside .ensures, p .then .ensures, p .before .bad-planes .ensures, a .answer .ensures, a .before .is-fixed .ensures) refl
+    let g = p .before .before in
+    let a = g .before .before in
+    rw (first-further, c .then5 .ensures, c .before .volume-passes .ensures, s .then4 .ensures, s .before .short-scratch .ensures, z .then3 .ensures, z .before .outside .ensures, p .then2 .ensures, p .before .bad-planes .ensures, g .then .ensures, g .before .bad-guided .ensures, a .answer .ensures, a .before .is-fixed .ensures) refl
 
 pub fill-answer-spec : {M : Type 1} → statement M
 fill-answer-spec =
@@ -50,12 +57,14 @@ fill-answer-spec =
     (tie.spec
     is-fixed-requires
     answer-requires
-    bad-planes-requires
+    bad-guided-requires
     then-requires
-    outside-requires
+    bad-planes-requires
     then-requires-2
-    short-scratch-requires
+    outside-requires
     then-requires-3
-    volume-passes-requires
+    short-scratch-requires
     then-requires-4
+    volume-passes-requires
+    then-requires-5
     returns)

@@ -7,23 +7,29 @@ use Rattle.guided_plane.proofs.plane.plane_answer.Tie as tie
 answer-requires : tie.Need-answer-requires
 answer-requires c κs = search needs
 
-bad-pair-requires : tie.Need-bad-pair-requires
-bad-pair-requires c κs = search needs
+bad-siting-requires : tie.Need-bad-siting-requires
+bad-siting-requires c κs = search needs
 
 then-requires : tie.Need-then-requires
 then-requires c κs = search needs
 
-short-scratch-requires : tie.Need-short-scratch-requires
-short-scratch-requires c κs = search needs
+bad-pair-requires : tie.Need-bad-pair-requires
+bad-pair-requires c κs = search needs
 
 then-requires-2 : tie.Need-then-requires-2
 then-requires-2 c κs = search needs
 
-product-passes-requires : tie.Need-product-passes-requires
-product-passes-requires c κs = search needs
+short-scratch-requires : tie.Need-short-scratch-requires
+short-scratch-requires c κs = search needs
 
 then-requires-3 : tie.Need-then-requires-3
 then-requires-3 c κs = search needs
+
+product-passes-requires : tie.Need-product-passes-requires
+product-passes-requires c κs = search needs
+
+then-requires-4 : tie.Need-then-requires-4
+then-requires-4 c κs = search needs
 
 returns : tie.Need-returns
 unfolding guidedTests
@@ -34,10 +40,12 @@ plane-answer-spec =
     tie.close
     (tie.spec
     answer-requires
-    bad-pair-requires
+    bad-siting-requires
     then-requires
-    short-scratch-requires
+    bad-pair-requires
     then-requires-2
-    product-passes-requires
+    short-scratch-requires
     then-requires-3
+    product-passes-requires
+    then-requires-4
     returns)

@@ -4,7 +4,7 @@ use borrow.Author.Needs.{needs}
 use mathlib.Core.Path.{refl, _∙_}
 use Prim.Native.Nat.{_+_, _-_, _≤_}
 use lib.Ieee.{nan}
-use Rattle.taps.specs.Taps.{tapOf}
+use Rattle.taps.specs.Taps.{tapBy}
 use Rattle.linear.specs.Linear.{acrossBy}
 use Rattle.linear.specs.Inner.AcrossRows.{acrossRun}
 use Rattle.image.specs.Scratch.{cellAt}
@@ -14,10 +14,10 @@ use Rattle.linear.proofs.across.across_taps.Statement.{statement}
 use Rattle.linear.proofs.across.across_taps.Tie as tie
 
 abbrev Inv-loop : tie.InvT-loop
-Inv-loop s₀ src cw r dst from n i₀ s i = (i ≤ n) × Run s₀ s (dst + from) i (λ k. acrossBy (tapOf r cw (from + k)) (cellAt s₀ src))
+Inv-loop axis s₀ src cw r dst from n i₀ s i = (i ≤ n) × Run s₀ s (dst + from) i (λ k. acrossBy (tapBy axis r cw (from + k)) (cellAt s₀ src))
 
 abbrev μ-loop : tie.MeasureT-loop
-μ-loop s₀ src cw r dst from n i₀ s i = n - i
+μ-loop axis s₀ src cw r dst from n i₀ s i = n - i
 
 loop-holds : tie.Need-loop-holds Inv-loop μ-loop
 loop-holds c = (omega arith, run-none _ _ _)

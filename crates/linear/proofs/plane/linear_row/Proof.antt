@@ -57,7 +57,7 @@ returns c =
     let p : Plane = record { bytes = a .plane .now; stride = a .stride } in
     let t = c .before .before .before .before .before .before .before .before .before .before .before .tap-at in
     c .before .before .across-row .ensures
-    ∙ ap (acrossRun (linearCellsAt l) (l .cw) (l .rh) (a .dst) 0 (l .w)) (c .before .before .before .before .before .before .down-row .ensures ∙ down-is l p (a .y) (t .result) (a .s .now) (t .ensures .is))
+    ∙ ap (acrossRun (l .across) (linearCellsAt l) (l .cw) (l .rh) (a .dst) 0 (l .w)) (c .before .before .before .before .before .before .down-row .ensures ∙ down-is l p (a .y) (t .result) (a .s .now) (t .ensures .is))
     ∙ row-is l p (a .dst) (a .y) (a .s .now) (s .pre .0 .sound) (room s)
 
 pub linear-row-spec : {M : Type 1} → statement M

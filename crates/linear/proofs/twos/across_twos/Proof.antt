@@ -6,16 +6,16 @@ use native.Mathlib.Omega.{arith}
 use borrow.Author.Needs.{needs}
 use lib.Ieee.{nan}
 use Rattle.laws.proofs.Lists.{put-same, Run, run-none, run-at, run-end, run-after, run-over}
-use Rattle.linear.specs.Inner.AcrossRows.{betweenAt, betweenRun}
+use Rattle.linear.specs.Inner.AcrossRows.{partsIn, betweenAt, betweenRun}
 use Rattle.linear.proofs.AcrossRuns.{between-same}
 use Rattle.linear.proofs.twos.across_twos.Statement.{statement}
 use Rattle.linear.proofs.twos.across_twos.Tie as tie
 
 abbrev Inv-loop : tie.InvT-loop
-Inv-loop s₀ src n dst done₀ s done = (done ≤ n) × Run s₀ s dst (2 * done) (betweenAt 2 s₀ src)
+Inv-loop s₀ src parts n dst done₀ s done = (done ≤ n) × Run s₀ s dst (2 * done) (betweenAt (partsIn parts) 2 s₀ src)
 
 abbrev μ-loop : tie.MeasureT-loop
-μ-loop s₀ src n dst done₀ s done = n - done
+μ-loop s₀ src parts n dst done₀ s done = n - done
 
 -- the block starts where outputs are stored already, and ends with the last pair at the latest
 place : (c : tie.After-least Inv-loop μ-loop) → (let i = c .least .result in let l = c .before .before in (i ≤ l .loop .done) × (l .loop .done < i + 8) × (i + 8 ≤ l .before .before .args .n))
@@ -55,7 +55,7 @@ loop-again c =
     let a = l .before .before .args in
     let i = c .before .before .before .before .before .before .least .result in
     let r = l .loop .inv .1 in
-    let z = run-over r _ (2 * i) 16 nan (c .before .before .put-block .ensures ∙ put-same _ _ 16 _ _ (λ k q. c .before .before .before .before .twos-block .ensures k q ∙ between-same 2 (l .loop .s) (a .s .now) (a .src) (2 * i + k) (λ m. run-after r (a .src + m) nan (omega arith)))) (omega arith) (omega arith) (omega arith) in
+    let z = run-over r _ (2 * i) 16 nan (c .before .before .put-block .ensures ∙ put-same _ _ 16 _ _ (λ k q. c .before .before .before .before .twos-block .ensures k q ∙ between-same (partsIn (a .parts)) 2 (l .loop .s) (a .s .now) (a .src) (2 * i + k) (λ m. run-after r (a .src + m) nan (omega arith)))) (omega arith) (omega arith) (omega arith) in
     (h .2, run-at z (2 * (i + 8)) (omega arith))
 
 same-length : tie.Need-same-length Inv-loop μ-loop

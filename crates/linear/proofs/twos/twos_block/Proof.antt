@@ -1,29 +1,22 @@
 -- The block is filled from the front, two values a turn (`front-more`), each by `between-is`: outputs 0 and 1 of pair i + k are outputs
 -- 2i + 2k and 2i + 2k + 1. The slice isn't written, so that the cells are the call's without a law.
-use mathlib.Core.Path.{refl, ap, _∙_}
+use mathlib.Core.Path.{refl}
 use Prim.Native.Nat.{_+_, _-_, _*_, _≤_}
 use native.Mathlib.Omega.{arith}
 use lib.ListN.{getD}
 use borrow.Author.Needs.{needs}
 use lib.Ieee.{nan}
 use Rattle.laws.proofs.Lists.{Run, run-none, run-at, front-more, front-at}
-use Rattle.taps.specs.Taps.{lerpOf}
-use Rattle.linear.specs.Inner.AcrossRows.{betweenAt}
+use Rattle.linear.specs.Inner.AcrossRows.{partsIn, betweenAt}
 use Rattle.linear.proofs.AcrossRuns.{between-is}
 use Rattle.linear.proofs.twos.twos_block.Statement.{statement}
 use Rattle.linear.proofs.twos.twos_block.Tie as tie
 
 abbrev Inv-loop : tie.InvT-loop
-Inv-loop s src i f0 f1 v₀ k₀ v k = (k ≤ 8) × Run v₀ v 0 (2 * k) (λ m. betweenAt 2 s src (2 * i + m))
+Inv-loop s src i parts v₀ k₀ v k = (k ≤ 8) × Run v₀ v 0 (2 * k) (λ m. betweenAt (partsIn parts) 2 s src (2 * i + m))
 
 abbrev μ-loop : tie.MeasureT-loop
-μ-loop s src i f0 f1 v₀ k₀ v k = 8 - k
-
-fraction-requires : tie.Need-fraction-requires Inv-loop μ-loop
-fraction-requires c κs = search needs
-
-fraction-requires-2 : tie.Need-fraction-requires-2 Inv-loop μ-loop
-fraction-requires-2 c κs = search needs
+μ-loop s src i parts v₀ k₀ v k = 8 - k
 
 loop-holds : tie.Need-loop-holds Inv-loop μ-loop
 loop-holds c = (omega arith, run-none _ _ _)
@@ -55,6 +48,9 @@ mul-b c = omega arith
 shared-slice-read-b : tie.Need-shared-slice-read-b Inv-loop μ-loop
 shared-slice-read-b c = omega arith
 
+array-read-lerp : tie.Need-array-read-lerp Inv-loop μ-loop
+array-read-lerp c = omega arith
+
 lerp-requires : tie.Need-lerp-requires Inv-loop μ-loop
 lerp-requires c κs = search needs
 
@@ -66,6 +62,9 @@ mul-v-2 c = omega arith
 
 array-write-v : tie.Need-array-write-v Inv-loop μ-loop
 array-write-v c = omega arith
+
+array-read-lerp-2 : tie.Need-array-read-lerp-2 Inv-loop μ-loop
+array-read-lerp-2 c = omega arith
 
 lerp-requires-2 : tie.Need-lerp-requires-2 Inv-loop μ-loop
 lerp-requires-2 c κs = search needs
@@ -90,14 +89,15 @@ loop-less c = omega arith
 
 loop-again : tie.Need-loop-again Inv-loop μ-loop
 loop-again c =
-    let o = c .before .before .before .before .before .before .before .before .before .args in
+    let o = c .before .before .before .before .before .before .before .args in
     let xs = o .s .now in
     let l = c .before .before .before .before .before .loop in
     let p = o .i + l .k in
     let a = getD xs (o .src + p) nan in
     let b = getD xs (o .src + (p + 1)) nan in
-    let v = front-more (l .inv .1) (c .before .lerp .result) (between-is 2 xs (o .src) p 0 (2 * o .i + 2 * l .k) (omega arith) (omega arith) a b (c .before .lerp .result) refl refl (c .before .lerp .ensures ∙ ap (lerpOf a b) (c .before .before .before .before .before .before .before .fraction .ensures))) in
-    let w = front-more v (c .lerp2 .result) (between-is 2 xs (o .src) p 1 (2 * o .i + (2 * l .k + 1)) (omega arith) (omega arith) a b (c .lerp2 .result) refl refl (c .lerp2 .ensures ∙ ap (lerpOf a b) (c .before .before .before .before .before .before .fraction2 .ensures))) in
+    let part = partsIn (o .t3) in
+    let v = front-more (l .inv .1) (c .before .lerp .result) (between-is part 2 xs (o .src) p 0 (2 * o .i + 2 * l .k) (omega arith) (omega arith) a b (c .before .lerp .result) refl refl (c .before .lerp .ensures)) in
+    let w = front-more v (c .lerp2 .result) (between-is part 2 xs (o .src) p 1 (2 * o .i + (2 * l .k + 1)) (omega arith) (omega arith) a b (c .lerp2 .result) refl refl (c .lerp2 .ensures)) in
     (omega arith, run-at w (2 * (l .k + 1)) (omega arith))
 
 returns : tie.Need-returns Inv-loop μ-loop
@@ -109,8 +109,6 @@ twos-block-spec =
     (tie.spec
     Inv-loop
     μ-loop
-    fraction-requires
-    fraction-requires-2
     loop-holds
     add-a
     add-a-2
@@ -121,10 +119,12 @@ twos-block-spec =
     add-b-3
     mul-b
     shared-slice-read-b
+    array-read-lerp
     lerp-requires
     mul-v
     mul-v-2
     array-write-v
+    array-read-lerp-2
     lerp-requires-2
     mul-v-3
     add-v

@@ -14,17 +14,23 @@ bad-triangular-requires c κs = search needs
 then-requires : tie.Need-then-requires
 then-requires c κs = search needs
 
-bad-plane-requires : tie.Need-bad-plane-requires
-bad-plane-requires c κs = search needs
+bad-siting-requires : tie.Need-bad-siting-requires
+bad-siting-requires c κs = search needs
 
 then-requires-2 : tie.Need-then-requires-2
 then-requires-2 c κs = search needs
 
-product-passes-requires : tie.Need-product-passes-requires
-product-passes-requires c κs = search needs
+bad-plane-requires : tie.Need-bad-plane-requires
+bad-plane-requires c κs = search needs
 
 then-requires-3 : tie.Need-then-requires-3
 then-requires-3 c κs = search needs
+
+product-passes-requires : tie.Need-product-passes-requires
+product-passes-requires c κs = search needs
+
+then-requires-4 : tie.Need-then-requires-4
+then-requires-4 c κs = search needs
 
 returns : tie.Need-returns
 unfolding shortPlane triangularTests
@@ -37,8 +43,10 @@ triangular-answer-spec =
     answer-requires
     bad-triangular-requires
     then-requires
-    bad-plane-requires
+    bad-siting-requires
     then-requires-2
-    product-passes-requires
+    bad-plane-requires
     then-requires-3
+    product-passes-requires
+    then-requires-4
     returns)

@@ -1,0 +1,15 @@
+use mathlib.Core.Path.{refl}
+use borrow.Author.Needs.{needs}
+use Rattle.ffi.proofs.types.strange_layout.Statement.{statement}
+use Rattle.ffi.specs.Types.{strangeLayout}
+use Rattle.ffi.proofs.types.strange_layout.Tie as tie
+
+either-requires : tie.Need-either-requires
+either-requires c κs = search needs
+
+returns : tie.Need-returns
+unfolding strangeLayout
+returns c = rw (c .either .ensures) refl
+
+pub strange-layout-spec : {M : Type 1} → statement M
+strange-layout-spec = tie.close (tie.spec either-requires returns)

@@ -1,0 +1,19 @@
+// How one axis of a picture is sampled, across or down: beside its ratio, where a chroma sample sits among the outputs of its cell.
+
+// In the middle of them, or over the first, where ITU-R BT.601 puts it across.
+pub enum Siting {
+    Centred,
+    CoSited,
+}
+
+// A struct, since a layout hands on an axis whole and a later change can say more of it without touching those who make a layout.
+pub struct Axis {
+    pub siting: Siting,
+}
+
+impl Axis {
+    // Centred, as every axis is for the guided and the triangular calls.
+    pub const PLAIN: Axis = Axis {
+        siting: Siting::Centred,
+    };
+}
