@@ -21,7 +21,7 @@ abbrev pub mix : ℕ → ℕ → ℕ → ℕ → ℕ
 mix p q k d = p * (d - k) + q * k
 
 -- p in the parts d - k and k
-split : (p k d : ℕ) → k ≤ d → p * d ≡ p * (d - k) + p * k
+pub split : (p k d : ℕ) → k ≤ d → p * d ≡ p * (d - k) + p * k
 split p k d h = ap (λ (z : ℕ). p * z) (back k d h) ∙ spread p (d - k) k
   where
     back : (k d : ℕ) → k ≤ d → d ≡ d - k + k
@@ -31,7 +31,7 @@ split p k d h = ap (λ (z : ℕ). p * z) (back k d h) ∙ spread p (d - k) k
     spread p a b = omega arith
 
 -- the exact value between two samples is no larger than both may be
-mix-le : (p q k d c : ℕ) → k ≤ d → p ≤ 65535 * c → q ≤ 65535 * c → mix p q k d ≤ 65535 * (c * d)
+pub mix-le : (p q k d c : ℕ) → k ≤ d → p ≤ 65535 * c → q ≤ 65535 * c → mix p q k d ≤ 65535 * (c * d)
 mix-le p q k d c h pl ql = go (d - k) (split c k d h) (mul-le-mul-right (d - k) pl) (mul-le-mul-right k ql)
   where
     go : (j : ℕ) → c * d ≡ c * j + c * k → p * j ≤ 65535 * c * j → q * k ≤ 65535 * c * k → p * j + q * k ≤ 65535 * (c * d)

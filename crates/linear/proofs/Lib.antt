@@ -2,6 +2,7 @@
 pub mod AcrossRuns
 pub mod Bound
 pub mod Claims
+pub mod Exact
 pub mod LinearRows
 pub mod Lowest
 pub mod Positions

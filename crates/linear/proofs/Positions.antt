@@ -83,7 +83,7 @@ spot-position Centred r len o z L O = centred-position r len o z L O
 spot-position CoSited r len o z L O = co-sited-position r len o z L O
 
 -- sixteen 256ths are a sixteenth
-sixteenth : (x : Float) (num den : ℕ) → NearFraction x num 0 den 16 → Sixteenth x num den
+pub sixteenth : (x : Float) (num den : ℕ) → NearFraction x num 0 den 16 → Sixteenth x num den
 sixteenth nan num den h = h
 sixteenth (inf s) num den h = h
 sixteenth (fin s m e) num den h = record { above = omega arith; below = omega arith }
@@ -105,14 +105,20 @@ module _ (c : ℕ → ℕ → ℕ) (v h : Spot) (p q : Position) (a : Same v p) 
       regroup : (x y s t : ℕ) → x * s * (y * t) ≡ x * y * (s * t)
       regroup x y s t = omega arith
 
-  near-sixteenth : (x : Float) → NearFraction x (spotNum c v h) 0 (spotDen v h) 16 → Sixteenth x (exactNum c p q) (exactDen p q)
-  near-sixteenth x g =
+  near-both : (x : Float) (e : ℕ) → NearFraction x (spotNum c v h) 0 (spotDen v h) e → NearFraction x (exactNum c p q) 0 (exactDen p q) e
+  near-both x e g =
       let n = a .n * b .n in
-      rw (num-is, den-is) (sixteenth x (spotNum c v h * n) (spotDen v h * n) (near-aim x (spotNum c v h * n) (0 * n) (spotDen v h * n) 16 (spotNum c v h * n) 0 (omega arith) (near-widen x (spotNum c v h) 0 (spotDen v h) 16 n g)))
+      rw (num-is, den-is) (near-aim x (spotNum c v h * n) (0 * n) (spotDen v h * n) e (spotNum c v h * n) 0 (omega arith) (near-widen x (spotNum c v h) 0 (spotDen v h) e n g))
 
--- what is within 16 / 256 of the value by two outputs' spots is within a sixteenth of the value by their positions
-pub position-sixteenth : (c : ℕ → ℕ → ℕ) (down : Siting) (rv ch y : ℕ) (across : Siting) (rh cw x : ℕ) → 0 < rv → 0 < ch → y < ch * rv → 0 < rh → 0 < cw → x < cw * rh
-    → (z : Float) → NearFraction z (spotNum c (spotOf down 1 rv ch y) (spotOf across 1 rh cw x)) 0 (spotDen (spotOf down 1 rv ch y) (spotOf across 1 rh cw x)) 16
-    → Sixteenth z (exactNum c (placedAt down rv ch y) (placedAt across rh cw x)) (exactDen (placedAt down rv ch y) (placedAt across rh cw x))
-position-sixteenth c down rv ch y across rh cw x a b Y d e X z g =
-    near-sixteenth c (spotOf down 1 rv ch y) (spotOf across 1 rh cw x) (placedAt down rv ch y) (placedAt across rh cw x) (spot-position down rv ch y a b Y) (spot-position across rh cw x d e X) z g
+-- what is within e / 256 of the value by two outputs' spots is so of the value by their positions
+pub position-near : (c : ℕ → ℕ → ℕ) (down : Siting) (rv ch y : ℕ) (across : Siting) (rh cw x : ℕ) → 0 < rv → 0 < ch → y < ch * rv → 0 < rh → 0 < cw → x < cw * rh
+    → (z : Float) (e : ℕ) → NearFraction z (spotNum c (spotOf down 1 rv ch y) (spotOf across 1 rh cw x)) 0 (spotDen (spotOf down 1 rv ch y) (spotOf across 1 rh cw x)) e
+    → NearFraction z (exactNum c (placedAt down rv ch y) (placedAt across rh cw x)) 0 (exactDen (placedAt down rv ch y) (placedAt across rh cw x)) e
+position-near c down rv ch y across rh cw x a b Y d f X z e g =
+    near-both c (spotOf down 1 rv ch y) (spotOf across 1 rh cw x) (placedAt down rv ch y) (placedAt across rh cw x) (spot-position down rv ch y a b Y) (spot-position across rh cw x d f X) z e g
+
+-- the denominator of a position is the ratio or its double
+pub placed-some : (siting : Siting) (r len o : ℕ) → 0 < r → 0 < placedAt siting r len o .q
+unfolding centredAt coSitedAt
+placed-some Centred r len o z = omega arith
+placed-some CoSited r len o z = z

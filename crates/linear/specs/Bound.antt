@@ -1,5 +1,7 @@
--- What is claimed of linear floats: "Its float lies within 1/16 of the exact bilinear value, a fraction of whole numbers, for samples up to 65,535", and that it never leaves the span of its cells. Statements only.
+-- What is claimed of linear floats: "Its float lies within 1/16 of the exact bilinear value, a fraction of whole numbers, for samples up to 65,535"; that it
+-- is that value where both ratios are 1, 2 or 4 (W5); and that it never leaves the span of its cells. Statements only.
 use mathlib.Core.Path.{_≡_}
+use mathlib.Core.Logic.{_⊎_}
 use mathlib.Core.Bool.{false}
 use Prim.Native.Nat.{ℕ, _+_, _-_, _*_, _/_, _%_, _≤_, _<_, min}
 use lib.Dec.{T}
@@ -9,8 +11,10 @@ use Rattle.laws.specs.declared.axes.Siting.{Siting}
 use Rattle.laws.specs.declared.axes.Siting.the-variants.{Centred, CoSited}
 use Rattle.laws.specs.Floats.{f32, over, under}
 use Rattle.laws.specs.Refusals.{first}
+use Rattle.laws.specs.Rounding.{halfUp}
 use Rattle.image.specs.declared.layout.Layout.{Layout}
 use Rattle.image.specs.Tests.{layoutTests}
+use Rattle.fround.specs.Rounding.{roundClamped}
 use Rattle.taps.specs.Taps.{Spot, spotOf}
 use Rattle.linear.specs.Linear.{linearSample}
 
@@ -63,6 +67,18 @@ Sixteenth nan num den = ⊥
 Sixteenth (inf s) num den = ⊥
 Sixteenth (fin s m e) num den = SixteenthApart (over s (m * up e)) (under s (m * up e)) (down e) num den
 
+-- ---- no slack
+
+-- "When both ratios are 1, 2 or 4"
+abbrev pub OneTwoFour : ℕ → Type 0
+OneTwoFour r = (r ≡ 1) ⊎ ((r ≡ 2) ⊎ (r ≡ 4))
+
+-- "the linear float equals the exact bilinear value": the float is finite, and it is num / den, multiplied out
+abbrev pub Equals : Float → ℕ → ℕ → Type 0
+Equals nan num den = ⊥
+Equals (inf s) num den = ⊥
+Equals (fin s m e) num den = over s (m * up e) * den ≡ under s (m * up e) * den + num * down e
+
 -- ---- the span
 
 abbrev pub rowSpot : Layout → ℕ → Spot
@@ -84,6 +100,12 @@ pub record LinearClaims : Type 0 where
   -- at every row and column of a layout that no linear call refuses, whatever its axes ("The 1/16 bound holds for both"), for samples up to 65,535
   pub within : (l : Layout) → first (layoutTests false l) ≡ Accepted → (c : ℕ → ℕ → ℕ) → ((j i : ℕ) → c j i ≤ 65535) → (y x : ℕ) → y < l .h → x < l .w
       → Sixteenth (linearSample l c y x) (exactNum c (rowPosition l y) (columnPosition l x)) (exactDen (rowPosition l y) (columnPosition l x))
+  -- "When both ratios are 1, 2 or 4, the linear float equals the exact bilinear value, for samples up to 65,535 and either siting"
+  pub exact : (l : Layout) → first (layoutTests false l) ≡ Accepted → OneTwoFour (l .rv) → OneTwoFour (l .rh) → (c : ℕ → ℕ → ℕ) → ((j i : ℕ) → c j i ≤ 65535) → (y x : ℕ) → y < l .h → x < l .w
+      → Equals (linearSample l c y x) (exactNum c (rowPosition l y) (columnPosition l x)) (exactDen (rowPosition l y) (columnPosition l x))
+  -- "and the rounded sample is that value with halves up, limited to maxval"
+  pub rounded : (l : Layout) → first (layoutTests false l) ≡ Accepted → OneTwoFour (l .rv) → OneTwoFour (l .rh) → (c : ℕ → ℕ → ℕ) → ((j i : ℕ) → c j i ≤ 65535) → (y x : ℕ) → y < l .h → x < l .w
+      → roundClamped (l .maxval) (linearSample l c y x) ≡ min (l .maxval) (halfUp (exactNum c (rowPosition l y) (columnPosition l x)) (exactDen (rowPosition l y) (columnPosition l x)))
   -- the float lies between any two whole numbers that its four cells lie between, ratios 1 to 4
   pub spanned : (l : Layout) (c : ℕ → ℕ → ℕ) → (0 < l .rh) × (l .rh ≤ 4) → (0 < l .rv) × (l .rv ≤ 4) → (y x lo hi : ℕ) → hi ≤ 65535
       → Spanned c (rowSpot l y) (columnSpot l x) lo hi → T (le (f32 lo) (linearSample l c y x)) × T (le (linearSample l c y x) (f32 hi))

@@ -1,4 +1,4 @@
-// Replays the stored list of whole planes on standard input, triangular, linear and guided, and writes for each its answer and the sum of
+// Replays the stored list of whole planes on standard input, triangular (t), linear (l, e) and guided (g, y), and writes for each its answer and the sum of
 // what it left. oracle/plane-cases made the list and what must be written for it: a line of 77 bytes for each call, a kind and 15 words of
 // four hex digits:
 // w h rh rv cw ch sample_bytes maxval(2) stride plane_len space(2) room seed.
@@ -47,7 +47,7 @@ fn called(text: &[u8], plane: &[u8], s: &mut [f32], out: &mut [u16]) -> Answer {
             test_support::size(text, 9),
             out,
         ),
-        b'l' => reconstruction::linear_plane(
+        b'l' | b'e' => reconstruction::linear_plane(
             test_support::layout(text),
             plane,
             test_support::size(text, 9),
@@ -66,12 +66,21 @@ fn write_call(text: &[u8], plane: &[u8], s: &mut [f32], out: &mut [u16]) {
     test_support::write_line(answer, test_support::sum_floats(sum, s, spared));
 }
 
+// The shape of a line's plane: for kind `e` samples of two bytes at their ends, else bytes of all values.
+fn shape(text: &[u8]) -> usize {
+    if test_support::kind(text) == b'e' {
+        5
+    } else {
+        0
+    }
+}
+
 // Makes a line's call with scratch and `out` that no call has touched, as long as the line says.
 fn replay(text: &[u8]) {
     let plane_len = test_support::word(text, 10);
     let space = laws::least(test_support::long(text, 11), 200_000);
     let room = test_support::word(text, 13);
-    let plane = test_support::grown(plane_len, test_support::word(text, 14), 0);
+    let plane = test_support::grown(plane_len, test_support::word(text, 14), shape(text));
     let mut s = marked();
     let mut out = unwritten();
     write_call(text, &plane[..plane_len], &mut s[..space], &mut out[..room]);

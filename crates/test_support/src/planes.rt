@@ -7,9 +7,18 @@ fn next(state: u32) -> u32 {
     ((state as u64 * 1_103_515_245 + 12_345) % 4_294_967_296) as u32
 }
 
+// Byte i of a plane whose samples of two bytes are 0, 1, 65,534 or 65,535: the upper byte, at odd places, is 255 or 0 by its state's upper
+// bit; the lower one, before it, is 254 or 0 by the same bit, and one more by the upper bit of its own state.
+fn end_byte(state: u32, i: usize) -> u8 {
+    if i % 2 == 1 {
+        return (state / 2_147_483_648) as u8 * 255;
+    }
+    (next(state) / 2_147_483_648) as u8 * 254 + (state / 2_147_483_648) as u8
+}
+
 // Byte i of a plane by its shape. Shape 0 gives all values, from the state's upper eight bits; shape 1 the sixteen smallest, from its
-// upper four; shape 2 always 77; shape 4 all values at even places and 0 at odd ones, which are samples of two bytes up to 255; any other
-// always the shape's own low byte.
+// upper four; shape 2 always 77; shape 4 all values at even places and 0 at odd ones, which are samples of two bytes up to 255; shape 5
+// samples of two bytes at their ends (`end_byte`); any other always the shape's own low byte.
 fn shaped(state: u32, shape: usize, i: usize) -> u8 {
     if shape == 0 {
         return (state / 16_777_216) as u8;
@@ -26,6 +35,9 @@ fn shaped(state: u32, shape: usize, i: usize) -> u8 {
         } else {
             0
         };
+    }
+    if shape == 5 {
+        return end_byte(state, i);
     }
     (shape % 256) as u8
 }

@@ -21,6 +21,9 @@ word-requires-2 c κs = search needs
 word-requires-3 : tie.Need-word-requires-3
 word-requires-3 c κs = search needs
 
+shape-requires : tie.Need-shape-requires
+shape-requires c κs = search needs
+
 grown-requires : tie.Need-grown-requires
 grown-requires c κs = search needs
 
@@ -63,6 +66,7 @@ replay-spec =
     least-requires
     word-requires-2
     word-requires-3
+    shape-requires
     grown-requires
     marked-requires
     unwritten-requires
