@@ -4,9 +4,10 @@ ghost use mathlib.Core.Bool.{true};
 ghost use Prim.Native.Nat.{_+_, _*_, _≤_};
 ghost use lib.ListN.{length};
 ghost use Rattle.colour_rows.specs.Inner.Colours.{colourRow};
-ghost use Rattle.colour_rows.specs.Inner.Lent.{RowLent, Blocked};
+ghost use Rattle.colour_rows.specs.Inner.Lent.{RowLent, Blocked, TablesFor};
 ghost use Rattle.image.specs.Samples.{planeOf};
-use crate::blocks::block_row;
+use crate::exact_blocks::exact_row;
+use crate::fixed_blocks::fixed_row;
 use crate::pixels::plain_row;
 use image::Layout;
 use kernel_blocks::Block;
@@ -25,8 +26,36 @@ fn by_blocks(layout: Layout, kernel: YcbcrKernel) -> bool
     }
 }
 
+// A row by blocks, the kernel chosen outside the loops.
+fn block_row(
+    layout: Layout,
+    kernel: YcbcrKernel,
+    size: usize,
+    plane: &[u8],
+    stride: usize,
+    row: usize,
+    s: &[f32],
+    out: &mut [u8],
+    at: usize,
+    tables: &[[i32; 256]],
+)
+    requires { ⌜ RowLent layout (planeOf (now plane) stride) row (length (now s)) ⌝ }
+    requires { do n ← ⟦Block::LEN⟧; ⌜ Blocked n kernel layout × (3 ≤ size) × (size ≤ 4) × (at + layout .w * size ≤ length (now out)) × TablesFor kernel (now tables) ⌝ }
+    ensures { λ _. ⌜ now (out .exit) ≡ colourRow
+        kernel layout (planeOf (now (plane .entry)) stride) row (now (s .entry)) at size (now (out .entry)) ⌝ }
+{
+    match kernel {
+        YcbcrKernel::Exact => {
+            exact_row(layout, size, plane, stride, row, s, out, at);
+        }
+        YcbcrKernel::FixedPoint16 => {
+            fixed_row(layout, size, plane, stride, row, s, out, at, tables);
+        }
+    }
+}
+
 // Inner: row `row` of luma's plane with the chroma that scratch holds, Cb's at 0 and Cr's at w, as w pixels of `size` bytes, to out from
-// `at` on. By blocks or pixel by pixel is chosen here, outside the loops.
+// `at` on. By blocks or pixel by pixel is chosen here, outside the loops. Blocks of the fixed kernel read `tables`.
 pub fn colour_row(
     layout: Layout,
     kernel: YcbcrKernel,
@@ -37,14 +66,15 @@ pub fn colour_row(
     s: &[f32],
     out: &mut [u8],
     at: usize,
+    tables: &[[i32; 256]],
 )
     requires { ⌜ RowLent layout (planeOf (now plane) stride) row (length (now s)) ⌝ }
-    requires { ⌜ (3 ≤ size) × (size ≤ 4) × (at + layout .w * size ≤ length (now out)) ⌝ }
+    requires { ⌜ (3 ≤ size) × (size ≤ 4) × (at + layout .w * size ≤ length (now out)) × TablesFor kernel (now tables) ⌝ }
     ensures { λ _. ⌜ now (out .exit) ≡ colourRow
         kernel layout (planeOf (now (plane .entry)) stride) row (now (s .entry)) at size (now (out .entry)) ⌝ }
 {
     if by_blocks(layout, kernel) {
-        block_row(layout, kernel, size, plane, stride, row, s, out, at);
+        block_row(layout, kernel, size, plane, stride, row, s, out, at, tables);
         return;
     }
     plain_row(layout, kernel, size, plane, stride, row, s, out, at);

@@ -9,6 +9,7 @@ ghost use Rattle.linear.specs.Inner.Linear.{Ready};
 ghost use Rattle.image.specs.Scratch.{scratchNeed};
 ghost use Rattle.guided_window.specs.Inner.Lent.{Lent};
 ghost use Rattle.colour_rows.specs.Inner.Colours.{colourRow};
+ghost use Rattle.colour_rows.specs.Inner.Lent.{TablesFor};
 ghost use Rattle.fill.specs.Fill.{fillColour, pixelRows, fillScratch};
 ghost use Rattle.fill.specs.Inner.Steps.{fillStep, FillLent};
 ghost use Rattle.image.specs.Samples.{planeOf};
@@ -59,8 +60,8 @@ fn chroma_row(
     }
 }
 
-// Makes row first + n: its chroma, then its colour at its place in out. Twelve parameters: the ten that `fill` is handed, since a slice
-// can't be put into a struct with its stride (docs/DECISIONS.md), and which row.
+// Makes row first + n: its chroma, then its colour at its place in out. Thirteen parameters: the ten that `fill` is handed, since a slice
+// can't be put into a struct with its stride (docs/DECISIONS.md), which row, and the fixed kernel's tables.
 fn fill_row(
     layout: Layout,
     y: &[u8],
@@ -74,9 +75,10 @@ fn fill_row(
     n: usize,
     s: &mut [f32],
     out: &mut [u8],
+    tables: &[[i32; 256]],
 )
     requires { ⌜ FillLent layout (planesOf (now y) (now cb) (now cr) strides) size (length (now s)) (length (now out)) ⌝ }
-    requires { ⌜ first + n < layout .h ⌝ }
+    requires { ⌜ (first + n < layout .h) × TablesFor kernel (now tables) ⌝ }
     ensures { λ _. ⌜ now (s .exit) ≡ fillStep upsampling layout
         (planesOf (now (y .entry)) (now (cb .entry)) (now (cr .entry)) strides)
         first n (now (s .entry)) ⌝ }
@@ -88,12 +90,11 @@ fn fill_row(
     let row = first + n;
     let at = row * (layout.w * size);
     chroma_row(layout, y, cb, cr, strides, upsampling, first, n, s);
-    colour_rows::colour_row(layout, kernel, size, y, strides.y, row, s, out, at);
+    colour_rows::colour_row(layout, kernel, size, y, strides.y, row, s, out, at, tables);
 }
 
-// Inner: makes rows a, .. b - 1 of the picture, whatever scratch holds. Twelve parameters: the ten that `fill` is handed, since a slice
-// can't be put into a struct with its stride (docs/DECISIONS.md), and from where to where.
-pub fn fill_rows(
+// Makes rows a, .. b - 1 of the picture with the tables that its kernel reads. Thirteen parameters: those of `fill_rows` and the tables.
+fn rows_by(
     layout: Layout,
     y: &[u8],
     cb: &[u8],
@@ -106,9 +107,10 @@ pub fn fill_rows(
     b: usize,
     s: &mut [f32],
     out: &mut [u8],
+    tables: &[[i32; 256]],
 )
     requires { ⌜ FillLent layout (planesOf (now y) (now cb) (now cr) strides) size (length (now s)) (length (now out)) ⌝ }
-    requires { ⌜ (a ≤ b) × (b ≤ layout .h) ⌝ }
+    requires { ⌜ (a ≤ b) × (b ≤ layout .h) × TablesFor kernel (now tables) ⌝ }
     ensures { λ _. ⌜ now (out .exit) ≡ pixelRows (layout .w) size
         (fillColour upsampling kernel (pictureOf layout (planesOf (now (y .entry)) (now (cb .entry)) (now (cr .entry)) strides)))
         a (b - a) (now (out .entry)) ⌝ }
@@ -132,7 +134,74 @@ pub fn fill_rows(
             n,
             s,
             out,
+            tables,
         );
         n += 1;
+    }
+}
+
+// Inner: makes rows a, .. b - 1 of the picture, whatever scratch holds. The fixed kernel's tables are made here, once for all rows; the exact
+// kernel reads none. Twelve parameters: the ten that `fill` is handed, since a slice can't be put into a struct with its stride
+// (docs/DECISIONS.md), and from where to where.
+pub fn fill_rows(
+    layout: Layout,
+    y: &[u8],
+    cb: &[u8],
+    cr: &[u8],
+    strides: Strides,
+    upsampling: ChromaUpsampling,
+    kernel: YcbcrKernel,
+    size: usize,
+    a: usize,
+    b: usize,
+    s: &mut [f32],
+    out: &mut [u8],
+)
+    requires { ⌜ FillLent layout (planesOf (now y) (now cb) (now cr) strides) size (length (now s)) (length (now out)) ⌝ }
+    requires { ⌜ (a ≤ b) × (b ≤ layout .h) ⌝ }
+    ensures { λ _. ⌜ now (out .exit) ≡ pixelRows (layout .w) size
+        (fillColour upsampling kernel (pictureOf layout (planesOf (now (y .entry)) (now (cb .entry)) (now (cr .entry)) strides)))
+        a (b - a) (now (out .entry)) ⌝ }
+    ensures { λ _. ⌜ now (s .exit) ≡ fillScratch upsampling layout
+        (planesOf (now (y .entry)) (now (cb .entry)) (now (cr .entry)) strides)
+        a (b - a) (now (s .entry)) ⌝ }
+{
+    match kernel {
+        YcbcrKernel::Exact => {
+            let none = [[0i32; 256]; 0];
+            rows_by(
+                layout,
+                y,
+                cb,
+                cr,
+                strides,
+                upsampling,
+                kernel,
+                size,
+                a,
+                b,
+                s,
+                out,
+                &none,
+            );
+        }
+        YcbcrKernel::FixedPoint16 => {
+            let tables = kernels::all_tables();
+            rows_by(
+                layout,
+                y,
+                cb,
+                cr,
+                strides,
+                upsampling,
+                kernel,
+                size,
+                a,
+                b,
+                s,
+                out,
+                &tables,
+            );
+        }
     }
 }

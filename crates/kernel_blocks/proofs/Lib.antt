@@ -1,7 +1,7 @@
--- Laws of blocks: the offsets in floats (RedAndBlue, Greens, GridBits), the fixed kernel (FixedBytes), stored pixels (Puts, Stored, Packed).
+-- Laws of blocks: the offsets in floats (RedAndBlue, Greens, GridBits), the fixed kernel (FixedRows), stored pixels (Puts, Stored, Packed).
 pub mod Blocks
 pub mod Chromas
-pub mod FixedBytes
+pub mod FixedRows
 pub mod GreenQuotient
 pub mod Greens
 pub mod GridBits

@@ -1,96 +1,136 @@
-// Sixteen pixels of the fixed kernel, in numbers of sixteen bits where they fit, so that eight go at a time.
+// Sixteen pixels of the fixed kernel, a colour row after the other, their offsets read from the tables of the crate kernels: document 01's
+// formulas as they stand, over numbers with a sign.
 //
-// Of each multiplier 65,536 is taken out, which is chroma itself: what is left fits sixteen bits with its sign, for which there is
-// a product of many at a time.
+// The tables are lent (`kernels::all_tables` makes them). The entries of a row are gathered before they are added, so that what follows
+// compiles to wide instructions.
 ghost use mathlib.Core.Path.{_≡_};
-ghost use Prim.Native.Nat.{ℕ, _+_, _-_, _<_, _≤_, min};
-ghost use lib.ListN.{getD};
+ghost use Prim.Native.Nat.{ℕ, _<_};
+ghost use lib.ListN.{length, getD};
+ghost use lib.IntN.{pos, _+ℤ_};
+ghost use Rattle.laws.specs.Differences.{floorDiv, limit};
 ghost use Rattle.kernels.specs.Kernels.{fixed255};
 ghost use Rattle.kernels.specs.Inner.Forms.{plusFixed};
+ghost use Rattle.kernels.specs.Inner.Tables.{Tabled, tableEntry};
+ghost use Rattle.kernel_blocks.specs.Inner.Blocks.{Small};
 ghost use Rattle.kernel_blocks.specs.Inner.Stores.{blockPixel};
+use crate::limits::limit_byte;
 use crate::stores::Block;
+use kernels::Table;
 
-// The smaller of two numbers, as a function: a channel then has no branches that meet, which the prover would have to join.
-fn least(a: u16, b: u16) -> u16
-    ensures { λ r. ⌜ r ≡ min a b ⌝ }
+// A sample of one byte as an index. The contract keeps that it is a byte.
+fn index(c: u8) -> usize
+    ensures { λ r. ⌜ (r ≡ c) × (r < 256) ⌝ }
 {
-    if a < b { a } else { b }
+    c as usize
 }
 
-// How far a lies above b, 0 where it doesn't: a subtraction that saturates, for which there is an instruction.
-fn above(a: u16, b: u16) -> u16
-    ensures { λ r. ⌜ r ≡ a - b ⌝ }
+// The entries of table n at sixteen whole samples of chroma.
+fn entries(t: &[[i32; 256]], n: usize, chroma: [u8; Block::LEN]) -> [i32; Block::LEN]
+    requires { ⌜ (n < length (now t)) × ((v : ℕ) → v < 256 → Small (tableEntry (now t) n v)) ⌝ }
+    ensures { λ r. do
+      l ← ⟦Block::LEN⟧ .entry
+      ⌜ ((k : ℕ) → k < l → (getD chroma k 0 < 256) × (getD r k (pos 0) ≡ tableEntry (now (t .entry)) n (getD chroma k 0))) ⌝ }
 {
-    if a > b { a - b } else { 0 }
+    let mut v = [0i32; Block::LEN];
+    for i in 0..Block::LEN {
+        v[i] = t[n][index(chroma[i])];
+    }
+    v
 }
 
-// Luma and an offset less its bias, limited to 0..=255.
-//
-// Luma is limited to 512 first, so that the sum fits sixteen bits: over that it is white whatever chroma adds, no bias being over 256.
-fn plus(y: u16, offset: u16, bias: u16) -> u8
-    requires { ⌜ (offset ≤ 1024) × (bias ≤ 256) ⌝ }
-    ensures { λ r. ⌜ r ≡ min (y + offset - bias) 255 ⌝ }
+// Luma and an offset, limited to 0..=255.
+fn plus(y: u16, offset: i32) -> u8
+    requires { ⌜ Small offset ⌝ }
+    ensures { λ r. ⌜ r ≡ limit 255 (pos y +ℤ offset) ⌝ }
 {
-    above(least(least(y, 512) + offset, bias + 255), bias) as u8
+    limit_byte(y as i32 + offset)
 }
 
-// A sample of one byte as sixteen bits. The contract keeps that it is a byte.
-fn wide(c: u8) -> u16
-    ensures { λ r. ⌜ (r ≡ c) × (r ≤ 255) ⌝ }
+// Green's offset from its two parts, which are summed before the shift.
+fn shifted(cb_part: i32, cr_part: i32) -> i32
+    requires { ⌜ Small «cb_part» × Small «cr_part» ⌝ }
+    ensures { λ r. ⌜ (r ≡ floorDiv («cb_part» +ℤ «cr_part») 65536) × Small r ⌝ }
 {
-    c as u16
+    (cb_part + cr_part) >> 16
 }
 
-// Red of one pixel: its multiplier 91,881 is 65,536 + 26,345.
-//
-// 2,944 is 65,536 * 179 + 32,768 - 128 * 91,881: the bias, the half and the centre.
-fn fixed_red(y: u16, cr: u8) -> u8
-    ensures { λ r. ⌜ r ≡ plusFixed 91881 y cr ⌝ }
+// The red or the blue row of a block, from the offsets of its pixels.
+fn offset_row(y: [u16; Block::LEN], offset: [i32; Block::LEN]) -> [u8; Block::LEN]
+    requires { do n ← ⟦Block::LEN⟧; ⌜ ((k : ℕ) → k < n → Small (getD offset k (pos 0))) ⌝ }
+    ensures { λ r. do n ← ⟦Block::LEN⟧ .entry; ⌜ ((k : ℕ) → k < n → getD r k 0 ≡ limit 255 (pos (getD y k 0) +ℤ getD offset k (pos 0))) ⌝ }
 {
-    let c = wide(cr);
-    let part = (26_345 * (c as u32) + 2_944) >> 16;
-    plus(y, c + part as u16, 179)
+    let mut row = [0u8; Block::LEN];
+    for i in 0..Block::LEN {
+        row[i] = plus(y[i], offset[i]);
+    }
+    row
 }
 
-// Green of one pixel: its multiplier 46,802 of Cr is 65,536 - 18,734, taken of what Cr leaves of 255, with which green rises.
-//
-// 9,517 is 80 * 65,536 + 65,535 - (128 * 22,554 + 127 * 18,734 + 32,768): the centre and the half, rounded up since the part is
-// subtracted. 160 is the greatest part, so that the difference is not below 0, and the bias 207 is 160 + 127 - 80.
-fn fixed_green(y: u16, cb: u8, cr: u8) -> u8
-    ensures { λ r. ⌜ r ≡ fixed255 y cb cr .green ⌝ }
+// The green row of a block, from the parts of its pixels' offsets.
+fn green_row(
+    y: [u16; Block::LEN],
+    cb_part: [i32; Block::LEN],
+    cr_part: [i32; Block::LEN],
+) -> [u8; Block::LEN]
+    requires { do n ← ⟦Block::LEN⟧; ⌜ ((k : ℕ) → k < n → Small (getD «cb_part» k (pos 0)) × Small (getD «cr_part» k (pos 0))) ⌝ }
+    ensures { λ r. do
+      n ← ⟦Block::LEN⟧ .entry
+      ⌜ ((k : ℕ) → k < n → getD r k 0 ≡ limit 255
+          (pos (getD y k 0) +ℤ floorDiv (getD «cb_part» k (pos 0) +ℤ getD «cr_part» k (pos 0)) 65536)) ⌝ }
 {
-    let b = wide(cb) as u32;
-    let left = 255 - wide(cr);
-    let part = (22_554 * b + 18_734 * (left as u32) + 9_517) >> 16;
-    plus(y, 160 + left - part as u16, 207)
+    let mut row = [0u8; Block::LEN];
+    for i in 0..Block::LEN {
+        row[i] = plus(y[i], shifted(cb_part[i], cr_part[i]));
+    }
+    row
 }
 
-// Blue of one pixel: its multiplier 116,130 is 65,536 + 2 * 25,297.
-//
-// 22,400 is half of 65,536 * 227 + 32,768 - 128 * 116,130: the bias, the half and the centre, over 32,768.
-fn fixed_blue(y: u16, cb: u8) -> u8
-    ensures { λ r. ⌜ r ≡ plusFixed 116130 y cb ⌝ }
+// The red row of a block.
+fn fixed_red(y: [u16; Block::LEN], cr: [u8; Block::LEN], t: &[[i32; 256]]) -> [u8; Block::LEN]
+    requires { ⌜ Tabled (now t) ⌝ }
+    ensures { λ r. do n ← ⟦Block::LEN⟧ .entry; ⌜ ((k : ℕ) → k < n → getD r k 0 ≡ plusFixed 91881 (getD y k 0) (getD cr k 0)) ⌝ }
 {
-    let c = wide(cb);
-    let part = (25_297 * (c as u32) + 22_400) >> 15;
-    plus(y, c + part as u16, 227)
+    offset_row(y, entries(t, Table::RED, cr))
 }
 
-// Inner: the red, the green and the blue row of sixteen pixels by the fixed kernel, on whole chroma.
+// The green row of a block.
+fn fixed_green(
+    y: [u16; Block::LEN],
+    cb: [u8; Block::LEN],
+    cr: [u8; Block::LEN],
+    t: &[[i32; 256]],
+) -> [u8; Block::LEN]
+    requires { ⌜ Tabled (now t) ⌝ }
+    ensures { λ r. do n ← ⟦Block::LEN⟧ .entry; ⌜ ((k : ℕ) → k < n → getD r k 0 ≡ fixed255 (getD y k 0) (getD cb k 0) (getD cr k 0) .green) ⌝ }
+{
+    green_row(
+        y,
+        entries(t, Table::GREEN_CB, cb),
+        entries(t, Table::GREEN_CR, cr),
+    )
+}
+
+// The blue row of a block.
+fn fixed_blue(y: [u16; Block::LEN], cb: [u8; Block::LEN], t: &[[i32; 256]]) -> [u8; Block::LEN]
+    requires { ⌜ Tabled (now t) ⌝ }
+    ensures { λ r. do n ← ⟦Block::LEN⟧ .entry; ⌜ ((k : ℕ) → k < n → getD r k 0 ≡ plusFixed 116130 (getD y k 0) (getD cb k 0)) ⌝ }
+{
+    offset_row(y, entries(t, Table::BLUE, cb))
+}
+
+// Inner: the red, the green and the blue row of sixteen pixels by the fixed kernel, on whole chroma; t has the kernel's tables.
 pub fn fixed_block(
     y: [u16; Block::LEN],
     cb: [u8; Block::LEN],
     cr: [u8; Block::LEN],
+    t: &[[i32; 256]],
 ) -> [[u8; Block::LEN]; 3]
+    requires { ⌜ Tabled (now t) ⌝ }
     ensures { λ r. do n ← ⟦Block::LEN⟧ .entry; ⌜ ((k : ℕ) → k < n → blockPixel r k ≡ fixed255 (getD y k 0) (getD cb k 0) (getD cr k 0)) ⌝ }
 {
-    let mut red = [0u8; Block::LEN];
-    let mut green = [0u8; Block::LEN];
-    let mut blue = [0u8; Block::LEN];
-    for i in 0..Block::LEN {
-        red[i] = fixed_red(y[i], cr[i]);
-        green[i] = fixed_green(y[i], cb[i], cr[i]);
-        blue[i] = fixed_blue(y[i], cb[i]);
-    }
-    [red, green, blue]
+    [
+        fixed_red(y, cr, t),
+        fixed_green(y, cb, cr, t),
+        fixed_blue(y, cb, t),
+    ]
 }

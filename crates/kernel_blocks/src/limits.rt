@@ -5,8 +5,8 @@ ghost use lib.IntN.{pos, _+ℤ_};
 ghost use Rattle.laws.specs.Differences.{limit};
 ghost use Rattle.kernel_blocks.specs.Inner.Floating.{Luma};
 
-// A number limited to 0..=255. It is signed and its upper limit comes first, so that sixteen of them compile to packs that limit.
-fn limit_byte(z: i32) -> u8
+// Inner: a number limited to 0..=255. It is signed and its upper limit comes first, so that sixteen of them compile to packs that limit.
+pub fn limit_byte(z: i32) -> u8
     ensures { λ r. ⌜ r ≡ limit 255 z ⌝ }
 {
     if 255 < z {

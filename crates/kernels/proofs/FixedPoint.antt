@@ -1,5 +1,5 @@
 -- The channels of the fixed kernel over natural numbers, as the code computes them; red and blue once, over their multiplier.
-use mathlib.Core.Path.{_≡_, refl, ap, _∙_}
+use mathlib.Core.Path.{_≡_, refl, _∙_}
 use Prim.Native.Nat.{ℕ, _+_, _*_, _-_, _/_, _<_, _≤_, min}
 use native.Mathlib.Omega.{arith}
 use lib.Dec.{lit<}
@@ -36,13 +36,3 @@ pub green-parts : (y b r p q k l bias : ℕ) → Diff (fixedGreenCb b) p k → D
     → fixed255 y b r .green ≡ min (y + (p + q) / 65536 - bias) 255
 unfolding fixed255
 green-parts y b r p q k l bias d e h = limited 255 (plus (of-pos y) (floored 65536 (lit< tt) bias h (plus d e))) ∙ omega arith
-
--- green with both parts in one sum, raised by 69,356 * 65,536
-pub fixed-green : (y b r : ℕ) → b ≤ 65535 → r ≤ 65535 → fixed255 y b r .green ≡ min (y + (4554225152 - 22554 * b - 46802 * r) / 65536 - 69356) 255
-fixed-green y b r hb hr =
-    green-parts y b r (1478167808 - 22554 * b) (3076057344 - 46802 * r) 1475280896 3070033920 69356
-    (green-cb-diff 1478167808 1475280896 b _ (omega arith) (omega arith) refl) (green-cr-diff 3076057344 3070033920 r _ (omega arith) (omega arith) refl) refl
-    ∙ ap (λ (n : ℕ). min (y + n / 65536 - 69356) 255) (one-sum (22554 * b) (46802 * r) (omega arith) (omega arith))
-  where
-    one-sum : (p q : ℕ) → p ≤ 1478167808 → q ≤ 3076057344 → 1478167808 - p + (3076057344 - q) ≡ 4554225152 - p - q
-    one-sum p q h k = omega arith

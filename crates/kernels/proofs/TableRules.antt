@@ -59,7 +59,16 @@ listed f (suc n) i = f i ∷ listed f n (suc i)
 abbrev pub entryOf : (ℕ → ℤ) → ℕ → ℤ
 entryOf f c = getD (listed f 256 0) c (pos 0)
 
--- the four tables
+at-listed : (f : ℕ → ℤ) (n i k : ℕ) → k < n → getD (listed f n i) k (pos 0) ≡ f (i + k)
+at-listed f zero i k h = absurd (not-suc-le-zero h)
+at-listed f (suc n) i zero h = ap f (sym (add-zero i))
+at-listed f (suc n) i (suc k) h = at-listed f n (suc i) k (le-of-suc-le-suc h) ∙ ap f (suc-add i k ∙ sym (add-suc i k))
+
+-- a table that is lent whole: it is the rule's own table, which is compared by computation where the table is made
+pub entry-listed : (f : ℕ → ℤ) (c : ℕ) → c < 256 → entryOf f c ≡ f c
+entry-listed f c h = at-listed f 256 0 c h ∙ ap f (zero-add c)
+
+-- the four tables, as an entry is read
 pub red-rule : (c : ℕ) → c < 256 → toZ w32 (ofZ w32 (entryOf fixedRed c)) ≡ fixedRed c
 unfolding fixedRed floorDiv
 red-rule c h = entry-is fixedRed (listed fixedRed 256 0) (pos 0) tt c h
@@ -112,13 +121,19 @@ lifts {x} {z} e k a d l h = record { fits = fits; over = non-neg back; is = abs-
     back : Diff (toZ w32 (ofZ w32 (toZ w32 (ofZ w32 x) +ℤ pos k))) a 0
     back = rw (toZ-ofZ fits, held) sum
 
-red-diff : (c : ℕ) → Diff (fixedRed c) (raisedFixed 91881 180 c) 180
+pub red-diff : (c : ℕ) → Diff (fixedRed c) (raisedFixed 91881 180 c) 180
 unfolding fixedRed fixedOffset
 red-diff c = offset-diff 91881 180 c (lit< tt)
 
-blue-diff : (c : ℕ) → Diff (fixedBlue c) (raisedFixed 116130 227 c) 227
+pub blue-diff : (c : ℕ) → Diff (fixedBlue c) (raisedFixed 116130 227 c) 227
 unfolding fixedBlue fixedOffset
 blue-diff c = offset-diff 116130 227 c (lit< tt)
+
+pub green-cb-part : (c : ℕ) → c < 256 → Diff (fixedGreenCb c) (5770496 - 22554 * c) 2883584
+green-cb-part c h = green-cb-diff 5770496 2883584 c (5770496 - 22554 * c) (omega arith) (omega arith) refl
+
+pub green-cr-part : (c : ℕ) → c < 256 → Diff (fixedGreenCr c) (11987200 - 46802 * c) 5963776
+green-cr-part c h = green-cr-diff 11987200 5963776 c (11987200 - 46802 * c) (omega arith) (omega arith) refl
 
 pub red-lifts : {x : ℤ} (c : ℕ) → c < 256 → x ≡ fixedRed c → Lifts x 180 (raisedFixed 91881 180 c)
 red-lifts c h e = lifts e 180 (raisedFixed 91881 180 c) (red-diff c) (omega arith) (lit< tt)
@@ -127,7 +142,7 @@ pub blue-lifts : {x : ℤ} (c : ℕ) → c < 256 → x ≡ fixedBlue c → Lifts
 blue-lifts c h e = lifts e 227 (raisedFixed 116130 227 c) (blue-diff c) (omega arith) (lit< tt)
 
 pub green-cb-lifts : {x : ℤ} (c : ℕ) → c < 256 → x ≡ fixedGreenCb c → Lifts x 2883584 (5770496 - 22554 * c)
-green-cb-lifts c h e = lifts e 2883584 (5770496 - 22554 * c) (green-cb-diff 5770496 2883584 c (5770496 - 22554 * c) (omega arith) (omega arith) refl) (omega arith) (lit< tt)
+green-cb-lifts c h e = lifts e 2883584 (5770496 - 22554 * c) (green-cb-part c h) (omega arith) (lit< tt)
 
 pub green-cr-lifts : {x : ℤ} (c : ℕ) → c < 256 → x ≡ fixedGreenCr c → Lifts x 5963776 (11987200 - 46802 * c)
-green-cr-lifts c h e = lifts e 5963776 (11987200 - 46802 * c) (green-cr-diff 11987200 5963776 c (11987200 - 46802 * c) (omega arith) (omega arith) refl) (omega arith) (lit< tt)
+green-cr-lifts c h e = lifts e 5963776 (11987200 - 46802 * c) (green-cr-part c h) (omega arith) (lit< tt)

@@ -23,6 +23,8 @@ pub use kernel::YcbcrKernel;
 pub use offsets::Bias;
 pub use pixel::Pixel;
 pub use tables::Raise;
+pub use tables::Table;
+pub use tables::all_tables;
 pub use tables::blue_raised;
 pub use tables::green_cb_raised;
 pub use tables::green_cr_raised;

@@ -1,12 +1,16 @@
 // The entries of the fixed kernel's tables, each document 01's formula, and the entries raised so that numbers without a sign hold them.
-// They are printed (crates/offset_table); the kernel itself doesn't read them yet.
+// The kernel reads them (fixed.rt; sixteen pixels at a time, kernel_blocks), and crates/offset_table prints them.
 //
 // The numbers stand once, in entries.rt. Each table is held to its rule by one computed check for the whole table, which proofs/TableRules
 // carries to each entry.
+//
+// A table that a function names is made anew on its stack. So one entry is read by quarters, and no more than its quarter is made then; and
+// whoever reads many entries makes the tables once (`all_tables`) and lends them.
 ghost use mathlib.Core.Path.{_≡_};
 ghost use Prim.Native.Nat.{_-_, _*_, _<_};
 ghost use Rattle.kernels.specs.Kernels.{fixedRed, fixedBlue, fixedGreenCb, fixedGreenCr};
 ghost use Rattle.kernels.specs.Inner.Forms.{raisedFixed};
+ghost use Rattle.kernels.specs.Inner.Tables.{Tabled};
 use crate::entries::BLUE;
 use crate::entries::GREEN_CB;
 use crate::entries::GREEN_CR;
@@ -34,7 +38,12 @@ fn red_entry(c: usize) -> i32
     requires { ⌜ c < 256 ⌝ }
     ensures { λ r. ⌜ r ≡ fixedRed c ⌝ }
 {
-    RED[c]
+    match c / 64 {
+        0 => RED[c % 64],
+        1 => RED[64 + c % 64],
+        2 => RED[128 + c % 64],
+        _ => RED[192 + c % 64],
+    }
 }
 
 // Blue's offset by Cb.
@@ -42,7 +51,12 @@ fn blue_entry(c: usize) -> i32
     requires { ⌜ c < 256 ⌝ }
     ensures { λ r. ⌜ r ≡ fixedBlue c ⌝ }
 {
-    BLUE[c]
+    match c / 64 {
+        0 => BLUE[c % 64],
+        1 => BLUE[64 + c % 64],
+        2 => BLUE[128 + c % 64],
+        _ => BLUE[192 + c % 64],
+    }
 }
 
 // Green's part by Cb, before the shift.
@@ -50,7 +64,12 @@ fn green_cb_entry(c: usize) -> i32
     requires { ⌜ c < 256 ⌝ }
     ensures { λ r. ⌜ r ≡ fixedGreenCb c ⌝ }
 {
-    GREEN_CB[c]
+    match c / 64 {
+        0 => GREEN_CB[c % 64],
+        1 => GREEN_CB[64 + c % 64],
+        2 => GREEN_CB[128 + c % 64],
+        _ => GREEN_CB[192 + c % 64],
+    }
 }
 
 // Green's part by Cr, before the shift, the rounding in it.
@@ -58,7 +77,12 @@ fn green_cr_entry(c: usize) -> i32
     requires { ⌜ c < 256 ⌝ }
     ensures { λ r. ⌜ r ≡ fixedGreenCr c ⌝ }
 {
-    GREEN_CR[c]
+    match c / 64 {
+        0 => GREEN_CR[c % 64],
+        1 => GREEN_CR[64 + c % 64],
+        2 => GREEN_CR[128 + c % 64],
+        _ => GREEN_CR[192 + c % 64],
+    }
 }
 
 // Inner: red's offset by Cr, raised by `Bias::RED`.
@@ -91,4 +115,24 @@ pub fn green_cr_raised(c: usize) -> u32
     ensures { λ r. ⌜ r ≡ 11987200 - 46802 * c ⌝ }
 {
     (green_cr_entry(c) + Raise::GREEN_CR) as u32
+}
+
+// Where each table stands in `all_tables`.
+pub struct Table;
+
+impl Table {
+    pub const RED: usize = 0;
+
+    pub const BLUE: usize = 1;
+
+    pub const GREEN_CB: usize = 2;
+
+    pub const GREEN_CR: usize = 3;
+}
+
+// Inner: the four tables, for those who read many entries.
+pub fn all_tables() -> [[i32; 256]; 4]
+    ensures { λ r. ⌜ Tabled r ⌝ }
+{
+    [RED, BLUE, GREEN_CB, GREEN_CR]
 }

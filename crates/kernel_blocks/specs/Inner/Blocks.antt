@@ -4,6 +4,7 @@ use mathlib.Core.List.{List}
 use Prim.Native.Nat.{ℕ, _<_, _≤_}
 use lib.ListN.{getD}
 use lib.IntN.{ℤ, pos}
+use lib.Signed.{mag}
 use lib.Ieee.{Float, nan}
 use Rattle.kernels.specs.Kernels.{exact255}
 use Rattle.kernel_blocks.specs.Inner.Stores.{entry}
@@ -31,3 +32,7 @@ abbrev pub Greens : ℕ → List ℕ → List ℤ → List Float → List Float 
 Greens n row y cb cr = (k : ℕ) → k < n → (l b r : ℕ)
     → Lowered (getD y k (pos 0)) l → Centred (getD cb k nan) b → Centred (getD cr k nan) r
     → getD row k 0 ≡ exact255 l b r .green
+
+-- the fixed kernel's offsets and parts: whole numbers of 25 bits with their sign, so that the sums of two and of luma fit 32
+abbrev pub Small : ℤ → Type 0
+Small z = mag z < 16777216

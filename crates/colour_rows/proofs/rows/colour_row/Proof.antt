@@ -6,7 +6,7 @@ by-blocks-requires : tie.Need-by-blocks-requires
 by-blocks-requires c κs = search needs
 
 block-row-requires : tie.Need-block-row-requires
-block-row-requires c κs = let s = c .before .before .before .before .before .before in (s .pre .0, (c .before .before .by-blocks .ensures (c .before .if1 .taken), s .pre .1 .0, s .pre .1 .1, s .pre .1 .2))
+block-row-requires c κs = let s = c .before .before .before .before .before .before in (s .pre .0, (c .before .before .by-blocks .ensures (c .before .if1 .taken), s .pre .1 .0, s .pre .1 .1, s .pre .1 .2, s .pre .1 .3))
 
 same-length : tie.Need-same-length
 same-length c = search needs

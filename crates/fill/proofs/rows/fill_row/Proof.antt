@@ -23,10 +23,10 @@ mul-at : tie.Need-mul-at
 mul-at c = let s = c .before .before .before .before .before .before in omega (arith, row-bytes (s .pre .0))
 
 mul-at-2 : tie.Need-mul-at-2
-mul-at-2 c = let s = c .before .before .before .before .before .before in omega (arith, row-begins (s .pre .0) (s .args .first + s .args .n) (s .pre .1))
+mul-at-2 c = let s = c .before .before .before .before .before .before in omega (arith, row-begins (s .pre .0) (s .args .first + s .args .n) (s .pre .1 .0))
 
 chroma-row-requires : tie.Need-chroma-row-requires
-chroma-row-requires c κs = let p = c .before .before .before .before .before .before .before .pre in (p .0 .lent, (p .1, p .0 .scratch))
+chroma-row-requires c κs = let p = c .before .before .before .before .before .before .before .pre in (p .0 .lent, (p .1 .0, p .0 .scratch))
 
 colour-row-requires : tie.Need-colour-row-requires
 colour-row-requires c κs =
@@ -36,7 +36,7 @@ colour-row-requires c κs =
     let e = ap length (c .before .before .before .before .chroma-row .ensures) ∙ length-fill (a .upsampling) (a .layout) (planesOf (a .y .now) (a .cb .now) (a .cr .now) (a .strides)) (a .first) (a .n) (a .s .now) in
     let f = front-fits (a .layout) in
     let g = p .scratch in
-    (record { luma = record { sound = p .lent .sound; plane = p .lent .luma; inside = s .pre .1 }; rows = omega arith }, (p .size-least, p .size-most, row-room p (a .first + a .n) (s .pre .1)))
+    (record { luma = record { sound = p .lent .sound; plane = p .lent .luma; inside = s .pre .1 .0 }; rows = omega arith }, (p .size-least, p .size-most, row-room p (a .first + a .n) (s .pre .1 .0), s .pre .1 .1))
 
 same-length : tie.Need-same-length
 same-length c = search needs

@@ -1,8 +1,8 @@
 use mathlib.Core.Path.{_∙_}
 use borrow.Author.Needs.{needs}
 use Rattle.colour_rows.proofs.Colouring.{fixed-by}
-use Rattle.colour_rows.proofs.blocks.fixed_pixels.Statement.{statement}
-use Rattle.colour_rows.proofs.blocks.fixed_pixels.Tie as tie
+use Rattle.colour_rows.proofs.fixed_blocks.fixed_pixels.Statement.{statement}
+use Rattle.colour_rows.proofs.fixed_blocks.fixed_pixels.Tie as tie
 
 whole-chroma-block-requires : tie.Need-whole-chroma-block-requires
 whole-chroma-block-requires c κs = search needs

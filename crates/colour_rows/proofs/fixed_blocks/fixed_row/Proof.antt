@@ -5,15 +5,16 @@ use Prim.Native.Nat.{ℕ}
 use native.Mathlib.Omega.{arith}
 use borrow.Author.Needs.{needs}
 use Rattle.colour_rows.specs.Inner.Colours.{colourRow}
-use Rattle.colour_rows.proofs.blocks.block_row.Statement.{statement}
-use Rattle.colour_rows.proofs.blocks.block_row.Tie as tie
+use Rattle.colour_rows.proofs.fixed_blocks.fixed_row.Statement.{statement}
+use Rattle.colour_rows.proofs.fixed_blocks.fixed_row.Tie as tie
 use Rattle.image.specs.Samples.{planeOf}
+use Rattle.kernels.specs.declared.kernel.YcbcrKernel.the-variants.{FixedPoint16}
 
-blocks3-requires : tie.Need-blocks3-requires
-blocks3-requires c κs =
+fixed3-requires : tie.Need-fixed3-requires
+fixed3-requires c κs =
     let p = c .before .before .before .before .before .pre in
     let e : c .before .before .before .before .before .args .size ≡ 3 = omega arith in
-    (p .0, (p .1 .0, rw e at (p .1 .3)))
+    (p .0, (p .1 .0, rw e at (p .1 .3), p .1 .4))
 
 same-length : tie.Need-same-length
 same-length c = search needs
@@ -22,7 +23,7 @@ returns : tie.Need-returns
 returns c =
     let a = c .before .before .before .before .before .before .before .before .args in
     let e : 3 ≡ a .size = omega arith in
-    c .before .before .blocks3 .ensures ∙ ap (λ (n : ℕ). colourRow (a .kernel) (a .layout) (planeOf (a .plane .now) (a .stride)) (a .row) (a .s .now) (a .at) n (a .out .now)) e
+    c .before .before .fixed3 .ensures ∙ ap (λ (n : ℕ). colourRow FixedPoint16 (a .layout) (planeOf (a .plane .now) (a .stride)) (a .row) (a .s .now) (a .at) n (a .out .now)) e
 
 cast-low : tie.Need-cast-low
 cast-low c = search needs
@@ -33,11 +34,11 @@ mul-low c = search needs
 sub-low : tie.Need-sub-low
 sub-low c = search needs
 
-blocks4-requires : tie.Need-blocks4-requires
-blocks4-requires c κs =
+fixed4-requires : tie.Need-fixed4-requires
+fixed4-requires c κs =
     let p = c .before .before .before .before .before .pre in
     let e : c .before .before .before .before .before .args .size ≡ 4 = omega arith in
-    (p .0, (p .1 .0, rw e at (p .1 .3), omega arith))
+    (p .0, (p .1 .0, rw e at (p .1 .3), omega arith, p .1 .4))
 
 same-length-2 : tie.Need-same-length-2
 same-length-2 c = search needs
@@ -46,18 +47,18 @@ returns-2 : tie.Need-returns-2
 returns-2 c =
     let a = c .before .before .before .before .before .before .before .before .args in
     let e : 4 ≡ a .size = omega arith in
-    c .before .before .blocks4 .ensures ∙ ap (λ (n : ℕ). colourRow (a .kernel) (a .layout) (planeOf (a .plane .now) (a .stride)) (a .row) (a .s .now) (a .at) n (a .out .now)) e
+    c .before .before .fixed4 .ensures ∙ ap (λ (n : ℕ). colourRow FixedPoint16 (a .layout) (planeOf (a .plane .now) (a .stride)) (a .row) (a .s .now) (a .at) n (a .out .now)) e
 
-pub block-row-spec : {M : Type 1} → statement M
-block-row-spec =
+pub fixed-row-spec : {M : Type 1} → statement M
+fixed-row-spec =
     tie.close
     (tie.spec
-    blocks3-requires
+    fixed3-requires
     same-length
     returns
     cast-low
     mul-low
     sub-low
-    blocks4-requires
+    fixed4-requires
     same-length-2
     returns-2)

@@ -1,4 +1,5 @@
-// A row by blocks of sixteen pixels. The last block ends with the row: it overlaps the block before it and stores again what that stored.
+// A row by blocks of sixteen pixels of the exact kernel. The last block ends with the row: it overlaps the block before it and stores again
+// what that stored.
 ghost use mathlib.Core.Path.{_≡_};
 ghost use Prim.Native.Nat.{ℕ, _+_, _*_, _≤_, _<_};
 ghost use lib.ListN.{length, getD};
@@ -7,15 +8,13 @@ ghost use Rattle.kernel_blocks.specs.Inner.Stores.{blockPixel};
 ghost use Rattle.colour_rows.specs.Colours.{colourBy};
 ghost use Rattle.colour_rows.specs.Inner.Colours.{rowColour, colourRow};
 ghost use Rattle.colour_rows.specs.Inner.Lent.{RowLent, Blocked};
-ghost use Rattle.kernels.specs.declared.kernel.YcbcrKernel.the-variants.{Exact, FixedPoint16};
+ghost use Rattle.kernels.specs.declared.kernel.YcbcrKernel.the-variants.{Exact};
 ghost use Rattle.image.specs.Samples.{planeOf};
 use crate::samples::chroma_block;
 use crate::samples::luma_block;
-use crate::samples::whole_chroma_block;
 use crate::samples::wide_block;
 use image::Layout;
 use kernel_blocks::Block;
-use kernels::YcbcrKernel;
 
 // Sixteen pixels by the exact kernel at maxval 255, of luma y and of the chroma of the columns from x on.
 fn exact_pixels(y: [u16; Block::LEN], s: &[f32], w: usize, x: usize) -> [[u8; Block::LEN]; 3]
@@ -30,23 +29,9 @@ fn exact_pixels(y: [u16; Block::LEN], s: &[f32], w: usize, x: usize) -> [[u8; Bl
     kernel_blocks::rgb_block(wide_block(y), cb, cr)
 }
 
-// Sixteen pixels by the fixed kernel, of luma y and of the chroma of the columns from x on. It doesn't look at maxval, d in the contract.
-fn fixed_pixels(y: [u16; Block::LEN], s: &[f32], w: usize, x: usize) -> [[u8; Block::LEN]; 3]
-    requires { do n ← ⟦Block::LEN⟧; ⌜ (x + n ≤ w) × (2 * w ≤ length (now s)) ⌝ }
-    ensures { λ r. do
-      n ← ⟦Block::LEN⟧ .entry
-      ⌜ ((d k : ℕ) → k < n → blockPixel r k ≡ colourBy
-          FixedPoint16 d (getD y k 0) (cellAt (now (s .entry)) 0 (x + k)) (cellAt (now (s .entry)) w (x + k))) ⌝ }
-{
-    let cb = whole_chroma_block(s, 0, x);
-    let cr = whole_chroma_block(s, w, x);
-    kernel_blocks::fixed_block(y, cb, cr)
-}
-
-// The sixteen pixels of a row from column x on, by either kernel.
-fn block_at(
+// The sixteen pixels of a row from column x on.
+fn exact_at(
     layout: Layout,
-    kernel: YcbcrKernel,
     plane: &[u8],
     stride: usize,
     row: usize,
@@ -54,23 +39,19 @@ fn block_at(
     x: usize,
 ) -> [[u8; Block::LEN]; 3]
     requires { ⌜ RowLent layout (planeOf (now plane) stride) row (length (now s)) ⌝ }
-    requires { do n ← ⟦Block::LEN⟧; ⌜ Blocked n kernel layout × (x + n ≤ layout .w) ⌝ }
+    requires { do n ← ⟦Block::LEN⟧; ⌜ Blocked n Exact layout × (x + n ≤ layout .w) ⌝ }
     ensures { λ r. do
       n ← ⟦Block::LEN⟧ .entry
       ⌜ ((k : ℕ) → k < n → blockPixel r k ≡ rowColour
-          kernel layout (planeOf (now (plane .entry)) stride) row (now (s .entry)) (x + k)) ⌝ }
+          Exact layout (planeOf (now (plane .entry)) stride) row (now (s .entry)) (x + k)) ⌝ }
 {
     let y = luma_block(layout, plane, stride, row, x);
-    match kernel {
-        YcbcrKernel::Exact => exact_pixels(y, s, layout.w, x),
-        YcbcrKernel::FixedPoint16 => fixed_pixels(y, s, layout.w, x),
-    }
+    exact_pixels(y, s, layout.w, x)
 }
 
 // A row with three bytes a pixel. The size is a constant in the loop, so that the stores of a block are plain ones.
-fn blocks3(
+fn exact3(
     layout: Layout,
-    kernel: YcbcrKernel,
     plane: &[u8],
     stride: usize,
     row: usize,
@@ -79,14 +60,14 @@ fn blocks3(
     at: usize,
 )
     requires { ⌜ RowLent layout (planeOf (now plane) stride) row (length (now s)) ⌝ }
-    requires { do n ← ⟦Block::LEN⟧; ⌜ Blocked n kernel layout × (at + layout .w * 3 ≤ length (now out)) ⌝ }
+    requires { do n ← ⟦Block::LEN⟧; ⌜ Blocked n Exact layout × (at + layout .w * 3 ≤ length (now out)) ⌝ }
     ensures { λ _. ⌜ now (out .exit) ≡ colourRow
-        kernel layout (planeOf (now (plane .entry)) stride) row (now (s .entry)) at 3 (now (out .entry)) ⌝ }
+        Exact layout (planeOf (now (plane .entry)) stride) row (now (s .entry)) at 3 (now (out .entry)) ⌝ }
 {
     let mut done = 0;
     while done < layout.w {
         let x = laws::least(done, layout.w - Block::LEN);
-        let rows = block_at(layout, kernel, plane, stride, row, s, x);
+        let rows = exact_at(layout, plane, stride, row, s, x);
         kernel_blocks::put_block(out, at + x * 3, 3, rows);
         done = x + Block::LEN;
     }
@@ -94,9 +75,8 @@ fn blocks3(
 
 // A row with four bytes a pixel, stored as words of 32 bits. `low` has the bits of the three colour bytes, 16,777,215 = 2^24 - 1; the
 // fourth byte keeps what it held.
-fn blocks4(
+fn exact4(
     layout: Layout,
-    kernel: YcbcrKernel,
     plane: &[u8],
     stride: usize,
     row: usize,
@@ -106,14 +86,14 @@ fn blocks4(
     low: u32,
 )
     requires { ⌜ RowLent layout (planeOf (now plane) stride) row (length (now s)) ⌝ }
-    requires { do n ← ⟦Block::LEN⟧; ⌜ Blocked n kernel layout × (at + layout .w * 4 ≤ length (now out)) × (low ≡ 16777215) ⌝ }
+    requires { do n ← ⟦Block::LEN⟧; ⌜ Blocked n Exact layout × (at + layout .w * 4 ≤ length (now out)) × (low ≡ 16777215) ⌝ }
     ensures { λ _. ⌜ now (out .exit) ≡ colourRow
-        kernel layout (planeOf (now (plane .entry)) stride) row (now (s .entry)) at 4 (now (out .entry)) ⌝ }
+        Exact layout (planeOf (now (plane .entry)) stride) row (now (s .entry)) at 4 (now (out .entry)) ⌝ }
 {
     let mut done = 0;
     while done < layout.w {
         let x = laws::least(done, layout.w - Block::LEN);
-        let rows = block_at(layout, kernel, plane, stride, row, s, x);
+        let rows = exact_at(layout, plane, stride, row, s, x);
         kernel_blocks::put_words(out, at + x * 4, low, rows);
         done = x + Block::LEN;
     }
@@ -121,9 +101,8 @@ fn blocks4(
 
 // Inner: a row by blocks, the pixel size chosen outside the loop. The mask `low` of four bytes a pixel is 4 * 2^22 - 1 = 2^24 - 1. It is
 // computed from the size, since a mask that the compiler knows would make it read the fourth bytes one by one.
-pub fn block_row(
+pub fn exact_row(
     layout: Layout,
-    kernel: YcbcrKernel,
     size: usize,
     plane: &[u8],
     stride: usize,
@@ -133,14 +112,14 @@ pub fn block_row(
     at: usize,
 )
     requires { ⌜ RowLent layout (planeOf (now plane) stride) row (length (now s)) ⌝ }
-    requires { do n ← ⟦Block::LEN⟧; ⌜ Blocked n kernel layout × (3 ≤ size) × (size ≤ 4) × (at + layout .w * size ≤ length (now out)) ⌝ }
+    requires { do n ← ⟦Block::LEN⟧; ⌜ Blocked n Exact layout × (3 ≤ size) × (size ≤ 4) × (at + layout .w * size ≤ length (now out)) ⌝ }
     ensures { λ _. ⌜ now (out .exit) ≡ colourRow
-        kernel layout (planeOf (now (plane .entry)) stride) row (now (s .entry)) at size (now (out .entry)) ⌝ }
+        Exact layout (planeOf (now (plane .entry)) stride) row (now (s .entry)) at size (now (out .entry)) ⌝ }
 {
     if size == 3 {
-        blocks3(layout, kernel, plane, stride, row, s, out, at);
+        exact3(layout, plane, stride, row, s, out, at);
         return;
     }
     let low = size as u32 * 4_194_304 - 1;
-    blocks4(layout, kernel, plane, stride, row, s, out, at, low);
+    exact4(layout, plane, stride, row, s, out, at, low);
 }

@@ -2,8 +2,8 @@ use mathlib.Core.Path.{refl, _∙_}
 use borrow.Author.Needs.{needs}
 use Rattle.kernel_blocks.proofs.Blocks.{block-pixel}
 use Rattle.colour_rows.proofs.Colouring.{exact-by}
-use Rattle.colour_rows.proofs.blocks.exact_pixels.Statement.{statement}
-use Rattle.colour_rows.proofs.blocks.exact_pixels.Tie as tie
+use Rattle.colour_rows.proofs.exact_blocks.exact_pixels.Statement.{statement}
+use Rattle.colour_rows.proofs.exact_blocks.exact_pixels.Tie as tie
 
 chroma-block-requires : tie.Need-chroma-block-requires
 chroma-block-requires c κs = search needs
