@@ -18,7 +18,7 @@
  *     too.
  *   - A slice that is written (no `const`) overlaps no other slice of the call, and nothing
  *     else reads or writes it during the call. Slices that are only read may overlap.
- *   - Two-byte samples are little-endian.
+ *   - Two-byte samples are little-endian in planes.
  *   - Floats are rounded to nearest, and subnormal ones kept, as a program starts. The proofs are
  *     about that arithmetic: after fesetround(FE_UPWARD), say, other values come out.
  *   - For rows that belong to the opened picture: hand chroma_seek and chroma_row the state
@@ -72,7 +72,8 @@ enum ChromaRefusal {
     CHROMA_ROW_PASSED = 12,   /* a row before the reader's place: seek first */
     CHROMA_BAD_PIXEL = 13,    /* luma or whole chroma over 65535, chroma in 256ths over 16776960,
                                  or maxval outside 1..65535 */
-    CHROMA_BAD_HEADER = 14,   /* a PGM header that is not one, or bytes left over */
+    CHROMA_BAD_HEADER = 14,   /* a PGM header that is not one, a maxval outside 1..65535 or not
+                                 that of the first image, or bytes left over */
     CHROMA_TOO_LARGE = 15,    /* the picture call's size limits passed, or rows missing */
     CHROMA_NOT_CENTRED = 16,  /* co-sited chroma on either axis with a guided or triangular call */
     CHROMA_NO_SUCH_WAY = 255  /* a siting, or a switch of chroma_fill, that is neither 0 nor 1 */
@@ -238,9 +239,11 @@ ChromaPixel chroma_exact_pixel(uint32_t y, uint32_t cb256, uint32_t cr256, uint3
 /* The colour of one pixel by the fixed kernel, for maxval 255: whole chroma. Refusal 13. */
 ChromaPixel chroma_fixed_pixel(uint32_t y, uint32_t cb, uint32_t cr);
 
-/* Three PGM images one after another (Y, Cb, Cr; maxval 255, width at most 128, 49152 bytes in
- * all) to a PPM at the front of out, guided and exact; gives the PPM's length. Between `P5` and
- * the maxval a comment, from `#` through the next CR or LF, counts as whitespace.
+/* Three PGM images one after another (Y, Cb, Cr; width at most 128, 49152 bytes in all) to a PPM
+ * of 8 bits at the front of out, guided and exact; gives the PPM's length. The maxval is any from
+ * 1 to 65535, the same in all three; above 255 a sample is two bytes, the high byte first (in
+ * planes it is the low one). Between `P5` and the maxval a comment, from `#` through the next CR
+ * or LF, counts as whitespace.
  * Refusals 14 and 15 as they are met, then 2, 5, 9 and 10, in this order. */
 ChromaWritten chroma_picture(const uint8_t *input, size_t input_len,
                              float *scratch, size_t scratch_len,

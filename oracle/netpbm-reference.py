@@ -1,9 +1,9 @@
 #!/usr/bin/env python3
-"""Document 01's paragraph on the picture program's input, with document 02's on comments, read plainly, to compare
-`netpbm::read` with.
+"""Document 01's paragraph on the picture program's input, with document 02's on comments and on maxvals, read plainly,
+to compare `netpbm::read` with.
 
-Reads standard input and prints `refused N`, or a line of what was read:
-the sides, the ratios, the chroma sides, and where the rows of Y, Cb and Cr begin.
+Reads standard input and prints `refused N`, or a line of what was read: the sides, the ratios, the chroma sides, the
+bytes of a sample, the maxval, and where the rows of Y, Cb and Cr begin.
 Usage: oracle/netpbm-reference.py < PICTURE
 """
 import re
@@ -30,8 +30,8 @@ def side(data, place):
     return number, found.end()
 
 
-def image(data, place):
-    """One image: width, height, the place of its rows, and the place behind them."""
+def image(data, place, wanted=None):
+    """One image: width, height, maxval, the place of its rows, and the place behind them. `wanted`: the first one's maxval."""
     if data[place:place + 2] != b'P5':
         raise Refused(14)
     width, place = side(data, place + 2)
@@ -39,12 +39,26 @@ def image(data, place):
         raise Refused(15)
     height, place = side(data, place)
     maxval, place = side(data, place)
-    if maxval != 255 or not re.match(WHITE, data[place:place + 1]):
+    if not 1 <= maxval <= 65535 or wanted not in (None, maxval):
+        raise Refused(14)
+    if not re.match(WHITE, data[place:place + 1]):
         raise Refused(14)
     rows = place + 1
-    if len(data) - rows < width * height:
+    end = rows + width * height * wide(maxval)
+    if len(data) < end:
         raise Refused(15)
-    return width, height, rows, rows + width * height
+    return width, height, maxval, rows, end
+
+
+def wide(maxval):
+    """The bytes of a sample: as many as the maxval needs."""
+    return (maxval.bit_length() + 7) // 8
+
+
+def samples(data, place, count, bytes_each):
+    """As many samples from a place on, the high byte first."""
+    return [int.from_bytes(data[i:i + bytes_each], 'big')
+            for i in range(place, place + count * bytes_each, bytes_each)]
 
 
 def ratio(pixels, one, other):
@@ -58,14 +72,14 @@ def read(data):
     if len(data) > 49152:
         raise Refused(15)
     y = image(data, 0)
-    cb = image(data, y[3])
-    cr = image(data, cb[3])
-    if cr[3] != len(data):
+    cb = image(data, y[4], y[2])
+    cr = image(data, cb[4], y[2])
+    if cr[4] != len(data):
         raise Refused(14)
     if not (1 <= y[0] <= 8192 and 1 <= y[1] <= 8192):
         raise Refused(2)
     across, down = ratio(y[0], cb[0], cr[0]), ratio(y[1], cb[1], cr[1])
-    return [y[0], y[1], across, down, cb[0], cb[1], y[2], cb[2], cr[2]]
+    return [y[0], y[1], across, down, cb[0], cb[1], wide(y[2]), y[2], y[3], cb[3], cr[3]]
 
 
 def answer(data):

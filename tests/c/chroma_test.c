@@ -702,6 +702,40 @@ static void test_comments(void) {
     end_slices();
 }
 
+/* Samples of two bytes stand the high one first, and one maxval serves all three images. */
+static void test_deep_pictures(void) {
+    static const char text[] = "P5 1 1 4095\n\010\000P5 1 1 4095\n\010\000P5 1 1 4095\n\010\000";
+    static const char ppm[] = "P6\n1 1\n255\n\200\200\200";
+    size_t n = sizeof text - 1, len = sizeof ppm - 1;
+    uint8_t *input = lend_bytes(n);
+    float *scratch = lend_floats(72);
+    uint8_t *out = lend_bytes(len);
+    ChromaWritten r;
+
+    memcpy(input, text, n);
+    r = chroma_picture(input, n - 1, scratch, 72, out, len);
+    SAME(r.refusal, 15);
+    input[38] = '4'; /* the third maxval is 4094 where it was 4095; the header is met before its missing row */
+    r = chroma_picture(input, n - 1, scratch, 72, out, len);
+    SAME(r.refusal, 14);
+    CHECK(untouched(out, len));
+    CHECK(untouched(scratch, 4 * 72));
+    memcpy(input, "P5 1 1 65536\n", 13);
+    r = chroma_picture(input, n, scratch, 72, out, len);
+    SAME(r.refusal, 14);
+    memcpy(input, "P5 1 1 00000\n", 13);
+    r = chroma_picture(input, n, scratch, 72, out, len);
+    SAME(r.refusal, 14);
+
+    memcpy(input, text, n);
+    r = chroma_picture(input, n, scratch, 72, out, len);
+    SAME(r.refusal, 0);
+    SAME(r.len, len);
+    CHECK(memcmp(out, ppm, len) == 0);
+    CHECK(memcmp(input, text, n) == 0);
+    end_slices();
+}
+
 /* The sizes that the header states suffice for the largest pictures. */
 static void test_largest_pictures(void) {
     static const size_t pictures[][3] = {{128, 127, 1}, {1, 8192, 1}, {2, 8148, 1}, {128, 340, 4}};
@@ -1037,6 +1071,7 @@ int main(void) {
     test_fill_row();
     test_picture();
     test_comments();
+    test_deep_pictures();
     test_largest_pictures();
     test_bits_of_reader();
     test_bits_of_planes();

@@ -209,6 +209,7 @@ static void program(void) {
     for (size_t i = w.len; i < sizeof out; i++) {
         check(out[i] == 0xA5, "written behind the picture");
     }
+    check(memcmp(input, next, n) == 0, "an input that was changed");
     free(input);
 }
 

@@ -183,15 +183,19 @@ pub fn fixed_pixel(y: u32, cb: u32, cr: u32) -> Result<[u8; 3], Refusal> {
     ffi::fixed_pixel(y, cb, cr)
 }
 
-/// Three PGM images one after another (Y, Cb, Cr; maxval 255, width at most 128, 49,152 bytes in
-/// all) as a PPM, guided and exact. Between `P5` and the maxval a comment, from `#` through the next
-/// CR or LF, counts as whitespace. Refusals 14 and 15 as they are met, then 2 and 5.
+/// Three PGM images one after another (Y, Cb, Cr; width at most 128, 49,152 bytes in all) as a PPM of
+/// 8 bits, guided and exact. The maxval is any from 1 to 65,535, the same in all three; above 255 a
+/// sample is two bytes, the high byte first (in planes it is the low one). Between `P5` and the maxval a
+/// comment, from `#` through the next CR or LF, counts as whitespace. Refusals 14 and 15 as they are
+/// met, then 2 and 5.
 ///
 /// ```
 /// let input = b"P5 1 1 255\n\xe6P5 1 1 255\n\x03P5 1 1 255\n\x80";
 /// assert_eq!(chroma::ppm(input).unwrap(), b"P6\n1 1\n255\n\xe6\xff\x09");
 /// let scanned = b"P5\n# flatbed\n1 1 255\n\xe6P5 1 1 255\n\x03P5 1 1 255\n\x80";
 /// assert_eq!(chroma::ppm(scanned), chroma::ppm(input));
+/// let deep = b"P5 1 1 4095\n\x08\0P5 1 1 4095\n\x08\0P5 1 1 4095\n\x08\0";
+/// assert_eq!(chroma::ppm(deep).unwrap(), b"P6\n1 1\n255\n\x80\x80\x80");
 /// assert_eq!(chroma::ppm(b"P4"), Err(chroma::Refusal::BadHeader));
 /// ```
 pub fn ppm(input: &[u8]) -> Result<Vec<u8>, Refusal> {

@@ -60,7 +60,8 @@ pub enum Refusal {
     /// Luma or whole chroma over 65,535, chroma in 256ths over 16,776,960, or maxval outside
     /// 1..=65,535.
     BadPixel,
-    /// A PGM header that is not one, or bytes left over.
+    /// A PGM header that is not one, a maxval outside 1..=65,535 or not that of the first image, or
+    /// bytes left over.
     BadHeader,
     /// The size limits of [`ppm`](crate::ppm) passed, or rows missing.
     TooLarge,

@@ -230,3 +230,23 @@ fn co_sited_pictures_are_for_linear_calls() {
         }
     }
 }
+
+#[test]
+fn a_picture_of_two_byte_samples() {
+    let image = |maxval: u32, sample: [u8; 2]| {
+        let mut bytes = format!("P5 1 1 {maxval}\n").into_bytes();
+        bytes.extend(sample);
+        bytes
+    };
+    let grey = image(4_095, [8, 0]);
+    let whole = [grey.clone(), grey.clone(), grey.clone()].concat();
+    assert_eq!(chroma::ppm(&whole).unwrap(), b"P6\n1 1\n255\n\x80\x80\x80");
+    assert_eq!(
+        chroma::ppm(&whole[..whole.len() - 1]).unwrap_err().number(),
+        15
+    );
+    for maxval in [0, 4_094, 65_536] {
+        let unequal = [grey.clone(), grey.clone(), image(maxval, [8, 0])].concat();
+        assert_eq!(chroma::ppm(&unequal).unwrap_err().number(), 14);
+    }
+}

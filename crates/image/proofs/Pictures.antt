@@ -18,7 +18,7 @@ unfolding inside
 inside-is w h f x y k l = rw (lt-ltb x w k, lt-ltb y h l) refl
 
 -- samples that agree inside the picture make the same picture, whatever stands in padding and surplus
-inside-same : (w h : ℕ) (f g : ℕ → ℕ → ℕ) → ((x y : ℕ) → x < w → y < h → f y x ≡ g y x) → (x y : ℕ) → inside w h f y x ≡ inside w h g y x
+pub inside-same : (w h : ℕ) (f g : ℕ → ℕ → ℕ) → ((x y : ℕ) → x < w → y < h → f y x ≡ g y x) → (x y : ℕ) → inside w h f y x ≡ inside w h g y x
 unfolding inside
 inside-same w h f g e x y = go (ltb x w) (ltb-true x w) (ltb y h) (ltb-true y h)
   where

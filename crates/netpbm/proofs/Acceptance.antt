@@ -1,8 +1,8 @@
--- What an input that is read has: a layout that passes refusals 2 to 5, and three planes whose rows lie inside the input.
+-- What an input that is read has: a layout that passes refusals 2 to 5, and three planes whose rows lie inside the input (`Taken`).
 -- None of the reading's tests applied, so each image lies inside (`image-inside`) and each ratio fits (`ratio-fits`). The step that is
--- in no test is that Cr's rows end inside by Cb's sides: both chroma images fit the same ratio (`same-sides`).
+-- in no test is that Cr's rows end inside by Cb's sides: both chroma images fit the same ratio (`same-sides`) and have the same maxval.
 use mathlib.Core.Path.{_≡_, refl, sym, _∙_}
-use mathlib.Core.Bool.{true, false}
+use mathlib.Core.Bool.{Bool, true, false, _&&_, _||_, not, cond}
 use mathlib.Core.List.{List, _++_}
 use Prim.Native.Nat.{ℕ, _+_, _*_, _≤_}
 use native.Mathlib.Omega.{arith}
@@ -12,27 +12,19 @@ use borrow.Author.Tests.{ltb-false, le-ltb, eq-eqb, eqb-false}
 use Rattle.laws.specs.declared.answers.Answer.{Answer}
 use Rattle.laws.specs.declared.answers.Answer.the-variants.{Accepted, Refused as Turned}
 use Rattle.laws.specs.Refusals.{first}
+use Rattle.laws.specs.Numbers.{outsideOf}
 use Rattle.laws.proofs.Refusals.{Failed, accepted-failed, failed-accepted, failed-both}
 use Rattle.image.specs.declared.layout.Layout.{Layout}
-use Rattle.image.specs.Tests.{divCeil, badSize, badRatio, badSamples, badChroma, badSiting, layoutTests}
+use Rattle.image.specs.Tests.{divCeil, badSize, badRatio, mostOf, badSamples, badChroma, badSiting, layoutTests}
 use Rattle.image.proofs.Layouts.{neither}
 use Rattle.netpbm.specs.declared.reading.Reading.the-variants.{Read}
-use Rattle.netpbm.specs.Images.{widthOf, heightOf, rowsAt, imageEnd, imageTests}
+use Rattle.netpbm.specs.Bytes.{bigOf}
+use Rattle.netpbm.specs.Images.{widthOf, heightOf, maxvalOf, rowsAt, sampleBytes, rowBytes, imageEnd, imageSample, imageTests}
 use Rattle.netpbm.specs.Reading.{cbAt, crAt, inputLayout, noRatio, imagesTests, wholeTests, readingTests}
 use Rattle.netpbm.specs.Inner.Reading.{pickReading, readingOf}
-use Rattle.netpbm.proofs.Fields.{ImageInside, image-inside}
+use Rattle.netpbm.specs.Inner.Taken.{Taken}
+use Rattle.netpbm.proofs.Fields.{ImageInside, image-inside, rows-behind}
 use Rattle.netpbm.proofs.Ratios.{Fits, ratio-fits}
-
-pub record Taken (s : List ℕ) (l : Layout) (y cb cr : ℕ) : Type 0 where
-  pub short : length s ≤ 49152
-  pub passes : first (layoutTests false l) ≡ Accepted
-  pub centred : badSiting l ≡ false
-  pub width : l .w ≤ 128
-  pub bytes : l .«sample_bytes» ≡ 1
-  pub maxval : l .maxval ≡ 255
-  pub y-rows : y + l .w * l .h ≤ length s
-  pub cb-rows : cb + l .cw * l .ch ≤ length s
-  pub cr-rows : cr + l .cw * l .ch ≤ length s
 
 module _ (s : List ℕ) (a : first (readingTests s) ≡ Accepted) where
   short-is : length s ≤ 49152
@@ -80,8 +72,15 @@ module _ (s : List ℕ) (a : first (readingTests s) ≡ Accepted) where
       rw (a, b, c, d) refl
 
   samples-passed : badSamples false (inputLayout s) ≡ false
-  unfolding badSamples inputLayout
-  samples-passed = refl
+  unfolding badSamples inputLayout sampleBytes
+  samples-passed = go (ltb 255 m) (ltb-false 255 m)
+    where
+      m : ℕ
+      m = maxvalOf s 0
+
+      go : (t : Bool) → (t ≡ false → m ≤ 255) → ((outsideOf 1 2 (cond t 2 1) || outsideOf 1 (mostOf (cond t 2 1)) m) || (false && not (eqb m 255))) ≡ false
+      go true f = rw (le-ltb m 1 (three .0 .maxval-some), le-ltb 65535 m (three .0 .maxval-most)) refl
+      go false f = rw (le-ltb m 1 (three .0 .maxval-some), le-ltb 255 m (f refl)) refl
 
   chroma-passed : badChroma (inputLayout s) ≡ false
   unfolding badChroma
@@ -94,23 +93,42 @@ module _ (s : List ℕ) (a : first (readingTests s) ≡ Accepted) where
   unfolding layoutTests
   passed = failed-accepted (layoutTests false (inputLayout s)) (size-passed, (ratio-passed, (samples-passed, (chroma-passed, tt))))
 
+  width-is : inputLayout s .w ≤ 128
+  unfolding inputLayout
+  width-is = three .0 .width
+
   -- the Cr image has the sides of the Cb image
   same-sides : (widthOf s (crAt s) ≡ inputLayout s .cw) × (heightOf s (crAt s) ≡ inputLayout s .ch)
   same-sides = (across .other ∙ sym (across .one), down .other ∙ sym (down .one))
 
+  -- the rows of the three images, by the layout's own numbers
+  luma-rows : rowBytes s 0 ≡ inputLayout s .w * inputLayout s .h * inputLayout s .«sample_bytes»
+  unfolding rowBytes inputLayout
+  luma-rows = refl
+
+  cb-rows-are : rowBytes s (cbAt s) ≡ inputLayout s .cw * inputLayout s .ch * inputLayout s .«sample_bytes»
+  unfolding rowBytes inputLayout
+  cb-rows-are = rw (three .1 .0 .maxval-same) refl
+
+  cr-rows-are : rowBytes s (crAt s) ≡ inputLayout s .cw * inputLayout s .ch * inputLayout s .«sample_bytes»
+  unfolding rowBytes inputLayout
+  cr-rows-are = rw (three .1 .1 .maxval-same, same-sides .0, same-sides .1) refl
+
   accepted-taken : Taken s (inputLayout s) (rowsAt s 0) (rowsAt s (cbAt s)) (rowsAt s (crAt s))
-  unfolding inputLayout imageEnd badSiting
-  accepted-taken = record {
-    short = short-is;
-    passes = passed;
-    centred = refl;
-    width = three .0 .width;
-    bytes = refl;
-    maxval = refl;
-    y-rows = three .0 .ends;
-    cb-rows = three .1 .0 .ends;
-    cr-rows = rw (sym (same-sides .0), sym (same-sides .1)) (three .1 .1 .ends);
-  }
+  unfolding imageEnd cbAt crAt badSiting inputLayout
+  accepted-taken =
+      let a = luma-rows in
+      let b = cb-rows-are in
+      let c = cr-rows-are in
+      record {
+        short = short-is;
+        passes = passed;
+        centred = refl;
+        width = width-is;
+        y-rows = omega (arith, rows-behind s (cbAt s));
+        cb-rows = omega (arith, rows-behind s (crAt s));
+        cr-rows = let e = three .1 .1 .ends in omega arith;
+      }
 
 -- ---- from what was read
 
@@ -133,3 +151,20 @@ read-accepted s l y cb cr e = go (first (readingTests s)) refl e
 -- it has all that `Taken` says
 pub taken : (s : List ℕ) (l : Layout) (y cb cr : ℕ) → readingOf s ≡ Read l y cb cr → Taken s l y cb cr
 taken s l y cb cr e = let r = read-accepted s l y cb cr e in rw (r .layout-is, r .y-is, r .cb-is, r .cr-is) (accepted-taken s (r .passed))
+
+-- the samples of the three images by the layout's own numbers and by where their rows begin: one maxval and the layout's sides serve all three
+pub record SamplesAre (s : List ℕ) (l : Layout) (y cb cr : ℕ) : Type 0 where
+  pub luma : (j i : ℕ) → imageSample s 0 j i ≡ bigOf (l .«sample_bytes») s (y + (j * l .w + i) * l .«sample_bytes»)
+  pub blue : (j i : ℕ) → imageSample s (cbAt s) j i ≡ bigOf (l .«sample_bytes») s (cb + (j * l .cw + i) * l .«sample_bytes»)
+  pub red : (j i : ℕ) → imageSample s (crAt s) j i ≡ bigOf (l .«sample_bytes») s (cr + (j * l .cw + i) * l .«sample_bytes»)
+
+accepted-samples : (s : List ℕ) → first (readingTests s) ≡ Accepted → SamplesAre s (inputLayout s) (rowsAt s 0) (rowsAt s (cbAt s)) (rowsAt s (crAt s))
+unfolding imageSample inputLayout
+accepted-samples s a = record {
+  luma = λ j i. refl;
+  blue = λ j i. rw (three s a .1 .0 .maxval-same) refl;
+  red = λ j i. rw (three s a .1 .1 .maxval-same, same-sides s a .0) refl;
+}
+
+pub samples-are : (s : List ℕ) (l : Layout) (y cb cr : ℕ) → ReadAccepted s l y cb cr → SamplesAre s l y cb cr
+samples-are s l y cb cr r = rw (r .layout-is, r .y-is, r .cb-is, r .cr-is) (accepted-samples s (r .passed))

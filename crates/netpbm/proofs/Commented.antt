@@ -6,7 +6,7 @@ use mathlib.Core.Path.{_≡_, refl, sym, ap, subst, _∙_}
 use mathlib.Core.Logic.{inl, inr}
 use mathlib.Core.Bool.{Bool, true, false}
 use mathlib.Core.List.{List, [], _∷_, _++_, append-assoc}
-use Prim.Native.Nat.{ℕ, suc, _+_, _-_, _*_, _≤_, _<_}
+use Prim.Native.Nat.{ℕ, suc, _+_, _-_, _≤_, _<_}
 use native.Mathlib.Omega.{arith}
 use lib.Dec.{ltb}
 use lib.ListN.{length, getD, drop, length-append, length-drop}
@@ -15,7 +15,7 @@ use borrow.Author.Tests.{ltb-true, ltb-false, lt-ltb, le-ltb}
 use Rattle.laws.specs.Refusals.{first}
 use Rattle.netpbm.specs.Ascii.{isBlank}
 use Rattle.netpbm.specs.Bytes.{hasBlank}
-use Rattle.netpbm.specs.Images.{hasMagic, hasNumber, fieldOf, fieldEnd, widthOf, widthEnd, heightOf, heightEnd, maxvalOf, maxvalEnd, rowsAt, imageEnd, imageTests}
+use Rattle.netpbm.specs.Images.{hasMagic, hasNumber, fieldOf, fieldEnd, widthOf, widthEnd, heightOf, heightEnd, maxvalOf, maxvalEnd, rowsAt, rowBytes, imageEnd, badMaxval, imageTests}
 use Rattle.netpbm.specs.Reading.{cbAt, crAt, inputLayout, imagesTests, wholeTests, readingTests}
 use Rattle.netpbm.specs.Comments.{allSpace, BeforeNumber, InHeader, Commented, SameRows, ReadAlike}
 use Rattle.netpbm.proofs.Comments.{blank-all, comment-all}
@@ -33,11 +33,13 @@ left-behind s p t q e = sym (length-drop p s) ∙ ap length e ∙ length-drop q 
 
 -- ---- one image
 
--- the image of s at `at` is turned down as that of t at `to` is, and has the same sides and rows
+-- the image of s at `at` is turned down as that of t at `to` is, where the first images have the same maxval, and has the same sides, maxval
+-- and rows
 record Image (s : List ℕ) (at : ℕ) (t : List ℕ) (to : ℕ) : Type 0 where
-  tests : imageTests s at ≡ imageTests t to
+  tests : maxvalOf s 0 ≡ maxvalOf t 0 → imageTests s at ≡ imageTests t to
   width : widthOf s at ≡ widthOf t to
   height : heightOf s at ≡ heightOf t to
+  maxval : maxvalOf s at ≡ maxvalOf t to
   rows : SameRows s at t to
 
 -- the magic and the three numbers are the same
@@ -60,10 +62,14 @@ module _ {s : List ℕ} {at : ℕ} {t : List ℕ} {to : ℕ} (h : Header s at t 
   unfolding maxvalOf
   maxval-same = h .maxval .value
 
+  row-bytes-same : rowBytes s at ≡ rowBytes t to
+  unfolding rowBytes
+  row-bytes-same = rw (width-same, height-same, maxval-same) refl
+
   -- with what stands behind the header
-  tests-same : hasBlank s (maxvalEnd s at) ≡ hasBlank t (maxvalEnd t to) → ltb (length s - rowsAt s at) (widthOf s at * heightOf s at) ≡ ltb (length t - rowsAt t to) (widthOf t to * heightOf t to) → imageTests s at ≡ imageTests t to
-  unfolding imageTests
-  tests-same b r = rw (h .magic, h .width .number, h .height .number, h .maxval .number, r, b, width-same, maxval-same) refl
+  tests-same : hasBlank s (maxvalEnd s at) ≡ hasBlank t (maxvalEnd t to) → ltb (length s - rowsAt s at) (rowBytes s at) ≡ ltb (length t - rowsAt t to) (rowBytes t to) → maxvalOf s 0 ≡ maxvalOf t 0 → imageTests s at ≡ imageTests t to
+  unfolding imageTests badMaxval
+  tests-same b r m = rw (h .magic, h .width .number, h .height .number, h .maxval .number, r, b, width-same, maxval-same, m) refl
 
   -- the same bytes stand behind the header
   image-of : drop (maxvalEnd s at) s ≡ drop (maxvalEnd t to) t → Image s at t to × (drop (imageEnd s at) s ≡ drop (imageEnd t to) t)
@@ -72,14 +78,15 @@ module _ {s : List ℕ} {at : ℕ} {t : List ℕ} {to : ℕ} (h : Header s at t 
       let b : getD s (maxvalEnd s at) 0 ≡ getD t (maxvalEnd t to) 0 = ap (λ (k : ℕ). getD s k 0) (omega arith) ∙ byte-behind s (maxvalEnd s at) t (maxvalEnd t to) e 0 ∙ ap (λ (k : ℕ). getD t k 0) (omega arith) in
       let d : drop (maxvalEnd s at + 1) s ≡ drop (maxvalEnd t to + 1) t = drop-behind s (maxvalEnd s at) t (maxvalEnd t to) e 1 in
       let n = left-behind s (maxvalEnd s at + 1) t (maxvalEnd t to + 1) d in
-      let a : widthOf s at * heightOf s at ≡ widthOf t to * heightOf t to = rw (width-same, height-same) refl in (
+      let a = row-bytes-same in (
         record {
           tests = tests-same (ap isBlank b) (rw (n, a) refl);
           width = width-same;
           height = height-same;
+          maxval = maxval-same;
           rows = λ i l. byte-behind s (maxvalEnd s at + 1) t (maxvalEnd t to + 1) d i;
         },
-        ap (λ (k : ℕ). drop (maxvalEnd s at + 1 + k) s) a ∙ drop-behind s (maxvalEnd s at + 1) t (maxvalEnd t to + 1) d (widthOf t to * heightOf t to),
+        ap (λ (k : ℕ). drop (maxvalEnd s at + 1 + k) s) a ∙ drop-behind s (maxvalEnd s at + 1) t (maxvalEnd t to + 1) d (rowBytes t to),
       )
 
 -- an image behind the place
@@ -144,19 +151,20 @@ module _ {s t front : List ℕ} (k : Replaced s t front) where
       let m = maxval-front at (omega arith) in
       let g : Header s at t at = record { magic = magic-front at (omega arith); width = w .0; height = h .0; maxval = m .0 } in
       let e : maxvalEnd s at ≡ maxvalEnd t at = m .1 in
-      let a : widthOf s at * heightOf s at ≡ widthOf t at * heightOf t at = rw (width-same g, height-same g) refl in
+      let a = row-bytes-same g in
       let b : getD s (maxvalEnd s at) 0 ≡ getD t (maxvalEnd t at) 0 = k .same (maxvalEnd s at) (omega arith) ∙ ap (λ (n : ℕ). getD t n 0) e in
       let u = k .s-least in
       let v = k .t-least in
-      let r : ltb (length s - (maxvalEnd s at + 1)) (widthOf s at * heightOf s at) ≡ false = le-ltb (length s - (maxvalEnd s at + 1)) (widthOf s at * heightOf s at) (omega arith) in
-      let q : ltb (length t - (maxvalEnd t at + 1)) (widthOf t at * heightOf t at) ≡ false = le-ltb (length t - (maxvalEnd t at + 1)) (widthOf t at * heightOf t at) (omega arith) in (
+      let r : ltb (length s - (maxvalEnd s at + 1)) (rowBytes s at) ≡ false = le-ltb (length s - (maxvalEnd s at + 1)) (rowBytes s at) (omega arith) in
+      let q : ltb (length t - (maxvalEnd t at + 1)) (rowBytes t at) ≡ false = le-ltb (length t - (maxvalEnd t at + 1)) (rowBytes t at) (omega arith) in (
         record {
           tests = tests-same g (ap isBlank b) (r ∙ sym q);
           width = width-same g;
           height = height-same g;
+          maxval = maxval-same g;
           rows = λ i n. k .same (maxvalEnd s at + 1 + i) (omega arith) ∙ ap (λ (c : ℕ). getD t (c + 1 + i) 0) e;
         },
-        ap (λ (n : ℕ). n + 1 + widthOf s at * heightOf s at) e ∙ ap (λ (n : ℕ). maxvalEnd t at + 1 + n) a,
+        ap (λ (n : ℕ). n + 1 + rowBytes s at) e ∙ ap (λ (n : ℕ). maxvalEnd t at + 1 + n) a,
       )
 
   -- ---- the image that holds the place
@@ -262,11 +270,11 @@ over-same a b n m e = go (ltb a n) (ltb-true a n) (ltb-false a n)
 module _ {s t : List ℕ} (h : Three s t) where
   layout-same : inputLayout s ≡ inputLayout t
   unfolding inputLayout
-  layout-same = rw (h .y .width, h .y .height, h .cb .width, h .cb .height, h .cr .width, h .cr .height) refl
+  layout-same = rw (h .y .width, h .y .height, h .cb .width, h .cb .height, h .cr .width, h .cr .height, h .y .maxval) refl
 
   images-same : imagesTests s ≡ imagesTests t
   unfolding imagesTests
-  images-same = rw (h .y .tests, h .cb .tests, h .cr .tests) refl
+  images-same = let m = h .y .maxval in rw (h .y .tests m, h .cb .tests m, h .cr .tests m) refl
 
   whole-same : wholeTests s ≡ wholeTests t
   unfolding wholeTests

@@ -9,6 +9,7 @@ pub mod Numbers
 pub mod Products
 pub mod Ratios
 pub mod Runs
+pub mod SingleBytes
 pub mod Whole
 pub mod Worked
 pub mod Written

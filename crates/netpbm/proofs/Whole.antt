@@ -22,7 +22,7 @@ use Rattle.image.proofs.Layouts.{neither, within}
 use Rattle.netpbm.specs.declared.pgm.Image.{Image}
 use Rattle.netpbm.specs.declared.reading.Reading.{Reading}
 use Rattle.netpbm.specs.declared.reading.Reading.the-variants.{Read, Refused}
-use Rattle.netpbm.specs.Images.{widthOf, heightOf, rowsAt, imageEnd, imageTests}
+use Rattle.netpbm.specs.Images.{widthOf, heightOf, maxvalOf, rowsAt, imageEnd, imageTests}
 use Rattle.netpbm.specs.Reading.{cbAt, crAt, ratioFor, inputLayout, noRatio, imagesTests, wholeTests, readingTests}
 use Rattle.netpbm.specs.Inner.Reading.{pickReading, readingOf}
 use Rattle.netpbm.specs.Inner.HeldInput.{layoutHeld, answerHeld}
@@ -38,14 +38,21 @@ answer-is : (s : List ℕ) (at : ℕ) → imageHeld s at .answer ≡ first (imag
 unfolding imageHeld
 answer-is s at = refl
 
--- an image that is accepted where it stands ends inside
-pub held-fits : (s : List ℕ) (at : ℕ) (b : Image) → length s ≤ 49152 → b ≡ imageHeld s at → accepted (b .answer) ≡ true → ImageInside s at × ((b .end ≡ imageEnd s at) × (b .end ≤ length s))
+maxval-is : (s : List ℕ) (at : ℕ) → imageHeld s at .maxval ≡ held (maxvalOf s at)
+unfolding imageHeld
+maxval-is s at = refl
+
+pub first-most : (s : List ℕ) (y : Image) → y ≡ imageHeld s 0 → y .maxval ≤ 65536
+first-most s y e = omega (arith, ap (λ (i : Image). i .maxval) e ∙ maxval-is s 0)
+
+-- an image that is accepted where it stands ends inside, and its maxval is the first one's
+pub held-fits : (s : List ℕ) (at : ℕ) (b : Image) → length s ≤ 49152 → b ≡ imageHeld s at → accepted (b .answer) ≡ true → ImageInside s at × ((b .end ≡ imageEnd s at) × ((b .end ≤ length s) × (b .maxval ≡ held (maxvalOf s 0))))
 held-fits s at b l e a =
     let q : b .answer ≡ first (imageTests s at) = ap (λ (i : Image). i .answer) e ∙ answer-is s at in
     let t = image-inside s at l (sym q ∙ accepted-is (b .answer) a) in
     let d : b .end ≡ imageEnd s at = ap (λ (i : Image). i .end) e ∙ t .held-end in
     let u = t .ends in
-    (t, (d, omega arith))
+    (t, (d, (omega arith, ap (λ (i : Image). i .maxval) e ∙ maxval-is s at ∙ ap held (sym (t .maxval-same)))))
 
 -- b is the answer to the tests ts, and ends at `at` where it is accepted: what stands behind it answers for both
 pub record Behind (s : List ℕ) (b : Image) (ts : List Test) (at : ℕ) (r : Image) : Type 0 where
@@ -99,14 +106,18 @@ record Places (s : List ℕ) (y cb cr : Image) : Type 0 where
   cb-is : cb ≡ imageHeld s (cbAt s)
   cr-is : cr ≡ imageHeld s (crAt s)
   end-is : cr .end ≡ imageEnd s (crAt s)
+  maxval-most : maxvalOf s 0 ≤ 65535
 
 places : {s : List ℕ} {y cb cr : Image} → length s ≤ 49152 → Three s y cb cr → accepted (cr .answer) ≡ true → Places s y cb cr
-places {s} {y} {cb} {cr} l t a = record {
-  y-is = t .first-is;
-  cb-is = t .second .is (t .third .before a);
-  cr-is = t .third .is a;
-  end-is = held-fits s (crAt s) cr l (t .third .is a) a .1 .0;
-}
+places {s} {y} {cb} {cr} l t a =
+    let f = held-fits s (crAt s) cr l (t .third .is a) a in
+    record {
+      y-is = t .first-is;
+      cb-is = t .second .is (t .third .before a);
+      cr-is = t .third .is a;
+      end-is = f .1 .0;
+      maxval-most = omega (arith, f .0 .maxval-same, f .0 .maxval-most);
+    }
 
 -- ---- the tests behind the images
 
@@ -171,7 +182,7 @@ module _ {s : List ℕ} {y cb cr : Image} (p : Places s y cb cr) where
       ap (λ (k : ℕ). first ((ltb k (length s), 14) ∷ (badSize (layoutHeld y cb cr), 2) ∷ (noRatio (layoutHeld y cb cr), 5) ∷ [])) (p .end-is)
       ∙ tests-same (ltb (imageEnd s (crAt s)) (length s)) (badSize (layoutHeld y cb cr)) (badSize (inputLayout s)) (noRatio (layoutHeld y cb cr)) (noRatio (inputLayout s)) size-same none-same
 
-  -- a layout that passes these tests is held as it is
+  -- a layout that passes these tests, of images that are accepted, is held as it is
   layout-same : first (wholeTests s) ≡ Accepted → layoutHeld y cb cr ≡ inputLayout s
   unfolding wholeTests layoutHeld inputLayout noRatio
   layout-same e =
@@ -187,7 +198,9 @@ module _ {s : List ℕ} {y cb cr : Image} (p : Places s y cb cr) where
       let yh : y .h ≡ heightOf s 0 = y-sides .h ∙ small (heightOf s 0) (k .1) in
       let cw : cb .w ≡ widthOf s (cbAt s) = cb-sides .w ∙ small (widthOf s (cbAt s)) (omega arith) in
       let ch : cb .h ≡ heightOf s (cbAt s) = cb-sides .h ∙ small (heightOf s (cbAt s)) (omega arith) in
-      rw (ratio-w b, ratio-h b, yw, yh, cw, ch) refl
+      let q = p .maxval-most in
+      let m : y .maxval ≡ maxvalOf s 0 = ap (λ (i : Image). i .maxval) (p .y-is) ∙ maxval-is s 0 ∙ omega arith in
+      rw (ratio-w b, ratio-h b, yw, yh, cw, ch, m) refl
     where
       small : (n : ℕ) → n ≤ 8192 → held n ≡ n
       small n l = omega arith

@@ -1,9 +1,9 @@
--- What stands at a place of the input, whitespace with its comments or digits as Ascii defines them, and the number that digits are.
--- Definitions only.
+-- What stands at a place of the input, whitespace with its comments or digits as Ascii defines them, the number that digits are, and the
+-- sample that bytes are. Definitions only.
 -- Past the end of a list `getD` gives 0, which is neither whitespace nor a mark nor a digit.
 use mathlib.Core.Bool.{Bool, false, _||_, not, cond}
 use mathlib.Core.List.{List, [], _∷_}
-use Prim.Native.Nat.{ℕ, suc, _+_, _-_, _*_}
+use Prim.Native.Nat.{ℕ, zero, suc, _+_, _-_, _*_}
 use lib.ListN.{getD, take, drop}
 use Rattle.netpbm.specs.Ascii.{isBlank, isMark, endsComment, isDigit}
 
@@ -59,3 +59,8 @@ pastDigits s at = at + digitsAt s at
 -- the number that the digits from `at` on are, however many
 unfoldable pub numberAt : List ℕ → ℕ → ℕ
 numberAt s at = decimalOf 0 (take (digitsAt s at) (drop at s))
+
+-- the sample of b bytes that begins at `at`, "the high byte first"; two bytes 8 and 0 are 8 * 256 + 0, which is 2,048
+unfoldable pub bigOf : ℕ → List ℕ → ℕ → ℕ
+bigOf zero s at = 0
+bigOf (suc b) s at = bigOf b s at * 256 + getD s (at + b) 0

@@ -1,12 +1,13 @@
 -- One image of the input, whose magic stands at `at`: "each with the two bytes P5, whitespace, decimal width, height and maxval, one
 -- whitespace byte, then rows". Definitions only.
-use mathlib.Core.Bool.{Bool, _&&_, not}
+use mathlib.Core.Bool.{Bool, _&&_, _||_, not, cond}
 use mathlib.Core.List.{List, [], _∷_}
 use Prim.Native.Nat.{ℕ, _+_, _-_, _*_}
 use lib.Dec.{ltb, eqb}
 use lib.ListN.{length, getD}
 use Rattle.laws.specs.Refusals.{Test}
-use Rattle.netpbm.specs.Bytes.{hasBlank, hasSpace, hasDigit, pastSpaces, pastDigits, numberAt}
+use Rattle.laws.specs.Numbers.{outsideOf}
+use Rattle.netpbm.specs.Bytes.{hasBlank, hasSpace, hasDigit, pastSpaces, pastDigits, numberAt, bigOf}
 
 -- "the two bytes P5"
 unfoldable pub hasMagic : List ℕ → ℕ → Bool
@@ -47,11 +48,31 @@ maxvalEnd s at = fieldEnd s (heightEnd s at)
 unfoldable pub rowsAt : List ℕ → ℕ → ℕ
 rowsAt s at = maxvalEnd s at + 1
 
+-- ---- the rows, one right behind the other
+
+-- "Above 255 a sample is two bytes": how many bytes a sample has at this maxval
+unfoldable pub sampleBytes : ℕ → ℕ
+sampleBytes maxval = cond (ltb 255 maxval) 2 1
+
+-- how many bytes all rows have
+unfoldable pub rowBytes : List ℕ → ℕ → ℕ
+rowBytes s at = widthOf s at * heightOf s at * sampleBytes (maxvalOf s at)
+
 -- where the last row has ended, which is where the next image's magic stands
 unfoldable pub imageEnd : List ℕ → ℕ → ℕ
-imageEnd s at = rowsAt s at + widthOf s at * heightOf s at
+imageEnd s at = rowsAt s at + rowBytes s at
 
--- what can be wrong with the image, in the order in which it is met: 14, "header not as above", and 15, "program's size limits passed, or
+-- the sample of row y, column x
+unfoldable pub imageSample : List ℕ → ℕ → ℕ → ℕ → ℕ
+imageSample s at y x = let b = sampleBytes (maxvalOf s at) in bigOf b s (rowsAt s at + (y * widthOf s at + x) * b)
+
+-- ---- what can be wrong with it
+
+-- "any maxval from 1 to 65,535, the same in all three images": not so; the first image stands at 0
+unfoldable pub badMaxval : List ℕ → ℕ → Bool
+badMaxval s at = outsideOf 1 65535 (maxvalOf s at) || not (eqb (maxvalOf s 0) (maxvalOf s at))
+
+-- the tests, in the order in which they are met: 14, "header not as above", and 15, "program's size limits passed, or
 -- rows missing"; "a width past 128 as its digits end"
 unfoldable pub imageTests : List ℕ → ℕ → List Test
 imageTests s at =
@@ -60,7 +81,7 @@ imageTests s at =
     ∷ (ltb 128 (widthOf s at), 15)
     ∷ (not (hasNumber s (widthEnd s at)), 14)
     ∷ (not (hasNumber s (heightEnd s at)), 14)
-    ∷ (not (eqb (maxvalOf s at) 255), 14)
+    ∷ (badMaxval s at, 14)
     ∷ (not (hasBlank s (maxvalEnd s at)), 14)
-    ∷ (ltb (length s - rowsAt s at) (widthOf s at * heightOf s at), 15)
+    ∷ (ltb (length s - rowsAt s at) (rowBytes s at), 15)
     ∷ []

@@ -1,4 +1,5 @@
 pub mod Held
 pub mod HeldInput
 pub mod Reading
+pub mod Taken
 pub mod Texts

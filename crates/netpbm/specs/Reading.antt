@@ -8,7 +8,7 @@ use Rattle.laws.specs.Axes.{plain}
 use Rattle.laws.specs.Refusals.{Test}
 use Rattle.image.specs.declared.layout.Layout.{Layout}
 use Rattle.image.specs.Tests.{divCeil, badSize}
-use Rattle.netpbm.specs.Images.{widthOf, heightOf, imageEnd, imageTests}
+use Rattle.netpbm.specs.Images.{widthOf, heightOf, maxvalOf, sampleBytes, imageEnd, imageTests}
 
 -- where the three images stand: the first at 0, each other one where the one before has ended
 unfoldable pub cbAt : List ℕ → ℕ
@@ -32,7 +32,7 @@ smallest p r (suc k) = cond (p r) r (smallest p (suc r) k)
 unfoldable pub ratioFor : ℕ → ℕ → ℕ → ℕ
 ratioFor n a b = smallest (fitsBoth n a b) 1 4
 
--- the layout that the input's three images make: centred, as the program's guided fill takes it. "Maxval is 255 in all three", so a sample is one byte
+-- the layout that the input's three images make: centred, as the program's guided fill takes it. The maxval is "the same in all three", so that it is the first's
 unfoldable pub inputLayout : List ℕ → Layout
 inputLayout s = record {
   w = widthOf s 0;
@@ -43,8 +43,8 @@ inputLayout s = record {
   ch = heightOf s (cbAt s);
   across = plain;
   down = plain;
-  «sample_bytes» = 1;
-  maxval = 255;
+  «sample_bytes» = sampleBytes (maxvalOf s 0);
+  maxval = maxvalOf s 0;
 }
 
 -- "where none fits both chroma images"; a chroma side of 0 fits none, since a Y image with a side of 0 was answered by 2 before

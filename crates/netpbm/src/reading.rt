@@ -2,8 +2,8 @@
 ghost use mathlib.Core.Path.{_≡_};
 ghost use Rattle.netpbm.specs.Inner.Reading.{pickReading, readingOf};
 ghost use Rattle.netpbm.specs.Inner.HeldInput.{answerHeld};
+use crate::pgm::first_image;
 use crate::pgm::image_after;
-use crate::pgm::image_at;
 use crate::sizes::layout_of;
 use crate::sizes::no_ratio;
 use image::Layout;
@@ -47,7 +47,7 @@ pub fn read(input: &[u8]) -> Reading
     if Reading::LONGEST < input.len() {
         return Reading::Refused(15);
     }
-    let y = image_at(input, 0);
+    let y = first_image(input);
     let cb = image_after(input, y);
     let cr = image_after(input, cb);
     let layout = layout_of(y, cb, cr);

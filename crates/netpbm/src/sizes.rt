@@ -1,8 +1,10 @@
 // The layout that the sides of three images make, with the ratios that they fit.
 ghost use mathlib.Core.Path.{_≡_};
+ghost use Prim.Native.Nat.{_≤_};
 ghost use Rattle.netpbm.specs.Reading.{fitsBoth, ratioFor, noRatio};
 ghost use Rattle.netpbm.specs.Inner.HeldInput.{layoutHeld};
 use crate::pgm::Image;
+use crate::pgm::sample_bytes;
 use image::Layout;
 use laws::Axis;
 
@@ -28,8 +30,10 @@ fn ratio_for(n: usize, a: usize, b: usize) -> usize
     0
 }
 
-// Inner: the layout of three images. A ratio of 0 in it says that none fits, which `no_ratio` tests.
+// Inner: the layout of three images, with the first one's maxval, which is held as 65,536 at most and so fits a layout's type. A ratio of 0
+// in it says that none fits, which `no_ratio` tests.
 pub fn layout_of(y: Image, cb: Image, cr: Image) -> Layout
+    requires { ⌜ y .maxval ≤ 65536 ⌝ }
     ensures { λ r. ⌜ r ≡ layoutHeld y cb cr ⌝ }
 {
     let rh = ratio_for(y.w, cb.w, cr.w);
@@ -43,9 +47,8 @@ pub fn layout_of(y: Image, cb: Image, cr: Image) -> Layout
         ch: cb.h,
         across: Axis::PLAIN,
         down: Axis::PLAIN,
-        // A maxval of 255, which is `Image::MAXVAL`, makes samples of one byte.
-        sample_bytes: 1,
-        maxval: 255,
+        sample_bytes: sample_bytes(y.maxval),
+        maxval: y.maxval as u32,
     }
 }
 

@@ -17,8 +17,8 @@ use Rattle.fill.specs.Fill.{fillColour, pixelRows}
 use Rattle.netpbm.specs.declared.lines.Line.{Line}
 use Rattle.netpbm.specs.Texts.{lineOf}
 use Rattle.netpbm.specs.Lines.{ppmHeader}
-use Rattle.netpbm.specs.Reading.{inputLayout}
-use Rattle.picture.specs.Picture.{ppmLength, inputPicture, ppmOver}
+use Rattle.picture.specs.Picture.{ppmLength, ppmOver}
+use Rattle.picture.specs.Inner.Planes.{pictureFrom}
 use Rattle.picture.proofs.Readings.{to-end}
 
 -- ---- a line that holds a text, put to the front of out
@@ -72,7 +72,7 @@ module _ (p : Picture) (l : Layout) (q : p .layout ≡ l) (line : Line) (e : lin
       ∙ ap (λ (x : List ℕ). x ++ pixelRows (l .w) 3 (fillColour LumaGuided Exact p) 0 (l .h) (drop (length t) out)) a
       ∙ rw q refl
 
--- the layout of the input's picture
-pub picture-layout : (s : List ℕ) (l : Layout) → l ≡ inputLayout s → inputPicture s .layout ≡ l
+-- the layout of a picture that is made of planes
+pub picture-layout : (s : List ℕ) (l : Layout) (y cb cr : ℕ) → pictureFrom s l y cb cr .layout ≡ l
 unfolding pictureOf
-picture-layout s l e = sym e
+picture-layout s l y cb cr = refl

@@ -1,3 +1,4 @@
 pub mod Readings
+pub mod Reversals
 pub mod Fronts
 pub mod Rooms

@@ -1,10 +1,11 @@
--- What was read, against the definitions over the input, and why fill takes it.
--- `read-accepted` turns what the reading gave into the definitions. The hard step is `plane-holds`: rows one right behind the other inside
--- the input make a plane that isn't too short, since h rows of w bytes are (h - 1) strides and one row. Past it `fill` has nothing to refuse.
+-- What was read, against the definitions over the input, and why fill takes planes as it gives them.
+-- The hard step is `plane-holds`: rows one right behind the other inside
+-- a list make a plane that isn't too short, since h rows are (h - 1) strides and one row. Past it `fill` has nothing to refuse.
 use mathlib.Core.Path.{_≡_, refl, sym, ap, _∙_}
 use mathlib.Core.Bool.{true, false}
 use mathlib.Core.List.{List, [], _∷_}
 use Prim.Native.Nat.{ℕ, _+_, _-_, _*_, _≤_, _<_}
+use native.Mathlib.Nat.{mul-le-mul, mul-le-mul-left}
 use native.Mathlib.Omega.{arith}
 use lib.Dec.{ltb}
 use lib.ListN.{length, drop, take, length-drop}
@@ -16,7 +17,7 @@ use Rattle.laws.specs.declared.answers.Answer.the-variants.{Accepted, Refused a
 use Rattle.laws.specs.Refusals.{first, accepted}
 use Rattle.laws.proofs.Refusals.{accepted-failed, failed-accepted, passed-early, refused-early, refused-here, passed-over}
 use Rattle.image.specs.declared.layout.Layout.{Layout}
-use Rattle.image.specs.Picture.{Planes, shortPlane, badPlanes, Picture, pictureOf}
+use Rattle.image.specs.Picture.{Planes, shortPlane, badPlanes, pictureOf}
 use Rattle.image.specs.Tests.{badSiting, badPlane, layoutTests}
 use Rattle.image.specs.Inner.Tests.{Sound}
 use Rattle.image.proofs.Layouts.{sound}
@@ -29,23 +30,12 @@ use Rattle.netpbm.specs.declared.reading.Reading.the-variants.{Read, Refused}
 use Rattle.netpbm.specs.Images.{rowsAt}
 use Rattle.netpbm.specs.Reading.{cbAt, crAt, inputLayout, readingTests}
 use Rattle.netpbm.specs.Inner.Reading.{pickReading, readingOf}
-use Rattle.netpbm.proofs.Acceptance.{Taken, taken, ReadAccepted, read-accepted}
+use Rattle.netpbm.specs.Inner.Taken.{Taken}
+use Rattle.netpbm.proofs.Acceptance.{ReadAccepted}
 use Rattle.picture.specs.declared.Outcome.the-variants.{Written, Refused as Down}
-use Rattle.picture.specs.Picture.{inputPlanes, ppmLength, pictureTests, pickOutcome, inputPicture}
+use Rattle.picture.specs.Picture.{ppmLength, scratchAfter, pictureTests, pickOutcome}
+use Rattle.picture.specs.Inner.Planes.{planesFrom, pictureFrom}
 use Rattle.image.specs.Samples.{planeOf}
-
--- the three planes from their places on
-abbrev pub planesFrom : List ℕ → Layout → ℕ → ℕ → ℕ → Planes
-planesFrom s l y cb cr = record {
-  y = record { bytes = drop y s; stride = l .w };
-  cb = record { bytes = drop cb s; stride = l .cw };
-  cr = record { bytes = drop cr s; stride = l .cw };
-}
-
--- what was read has the planes of the definitions
-planes-are : {s : List ℕ} {l : Layout} {y cb cr : ℕ} → ReadAccepted s l y cb cr → planesFrom s l y cb cr ≡ inputPlanes s
-unfolding inputPlanes
-planes-are r = rw (r .layout-is, r .y-is, r .cb-is, r .cr-is) refl
 
 -- a number that the reading gives is that of the first of its tests that applies
 pub turned : (s : List ℕ) (n : ℕ) → readingOf s ≡ Refused n → first (readingTests s) ≡ Turned n
@@ -60,6 +50,10 @@ turned s n e = go (first (readingTests s)) e
 pub to-end : (s : List ℕ) (at : ℕ) → take (length s - at) (drop at s) ≡ drop at s
 to-end s at = take-all (length s - at) (drop at s) (let n = length-drop at s in omega arith)
 
+-- a list that is longer holds the same planes
+pub taken-longer : {s : List ℕ} {l : Layout} {y cb cr : ℕ} → Taken s l y cb cr → (t : List ℕ) → length s ≤ length t → length t ≤ 49152 → Taken t l y cb cr
+taken-longer r t k m = record { short = m; passes = r .passes; centred = r .centred; width = r .width; y-rows = r .y-rows; cb-rows = r .cb-rows; cr-rows = let c = r .cr-rows in omega arith }
+
 -- ---- fill takes it
 
 module _ {s : List ℕ} {l : Layout} {y cb cr : ℕ} (t : Taken s l y cb cr) where
@@ -69,28 +63,51 @@ module _ {s : List ℕ} {l : Layout} {y cb cr : ℕ} (t : Taken s l y cb cr) whe
   pub rows-inside : (y ≤ length s) × (cb ≤ length s) × (cr ≤ length s)
   rows-inside = let a = t .y-rows in let b = t .cb-rows in let c = t .cr-rows in (omega arith, omega arith, omega arith)
 
+  -- the planes have no more samples than bytes
   pub pixels-most : l .w * l .h ≤ 49152
-  pixels-most = let a = t .y-rows in let b = t .short in omega arith
+  pixels-most =
+      let a = t .y-rows in
+      let b = t .cb-rows in
+      let c = t .cr-rows in
+      let d = t .short in
+      let e = mul-le-mul-left (l .w * l .h) (layout-sound .bytes-some) in
+      omega arith
 
-  plane-holds : (at w h : ℕ) → 0 < h → at + w * h ≤ length s → shortPlane l w h (planeOf (drop at s) w) ≡ false
+  pub cells-most : l .cw * l .ch ≤ 49152
+  cells-most =
+      let c = t .cr-rows in
+      let d = t .short in
+      let e = mul-le-mul-left (l .cw * l .ch) (layout-sound .bytes-some) in
+      omega arith
+
+  pub strides-most : (l .w * l .«sample_bytes» ≤ 256) × (l .cw * l .«sample_bytes» ≤ 256)
+  strides-most =
+      let o = layout-sound in
+      let c : l .cw ≤ 128 = omega (arith, o .cw-most, t .width) in
+      (mul-le-mul (t .width) (o .bytes-most), mul-le-mul c (o .bytes-most))
+
+  plane-holds : (at w h : ℕ) → 0 < h → at + w * h * l .«sample_bytes» ≤ length s → shortPlane l w h (planeOf (drop at s) (w * l .«sample_bytes»)) ≡ false
   unfolding shortPlane badPlane
   plane-holds at w h p g =
       let n = length-drop at s in
-      let b = t .bytes in
-      let k : (h - 1) * w + w * 1 ≤ length s - at = long h p g in
-      rw (b, n, le-ltb w (w * 1) (omega arith), le-ltb (length s - at) ((h - 1) * w + w * 1) k) refl
+      let row = w * l .«sample_bytes» in
+      let k : (h - 1) * row + row ≤ length s - at = long h p g in
+      rw (n, le-ltb row row (omega arith), le-ltb (length s - at) ((h - 1) * row + row) k) refl
     where
-      long : (h : ℕ) → 0 < h → at + w * h ≤ length s → (h - 1) * w + w * 1 ≤ length s - at
+      long : (h : ℕ) → 0 < h → at + w * h * l .«sample_bytes» ≤ length s → (h - 1) * (w * l .«sample_bytes») + w * l .«sample_bytes» ≤ length s - at
       long h p g =
           let e : h ≡ (h - 1) + 1 = omega arith in
-          let f : w * h ≡ (h - 1) * w + w = ap (λ (k : ℕ). w * k) e ∙ omega arith in
+          let f : w * h * l .«sample_bytes» ≡ (h - 1) * (w * l .«sample_bytes») + w * l .«sample_bytes» = ap (λ (k : ℕ). w * k * l .«sample_bytes») e ∙ omega arith in
           omega arith
 
   planes-hold : badPlanes l (planesFrom s l y cb cr) ≡ false
   unfolding badPlanes
   planes-hold =
       let o = layout-sound in
-      rw (plane-holds y (l .w) (l .h) (o .h-some) (t .y-rows), plane-holds cb (l .cw) (l .ch) (o .ch-some) (t .cb-rows), plane-holds cr (l .cw) (l .ch) (o .ch-some) (t .cr-rows)) refl
+      let a = t .y-rows in
+      let b = t .cb-rows in
+      let c = t .cr-rows in
+      rw (plane-holds y (l .w) (l .h) (o .h-some) (omega arith), plane-holds cb (l .cw) (l .ch) (o .ch-some) (omega arith), plane-holds cr (l .cw) (l .ch) (o .ch-some) c) refl
 
   pub fill-takes : (scratch : List Float) (out : List ℕ) → scratchNeed l ≤ length scratch → l .w * l .h * 3 ≤ length out → first (fillTests (record { layout = l; planes = planesFrom s l y cb cr; upsampling = LumaGuided; kernel = Exact; size = 3; scratch = scratch; out = out })) ≡ Accepted
   unfolding fillTests
@@ -98,29 +115,28 @@ module _ {s : List ℕ} {l : Layout} {y cb cr : ℕ} (t : Taken s l y cb cr) whe
       passed-early (layoutTests false l) _ (ap accepted (t .passes))
       ∙ failed-accepted ((badSiting l, 16) ∷ (badPlanes l (planesFrom s l y cb cr), 7) ∷ (false, 8) ∷ (ltb (length scratch) (scratchNeed l), 9) ∷ (ltb (length out) (l .w * l .h * 3), 10) ∷ []) (t .centred, (planes-hold, (refl, (le-ltb _ _ g, (le-ltb _ _ h, tt)))))
 
--- what fill leaves, lent those parts of the input
-module _ (s : List ℕ) (l : Layout) (y cb cr : ℕ) (e : readingOf s ≡ Read l y cb cr) (scratch : List Float) (out : List ℕ) (g : scratchNeed l ≤ length scratch) (h : l .w * l .h * 3 ≤ length out) (a : Answer) (scratch' : List Float) (out' : List ℕ) where
+-- what fill leaves, lent those parts
+module _ (s : List ℕ) (l : Layout) (y cb cr : ℕ) (t : Taken s l y cb cr) (scratch : List Float) (out : List ℕ) (g : scratchNeed l ≤ length scratch) (h : l .w * l .h * 3 ≤ length out) (a : Answer) (scratch' : List Float) (out' : List ℕ) where
   abbrev Filled : Planes → Type 0
   Filled ps = FillGiven (record { layout = l; planes = ps; upsampling = LumaGuided; kernel = Exact; size = 3; scratch = scratch; out = out }) a scratch' out'
 
   from-parts : Filled (record {
-    y = record { bytes = take (length s - y) (drop y s); stride = l .w };
-    cb = record { bytes = take (length s - cb) (drop cb s); stride = l .cw };
-    cr = record { bytes = take (length s - cr) (drop cr s); stride = l .cw };
+    y = record { bytes = take (length s - y) (drop y s); stride = l .w * l .«sample_bytes» };
+    cb = record { bytes = take (length s - cb) (drop cb s); stride = l .cw * l .«sample_bytes» };
+    cr = record { bytes = take (length s - cr) (drop cr s); stride = l .cw * l .«sample_bytes» };
   }) → Filled (planesFrom s l y cb cr)
   from-parts f = rw (sym (to-end s y), sym (to-end s cb), sym (to-end s cr)) f
 
   pub filled : Filled (record {
-    y = record { bytes = take (length s - y) (drop y s); stride = l .w };
-    cb = record { bytes = take (length s - cb) (drop cb s); stride = l .cw };
-    cr = record { bytes = take (length s - cr) (drop cr s); stride = l .cw };
-  }) → (out' ≡ pixelRows (l .w) 3 (fillColour LumaGuided Exact (inputPicture s)) 0 (l .h) out) × (scratch' ≡ fillScratch LumaGuided l (inputPlanes s) 0 (l .h) scratch)
+    y = record { bytes = take (length s - y) (drop y s); stride = l .w * l .«sample_bytes» };
+    cb = record { bytes = take (length s - cb) (drop cb s); stride = l .cw * l .«sample_bytes» };
+    cr = record { bytes = take (length s - cr) (drop cr s); stride = l .cw * l .«sample_bytes» };
+  }) → (out' ≡ pixelRows (l .w) 3 (fillColour LumaGuided Exact (pictureFrom s l y cb cr)) 0 (l .h) out) × (scratch' ≡ scratchAfter (pictureFrom s l y cb cr) scratch)
+  unfolding scratchAfter fillScratch pictureOf
   filled f =
       let q = from-parts f in
-      let t = read-accepted s l y cb cr e in
-      let b : accepted a ≡ true = ap accepted (q .answers ∙ fill-takes (taken s l y cb cr e) scratch out g h) in
-      let c : pictureOf l (planesFrom s l y cb cr) ≡ inputPicture s = rw (sym (planes-are t), sym (t .layout-is)) refl in
-      (q .gives ∙ rw b (ap (λ (p : Picture). pixelRows (l .w) 3 (fillColour LumaGuided Exact p) 0 (l .h) out) c), q .scratches ∙ rw b (ap (λ (ps : Planes). fillScratch LumaGuided l ps 0 (l .h) scratch) (planes-are t)))
+      let b : accepted a ≡ true = ap accepted (q .answers ∙ fill-takes t scratch out g h) in
+      (q .gives ∙ rw b refl, q .scratches ∙ rw b refl)
 
 -- ---- the outcome
 

@@ -20,7 +20,8 @@ use Rattle.netpbm.specs.Images.{rowsAt}
 use Rattle.netpbm.specs.Lines.{refusalLine}
 use Rattle.netpbm.specs.Reading.{cbAt, crAt, inputLayout, readingTests}
 use Rattle.netpbm.specs.Inner.Reading.{readingOf}
-use Rattle.netpbm.proofs.Acceptance.{Taken, taken}
+use Rattle.netpbm.specs.Inner.Taken.{Taken}
+use Rattle.netpbm.proofs.Acceptance.{taken}
 use Rattle.picture.specs.declared.Outcome.the-variants.{Written}
 use Rattle.picture.specs.Picture.{ppmLength, pictureTests, pickOutcome, PictureGiven}
 use Rattle.netpbm.proofs.Digits.{header-most}

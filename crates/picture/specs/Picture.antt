@@ -11,12 +11,15 @@ use Rattle.laws.specs.declared.answers.Answer.{Answer}
 use Rattle.laws.specs.declared.answers.Answer.the-variants.{Accepted, Refused as Turned}
 use Rattle.laws.specs.Refusals.{Test, first}
 use Rattle.image.specs.declared.layout.Layout.{Layout}
-use Rattle.image.specs.Picture.{Picture, Planes, pictureOf}
+use Rattle.image.specs.declared.chroma.Chroma.{Chroma}
+use Rattle.image.specs.declared.chroma.Chroma.the-variants.{Cb, Cr}
+use Rattle.image.specs.Picture.{Picture, inside}
 use Rattle.image.specs.Scratch.{scratchNeed}
 use Rattle.kernels.specs.declared.kernel.YcbcrKernel.the-variants.{Exact}
 use Rattle.fill.specs.declared.options.ChromaUpsampling.the-variants.{LumaGuided}
-use Rattle.fill.specs.Fill.{fillColour, pixelRows, fillScratch}
-use Rattle.netpbm.specs.Images.{rowsAt}
+use Rattle.fill.specs.Fill.{fillColour, pixelRows}
+use Rattle.guided_rows.specs.CatchingUp.{guidedRows}
+use Rattle.netpbm.specs.Images.{imageSample}
 use Rattle.netpbm.specs.Lines.{ppmHeader}
 use Rattle.netpbm.specs.Reading.{cbAt, crAt, inputLayout, readingTests}
 use Rattle.picture.specs.declared.Outcome.{Outcome}
@@ -24,19 +27,20 @@ use Rattle.picture.specs.declared.Outcome.the-variants.{Written, Refused
 
 -- ---- the picture that the input holds
 
--- "three Netpbm PGM images one after another (Y, Cb, Cr)": each plane begins where its image's rows do, one row right behind the other
-unfoldable pub inputPlanes : List ℕ → Planes
-inputPlanes input =
+-- "three Netpbm PGM images one after another (Y, Cb, Cr)": where that of a component stands
+abbrev pub chromaAt : List ℕ → Chroma → ℕ
+chromaAt input Cb = cbAt input
+chromaAt input Cr = crAt input
+
+-- the input's layout with the samples of its images
+unfoldable pub inputPicture : List ℕ → Picture
+inputPicture input =
     let l = inputLayout input in
     record {
-      y = record { bytes = drop (rowsAt input 0) input; stride = l .w };
-      cb = record { bytes = drop (rowsAt input (cbAt input)) input; stride = l .cw };
-      cr = record { bytes = drop (rowsAt input (crAt input)) input; stride = l .cw };
+      layout = l;
+      luma = inside (l .w) (l .h) (imageSample input 0);
+      chroma = λ k. inside (l .cw) (l .ch) (imageSample input (chromaAt input k));
     }
-
--- the input's layout with the samples of its planes
-abbrev pub inputPicture : List ℕ → Picture
-inputPicture input = pictureOf (inputLayout input) (inputPlanes input)
 
 -- ---- what is written
 
@@ -50,6 +54,10 @@ ppmOver p out =
     let l = p .layout in
     let header = ppmHeader (l .w) (l .h) in
     header ++ pixelRows (l .w) 3 (fillColour LumaGuided Exact p) 0 (l .h) (drop (length header) out)
+
+-- what the papers leave free: what scratch holds afterwards, all rows of both components having been made in it
+unfoldable pub scratchAfter : Picture → List Float → List Float
+scratchAfter p scratch = guidedRows p (Cb ∷ Cr ∷ []) 0 (p .layout .h) scratch
 
 -- ---- the reasons for turning the input down
 
@@ -73,4 +81,4 @@ isWritten (Refused k) = false
 pub record PictureGiven (input : List ℕ) (scratch : List Float) (out : List ℕ) (outcome : Outcome) (scratch' : List Float) (out' : List ℕ) : Type 0 where
   pub answers : outcome ≡ pickOutcome (first (pictureTests input scratch out)) (ppmLength (inputLayout input))
   pub gives : out' ≡ cond (isWritten outcome) (ppmOver (inputPicture input) out) out
-  pub scratches : scratch' ≡ cond (isWritten outcome) (fillScratch LumaGuided (inputLayout input) (inputPlanes input) 0 (inputLayout input .h) scratch) scratch
+  pub scratches : scratch' ≡ cond (isWritten outcome) (scratchAfter (inputPicture input) scratch) scratch

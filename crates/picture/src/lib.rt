@@ -1,14 +1,16 @@
 // 'The picture program' of document 01 as one call on slices: three PGM images in, a PPM out, chroma guided by luma, colour exact.
 //
-// `picture` is public and promises `PictureGiven` of specs/Picture. netpbm's `read` says what the input holds, `fill` gives the pixels,
-// and the module `ppm` puts the header before them. `ycbcrtoppm` and ffi call it; `refusal_line` is what the program writes on refusal.
+// `picture` is public and promises `PictureGiven` of specs/Picture. netpbm's `read` says what the input holds, the module `turned` turns
+// the bytes of samples that have two, `fill` gives the pixels, and the module `ppm` puts the header before them. `ycbcrtoppm` and ffi call
+// it; `refusal_line` is what the program writes on refusal.
 ghost use mathlib.Core.Path.{_≡_};
 ghost use Rattle.netpbm.specs.Inner.Reading.{readingOf};
 ghost use Rattle.picture.specs.Picture.{PictureGiven};
 
 mod ppm;
+mod turned;
 
-use crate::ppm::put_ppm;
+use crate::ppm::put_picture;
 use image::Layout;
 pub use netpbm::Line;
 use netpbm::Reading;
@@ -44,7 +46,7 @@ fn written(
     if out.len() < len {
         return Outcome::Refused(10);
     }
-    put_ppm(input, layout, y, cb, cr, header, s, out);
+    put_picture(input, layout, y, cb, cr, header, s, out);
     Outcome::Written(len)
 }
 

@@ -1,17 +1,19 @@
 -- What the inner functions hold of one image: the definitions of Bytes and Images, with numbers past 65,536 held as 65,536, so that no
 -- product of two wraps. proofs/Products says why no test is changed by that. Definitions only.
 use mathlib.Core.Path.{_≡_}
-use mathlib.Core.Bool.{Bool, true, false, _&&_, not}
+use mathlib.Core.Bool.{Bool, true, false, _&&_, _||_, not}
 use mathlib.Core.List.{List, [], _∷_}
 use Prim.Native.Nat.{ℕ, _+_, _-_, _*_, min}
 use lib.Dec.{ltb, eqb}
 use lib.ListN.{length, getD}
 use Rattle.laws.specs.Refusals.{Test, first, accepted}
+use Rattle.laws.specs.Numbers.{outsideOf}
 use Rattle.netpbm.specs.declared.scan.Number.{Number}
 use Rattle.netpbm.specs.declared.pgm.Field.{Field}
+use Rattle.netpbm.specs.declared.pgm.Header.{Header}
 use Rattle.netpbm.specs.declared.pgm.Image.{Image}
 use Rattle.netpbm.specs.Bytes.{hasBlank, isSpace, pastDigits, numberAt}
-use Rattle.netpbm.specs.Images.{hasMagic, hasNumber, fieldOf, fieldEnd, widthOf, widthEnd, heightOf, heightEnd, rowsAt, imageTests}
+use Rattle.netpbm.specs.Images.{hasMagic, hasNumber, fieldOf, fieldEnd, widthOf, widthEnd, heightOf, heightEnd, maxvalOf, rowsAt, sampleBytes, imageTests}
 
 -- a number as it is held: 65,536 is `Number::MOST`
 abbrev pub held : ℕ → ℕ
@@ -30,22 +32,28 @@ unfoldable pub fieldHeld : List ℕ → ℕ → Field
 fieldHeld s at = record { good = hasNumber s at; value = held (fieldOf s at); end = fieldEnd s at }
 
 -- the three numbers of the header of the image at `at`
-pub record HeaderHeld (s : List ℕ) (at : ℕ) (width height maxval : Field) : Type 0 where
-  pub width-is : width ≡ fieldHeld s (at + 2)
-  pub height-is : height ≡ fieldHeld s (widthEnd s at)
-  pub maxval-is : maxval ≡ fieldHeld s (heightEnd s at)
+unfoldable pub headerHeld : List ℕ → ℕ → Header
+headerHeld s at = record { width = fieldHeld s (at + 2); height = fieldHeld s (widthEnd s at); maxval = fieldHeld s (heightEnd s at) }
 
--- the tests on the numbers as they are held
-unfoldable pub heldTests : List ℕ → ℕ → Field → Field → Field → List Test
-heldTests s at w h m =
+-- how many bytes the rows of an image of this header have
+unfoldable pub rowsHeld : Header → ℕ
+rowsHeld h = h .width .value * h .height .value * sampleBytes (h .maxval .value)
+
+-- a maxval that is outside its span or not the one wanted
+abbrev pub otherMaxval : ℕ → ℕ → Bool
+otherMaxval wanted m = outsideOf 1 65535 m || not (eqb wanted m)
+
+-- the tests on the numbers as they are held, where this maxval is wanted
+unfoldable pub heldTests : List ℕ → ℕ → Header → ℕ → List Test
+heldTests s at h wanted =
     (not (hasMagic s at), 14)
-    ∷ (not (w .good), 14)
-    ∷ (ltb 128 (w .value), 15)
-    ∷ (not (h .good), 14)
-    ∷ (not (m .good), 14)
-    ∷ (not (eqb (m .value) 255), 14)
-    ∷ (not (hasBlank s (m .end)), 14)
-    ∷ (ltb (length s - (m .end + 1)) (w .value * h .value), 15)
+    ∷ (not (h .width .good), 14)
+    ∷ (ltb 128 (h .width .value), 15)
+    ∷ (not (h .height .good), 14)
+    ∷ (not (h .maxval .good), 14)
+    ∷ (otherMaxval wanted (h .maxval .value), 14)
+    ∷ (not (hasBlank s (h .maxval .end)), 14)
+    ∷ (ltb (length s - (h .maxval .end + 1)) (rowsHeld h), 15)
     ∷ []
 
 -- the image whose magic stands at `at`
@@ -54,8 +62,9 @@ imageHeld s at = record {
   answer = first (imageTests s at);
   w = held (widthOf s at);
   h = held (heightOf s at);
+  maxval = held (maxvalOf s at);
   rows = rowsAt s at;
-  end = rowsAt s at + held (widthOf s at) * held (heightOf s at);
+  end = rowsAt s at + rowsHeld (headerHeld s at);
 }
 
 -- the first image where the test holds, and the second where it doesn't

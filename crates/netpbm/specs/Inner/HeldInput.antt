@@ -7,9 +7,10 @@ use Rattle.laws.specs.Inner.Refusals.{folded}
 use Rattle.image.specs.declared.layout.Layout.{Layout}
 use Rattle.image.specs.Tests.{badSize}
 use Rattle.netpbm.specs.declared.pgm.Image.{Image}
+use Rattle.netpbm.specs.Images.{sampleBytes}
 use Rattle.netpbm.specs.Reading.{ratioFor, noRatio}
 
--- the layout that the sides of three images make, of which Reading's `inputLayout` is the same over the input itself
+-- the layout that the sides of three images and the first one's maxval make, of which Reading's `inputLayout` is the same over the input itself
 unfoldable pub layoutHeld : Image → Image → Image → Layout
 layoutHeld y cb cr = record {
   w = y .w;
@@ -20,8 +21,8 @@ layoutHeld y cb cr = record {
   ch = cb .h;
   across = plain;
   down = plain;
-  «sample_bytes» = 1;
-  maxval = 255;
+  «sample_bytes» = sampleBytes (y .maxval);
+  maxval = y .maxval;
 }
 
 -- the answer to the whole input: the images' own, then the tests for bytes left over, for the sides and for the ratios

@@ -1,5 +1,5 @@
 -- There are three ways out, each with its law of Readings for the outcome: `scratch-short` for 9, `out-short` for 10, `both-long` for the
--- picture. On refusal nothing has been written, so that the slices are as they were by `refl`; otherwise they are what `put_ppm` promises.
+-- picture. On refusal nothing has been written, so that the slices are as they were by `refl`; otherwise they are what `put_picture` promises.
 -- No product wraps, since what was read has 49,152 pixels at most (`pixels-most`).
 use mathlib.Core.Path.{refl, sym, _∙_, ap}
 use Prim.Native.Nat.{_≤_}
@@ -7,15 +7,11 @@ use native.Mathlib.Omega.{arith}
 use lib.ListN.{length}
 use borrow.Author.Tests.{ltb-true, ltb-false}
 use borrow.Author.Needs.{needs}
-use Rattle.image.specs.declared.layout.Layout.{Layout}
 use Rattle.image.specs.Scratch.{scratchNeed}
-use Rattle.fill.specs.declared.options.ChromaUpsampling.the-variants.{LumaGuided}
-use Rattle.fill.specs.Fill.{fillScratch}
 use Rattle.netpbm.specs.Lines.{ppmHeader}
 use Rattle.netpbm.proofs.Digits.{header-most}
 use Rattle.netpbm.proofs.Acceptance.{taken, read-accepted}
 use Rattle.picture.specs.declared.Outcome.the-variants.{Written}
-use Rattle.picture.specs.Picture.{inputPlanes}
 use Rattle.picture.proofs.Fronts.{line-length, ppm-length}
 use Rattle.picture.proofs.Readings.{layout-sound, pixels-most, scratch-short, both-long, out-short}
 use Rattle.picture.proofs.written.Statement.{statement}
@@ -60,8 +56,8 @@ returns-2 c =
     let n = ppm-length (a .layout) _ (c .before .before .before .ppm-header .ensures) in
     record { answers = out-short (read-accepted _ _ _ _ _ (s .pre)) (a .s .now) (a .out .now) (long (c .before .before .before .before)) (rw (sym n) (c .if2 .taken)); gives = refl; scratches = refl }
 
-put-ppm-requires : tie.Need-put-ppm-requires
-put-ppm-requires c κs =
+put-picture-requires : tie.Need-put-picture-requires
+put-picture-requires c κs =
     let s = c .before .before .before .before .before .before .before .before .before .before .before in
     let e = c .before .before .before .before .before .ppm-header .ensures in
     (s .pre, (e, (long (c .before .before .before .before .before .before), rw (sym (ppm-length (s .args .layout) _ e)) (c .before .before .if2 .left))))
@@ -78,11 +74,11 @@ returns-3 c =
     let a = s .args in
     let t = read-accepted _ _ _ _ _ (s .pre) in
     let n = ppm-length (a .layout) _ (c .before .before .before .before .before .before .before .before .before .before .ppm-header .ensures) in
-    let w = c .before .before .before .before .put-ppm .ensures in
+    let w = c .before .before .before .before .put-picture .ensures in
     record {
       answers = ap Written n ∙ both-long t (a .s .now) (a .out .now) (long (c .before .before .before .before .before .before .before .before .before .before .before)) (rw (sym n) (c .before .before .before .before .before .before .before .if2 .left));
       gives = w .0;
-      scratches = w .1 ∙ ap (λ (l : Layout). fillScratch LumaGuided l (inputPlanes (a .input .now)) 0 (l .h) (a .s .now)) (t .layout-is);
+      scratches = w .1;
     }
 
 pub written-spec : {M : Type 1} → statement M
@@ -96,7 +92,7 @@ written-spec =
     mul-len-2
     add-len
     returns-2
-    put-ppm-requires
+    put-picture-requires
     same-length
     same-length-2
     returns-3)

@@ -1,5 +1,4 @@
 use mathlib.Core.Path.{refl}
-use native.Mathlib.Nat.{mul-le-mul}
 use native.Mathlib.Omega.{arith}
 use Rattle.laws.proofs.Refusals.{first-folded}
 use Rattle.netpbm.specs.Inner.Held.{heldTests}
@@ -7,8 +6,8 @@ use borrow.Author.Needs.{needs}
 use Rattle.netpbm.proofs.pgm.image_answer.Statement.{statement}
 use Rattle.netpbm.proofs.pgm.image_answer.Tie as tie
 
-abbrev start : (c : tie.After-struct-known6) → tie.Start
-start c = c .before .before .before .before .before .before .before .before .before .before .before .before .before .before .before .before
+abbrev start : (c : tie.After-struct-known5) → tie.Start
+start c = c .before .before .before .before .before .before .before .before .before .before .before .before .before .before .before .before .before .before .before
 
 magic-at-requires : tie.Need-magic-at-requires
 magic-at-requires c κs = search needs
@@ -28,6 +27,9 @@ then-requires-4 c κs = search needs
 then-requires-5 : tie.Need-then-requires-5
 then-requires-5 c κs = search needs
 
+other-maxval-requires : tie.Need-other-maxval-requires
+other-maxval-requires c κs = search needs
+
 then-requires-6 : tie.Need-then-requires-6
 then-requires-6 c κs = search needs
 
@@ -40,8 +42,8 @@ then-requires-7 c κs = search needs
 add-rows-missing : tie.Need-add-rows-missing
 add-rows-missing c = let s = start c in omega (arith, s .pre .2)
 
-mul-rows-missing : tie.Need-mul-rows-missing
-mul-rows-missing c = let s = start (c .before .before) in omega (arith, mul-le-mul (s .pre .0) (s .pre .1))
+row-bytes-requires : tie.Need-row-bytes-requires
+row-bytes-requires c κs = let s = start c in (s .pre .0, s .pre .1)
 
 rows-missing-requires : tie.Need-rows-missing-requires
 rows-missing-requires c κs = search needs
@@ -52,14 +54,15 @@ then-requires-8 c κs = search needs
 returns : tie.Need-returns
 unfolding heldTests
 returns c =
-    let g = c .before .before .before .before .before in
+    let r = c .before in
+    let g = r .before .before .before in
     let f = g .before .before in
     let e = f .before .before in
     let d = e .before .before in
     let m = d .before .before in
     let h = m .before .before in
     let w = h .before .before in
-    rw (first-folded, c .then8 .ensures, c .before .rows-missing .ensures, g .then7 .ensures, g .before .blank-at .ensures, f .then6 .ensures, e .then5 .ensures, d .then4 .ensures, m .then3 .ensures, h .then2 .ensures, w .then .ensures, w .before .magic-at .ensures) refl
+    rw (first-folded, c .then8 .ensures, r .rows-missing .ensures, r .before .row-bytes .ensures .0, g .then7 .ensures, g .before .blank-at .ensures, f .then6 .ensures, f .before .other-maxval .ensures, e .then5 .ensures, d .then4 .ensures, m .then3 .ensures, h .then2 .ensures, w .then .ensures, w .before .magic-at .ensures) refl
 
 pub image-answer-spec : {M : Type 1} → statement M
 image-answer-spec =
@@ -71,11 +74,12 @@ image-answer-spec =
     then-requires-3
     then-requires-4
     then-requires-5
+    other-maxval-requires
     then-requires-6
     blank-at-requires
     then-requires-7
     add-rows-missing
-    mul-rows-missing
+    row-bytes-requires
     rows-missing-requires
     then-requires-8
     returns)

@@ -8,7 +8,6 @@ use borrow.Author.Needs.{needs}
 use Rattle.laws.proofs.Lists.{length-put}
 use Rattle.netpbm.specs.Lines.{ppmHeader}
 use Rattle.netpbm.proofs.Digits.{header-most}
-use Rattle.netpbm.proofs.Acceptance.{taken, read-accepted}
 use Rattle.picture.proofs.Fronts.{line-length, ppm-covers, picture-layout, ppm-is}
 use Rattle.picture.proofs.Readings.{to-end}
 use Rattle.picture.proofs.ppm.put_ppm.Statement.{statement}
@@ -24,7 +23,7 @@ room : (c : tie.Start) → Room c
 room c =
     let a = c .args in
     let n = line-length _ _ (c .pre .1 .0) in
-    let m = header-most (a .layout .w) (a .layout .h) (taken _ _ _ _ _ (c .pre .0) .width) in
+    let m = header-most (a .layout .w) (a .layout .h) (c .pre .0 .width) in
     let k = ppm-covers (a .layout) in
     let g = c .pre .1 .1 .1 in
     record { long = n; line = omega arith; ends = omega arith }
@@ -66,9 +65,8 @@ returns c =
     let s = l .before .before .before .before .before in
     let a = s .args in
     let r = room s in
-    let o = read-accepted _ _ _ _ _ (s .pre .0) in
     let w = c .before .before .before .before .put-pixels .ensures in
-    (ppm-is _ (a .layout) (picture-layout (a .input .now) (a .layout) (o .layout-is)) (a .header) (s .pre .1 .0) (a .out .now) (omega arith) _ _ (l .put-line .ensures) (w .0), w .1)
+    (ppm-is _ (a .layout) (picture-layout (a .planes .now) (a .layout) (a .y) (a .cb) (a .cr)) (a .header) (s .pre .1 .0) (a .out .now) (omega arith) _ _ (l .put-line .ensures) (w .0), w .1)
 
 pub put-ppm-spec : {M : Type 1} → statement M
 put-ppm-spec =
