@@ -1,8 +1,8 @@
 /* Chroma reconstruction and colour conversion: from Y, Cb and Cr planes to RGB.
  * tests/c/example.c is a first program.
  *
- * Every function here is proved to meet a contract (crates/ffi, over crates/reconstruction
- * and crates/picture). It answers for everything it can be handed: any number, any content of
+ * Every function here is proved to meet a contract (crates/ffi, over crates/reconstruction,
+ * crates/colorimetry and crates/picture). It answers for everything it can be handed: any number, any content of
  * a slice or of a state. It reads and writes nothing outside the slices it is lent, keeps
  * nothing between calls (so threads may call at once), allocates nothing, and always returns. A
  * call that is refused changes no slice.
@@ -46,11 +46,12 @@ extern "C" {
 /* The interface that this header describes, 0xMMmmpp: raised whenever a struct, a number or a call
  * moves. chroma_version gives that of the library that is linked: a program that was compiled
  * against another one should stop. */
-#define CHROMA_VERSION 0x000200
+#define CHROMA_VERSION 0x000300
 uint32_t chroma_version(void);
 
 /* What a call answers: the first number of its list that applies, where lists follow the order
- * of this table, 16 stands between 6 and 7, and 255 before all else; chroma_picture has its own order.
+ * of this table, 16 stands between 6 and 7, 19 between 9 and 10, and 255 before all else;
+ * chroma_picture has its own order.
  * docs/REFUSALS.md has each number's example and definition, and each call's list. */
 enum ChromaRefusal {
     CHROMA_ACCEPTED = 0,
@@ -76,6 +77,7 @@ enum ChromaRefusal {
                                  that of the first image, or bytes left over */
     CHROMA_TOO_LARGE = 15,    /* the picture call's size limits passed, or rows missing */
     CHROMA_NOT_CENTRED = 16,  /* co-sited chroma on either axis with a guided or triangular call */
+    CHROMA_BAD_RECTANGLE = 19, /* chroma_patch: a rectangle whose end passes 65535 */
     CHROMA_NO_SUCH_WAY = 255  /* a siting, or a switch of chroma_fill, that is neither 0 nor 1 */
 };
 
@@ -148,6 +150,23 @@ typedef struct ChromaWritten {
     uint32_t refusal;
     size_t len;
 } ChromaWritten;
+
+/* Part of a picture: its first column and row, and its sides. */
+typedef struct ChromaRectangle {
+    size_t left, top;
+    size_t width, height;
+} ChromaRectangle;
+
+/* The colour of a patch: `given` is 1 and `pixels` says how many it is the mean of, or `given` is
+ * 0, where the call was refused or no pixel is shared, and all behind it is 0. Red, green, blue:
+ * the mean, and the mean as a whole number, halves up. */
+typedef struct ChromaPatch {
+    uint32_t refusal;
+    uint32_t given;
+    size_t pixels;
+    double mean[3];
+    uint8_t whole[3];
+} ChromaPatch;
 
 /* How many floats (not bytes) of scratch every call with a `scratch` asks for (chroma_picture
  * too, where CHROMA_PICTURE_SCRATCH always suffices). Scratch may hold anything at first; calloc
@@ -248,6 +267,16 @@ ChromaPixel chroma_fixed_pixel(uint32_t y, uint32_t cb, uint32_t cr);
 ChromaWritten chroma_picture(const uint8_t *input, size_t input_len,
                              float *scratch, size_t scratch_len,
                              uint8_t *out, size_t out_len);
+
+/* The mean colour of the pixels that a rectangle shares with a picture of w by h pixels, three
+ * bytes each, row by row without gaps, as chroma_fill leaves it at size 3. A rectangle may reach
+ * past the picture, or have no pixel. Each mean is the exact sum of the bytes divided by their
+ * number, rounded once.
+ * Refusals 2 (w or h), 19 (left + width or top + height over 65535), 10 (rgb shorter than
+ * w * h * 3), in this order. */
+ChromaPatch chroma_patch(ChromaRectangle rectangle,
+                         size_t w, size_t h,
+                         const uint8_t *rgb, size_t rgb_len);
 
 #ifdef __cplusplus
 }

@@ -153,6 +153,17 @@ static void test_structs(void) {
     STANDS(ChromaPixel, r, 4);
     STANDS(ChromaPixel, g, 5);
     STANDS(ChromaPixel, b, 6);
+    CHECK(sizeof(ChromaRectangle) == 32);
+    STANDS(ChromaRectangle, left, 0);
+    STANDS(ChromaRectangle, top, 8);
+    STANDS(ChromaRectangle, width, 16);
+    STANDS(ChromaRectangle, height, 24);
+    CHECK(sizeof(ChromaPatch) == 48);
+    STANDS(ChromaPatch, refusal, 0);
+    STANDS(ChromaPatch, given, 4);
+    STANDS(ChromaPatch, pixels, 8);
+    STANDS(ChromaPatch, mean, 16);
+    STANDS(ChromaPatch, whole, 40);
     CHECK(sizeof(ChromaWritten) == 16);
     STANDS(ChromaWritten, refusal, 0);
     STANDS(ChromaWritten, len, 8);
@@ -1057,6 +1068,81 @@ static void test_surplus(void) {
     surplus_keeps_its_bits(600, 3, 2, 2);
 }
 
+/* ---- patches */
+
+static ChromaRectangle rectangle_of(size_t left, size_t top, size_t width, size_t height) {
+    ChromaRectangle r;
+    r.left = left, r.top = top, r.width = width, r.height = height;
+    return r;
+}
+
+/* No mean: all is 0 but the refusal. */
+static void no_patch(ChromaPatch p, uint32_t refusal) {
+    SAME(p.refusal, refusal);
+    SAME(p.given, 0);
+    SAME(p.pixels, 0);
+    for (int k = 0; k < 3; k++) {
+        CHECK(p.mean[k] == 0);
+        SAME(p.whole[k], 0);
+    }
+}
+
+static void patch_is(ChromaPatch p, size_t pixels, double r, double g, double b, int wr, int wg, int wb) {
+    SAME(p.refusal, 0);
+    SAME(p.given, 1);
+    SAME(p.pixels, pixels);
+    CHECK(p.mean[0] == r && p.mean[1] == g && p.mean[2] == b);
+    SAME(p.whole[0], wr);
+    SAME(p.whole[1], wg);
+    SAME(p.whole[2], wb);
+}
+
+static void test_patches(void) {
+    /* Two rows of three pixels, and two bytes behind them that are not the picture's. */
+    static const uint8_t rgb[20] = {0, 254, 0,  1, 255, 0,  1, 255, 1,
+                                    9, 9, 9,  10, 20, 30,  40, 50, 60,  255, 255};
+    patch_is(chroma_patch(rectangle_of(0, 0, 2, 1), 3, 2, rgb, 18), 2, 0.5, 254.5, 0, 1, 255, 0);
+    patch_is(chroma_patch(rectangle_of(0, 0, 3, 1), 3, 2, rgb, 20), 3, 2 / 3.0, 764 / 3.0, 1 / 3.0, 1, 255, 0);
+    patch_is(chroma_patch(rectangle_of(1, 1, 1, 1), 3, 2, rgb, 20), 1, 10, 20, 30, 10, 20, 30);
+    patch_is(chroma_patch(rectangle_of(2, 0, 65533, 65535), 3, 2, rgb, 18), 2, 20.5, 152.5, 30.5, 21, 153, 31);
+    patch_is(chroma_patch(rectangle_of(2, 1, 9, 9), 3, 2, rgb, 20), 1, 40, 50, 60, 40, 50, 60);
+
+    /* No pixel shared: beside, below, and a rectangle with none. */
+    no_patch(chroma_patch(rectangle_of(3, 0, 5, 5), 3, 2, rgb, 18), 0);
+    no_patch(chroma_patch(rectangle_of(0, 2, 5, 5), 3, 2, rgb, 18), 0);
+    no_patch(chroma_patch(rectangle_of(1, 1, 0, 1), 3, 2, rgb, 18), 0);
+    no_patch(chroma_patch(rectangle_of(1, 1, 1, 0), 3, 2, rgb, 18), 0);
+    no_patch(chroma_patch(rectangle_of(65535, 65535, 0, 0), 3, 2, rgb, 18), 0);
+
+    /* 2, then 19, then 10; an end whose sum would wrap. */
+    no_patch(chroma_patch(rectangle_of(65535, 0, 1, 1), 0, 2, NULL, 0), 2);
+    no_patch(chroma_patch(rectangle_of(0, 0, 1, 1), 3, 8193, NULL, 0), 2);
+    no_patch(chroma_patch(rectangle_of(0, 0, 1, 1), SIZE_MAX, SIZE_MAX, rgb, 20), 2);
+    no_patch(chroma_patch(rectangle_of(65535, 0, 1, 1), 3, 2, NULL, 0), 19);
+    no_patch(chroma_patch(rectangle_of(0, 65536, 0, 0), 3, 2, rgb, 18), 19);
+    no_patch(chroma_patch(rectangle_of(SIZE_MAX, 0, 2, 1), 3, 2, rgb, 18), 19);
+    no_patch(chroma_patch(rectangle_of(0, 1, 1, SIZE_MAX), 3, 2, rgb, 18), 19);
+    no_patch(chroma_patch(rectangle_of(0, 0, 1, 1), 3, 2, rgb, 17), 10);
+    no_patch(chroma_patch(rectangle_of(0, 0, 0, 0), 3, 2, NULL, 0), 10);
+    no_patch(chroma_patch(rectangle_of(0, 0, 1, 1), 8192, 8192, rgb, 20), 10);
+}
+
+/* The largest picture there is, whole: sums past 2^32. */
+static void test_largest_patch(void) {
+    const size_t side = 8192, bytes = 3 * side * side;
+    uint8_t *rgb = (uint8_t *)malloc(bytes);
+    if (rgb == NULL) {
+        printf("no room for the largest patch\n");
+        exit(2);
+    }
+    memset(rgb, 255, bytes);
+    patch_is(chroma_patch(rectangle_of(0, 0, side, side), side, side, rgb, bytes), side * side, 255, 255, 255, 255, 255, 255);
+    rgb[bytes - 2] = 0;
+    patch_is(chroma_patch(rectangle_of(0, 0, side, side), side, side, rgb, bytes), side * side, 255, 17112760065.0 / 67108864, 255, 255, 255, 255);
+    no_patch(chroma_patch(rectangle_of(0, 0, side, side), side, side, rgb, bytes - 1), 10);
+    free(rgb);
+}
+
 int main(void) {
     test_structs();
     test_fields();
@@ -1078,6 +1164,8 @@ int main(void) {
     test_bits_of_fill();
     test_bits_of_picture();
     test_surplus();
+    test_patches();
+    test_largest_patch();
     printf("%d checks, %d failed\n", checks, failures);
     return failures == 0 ? 0 : 1;
 }

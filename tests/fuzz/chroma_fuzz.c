@@ -213,10 +213,33 @@ static void program(void) {
     free(input);
 }
 
+static ChromaRectangle rectangle(void) {
+    ChromaRectangle r;
+    r.left = number();
+    r.top = number();
+    r.width = number();
+    r.height = number();
+    return r;
+}
+
+static void patch(void) {
+    ChromaRectangle r = rectangle();
+    size_t w = number(), h = number();
+    Slice rgb = lend(room(w * h * 3), 1);
+    ChromaPatch p = chroma_patch(r, w, h, at(rgb), rgb.bytes);
+    check(p.given == (p.pixels > 0), "a mean of no pixel, or pixels without a mean");
+    check(p.refusal == 0 || p.given == 0, "a refused patch with a mean");
+    for (int k = 0; k < 3; k++) {
+        check(p.mean[k] >= 0 && p.mean[k] <= 255, "a mean that is none of bytes");
+        check(p.whole[k] == (int)(p.mean[k] + 0.5), "a whole-number mean that is not the mean's");
+    }
+    done(rgb, 0);
+}
+
 int LLVMFuzzerTestOneInput(const uint8_t *data, size_t size) {
     next = data;
     left = size;
-    switch (take(1) % 4) {
+    switch (take(1) % 5) {
     case 0:
         reader();
         break;
@@ -226,6 +249,9 @@ int LLVMFuzzerTestOneInput(const uint8_t *data, size_t size) {
     case 2:
         chroma_exact_pixel((uint32_t)take(4), (uint32_t)take(4), (uint32_t)take(4), (uint32_t)take(4));
         chroma_fixed_pixel((uint32_t)take(4), (uint32_t)take(4), (uint32_t)take(4));
+        break;
+    case 4:
+        patch();
         break;
     default:
         program();

@@ -6,7 +6,7 @@
 #[path = "raw.rs"]
 mod raw;
 
-use crate::{Layout, Plane, Refusal};
+use crate::{Layout, Patch, Plane, Rectangle, Refusal};
 
 /// A reader's state.
 #[derive(Clone, Copy, Debug)]
@@ -238,4 +238,26 @@ pub(crate) fn picture(input: &[u8], scratch: &mut [f32], out: &mut [u8]) -> Resu
     };
     Refusal::check(written.refusal)?;
     Ok(written.len)
+}
+
+pub(crate) fn patch(
+    rectangle: Rectangle,
+    w: usize,
+    h: usize,
+    rgb: &[u8],
+) -> Result<Option<Patch>, Refusal> {
+    let rectangle = raw::ChromaRectangle {
+        left: rectangle.left,
+        top: rectangle.top,
+        width: rectangle.width,
+        height: rectangle.height,
+    };
+    // SAFETY: pointer and length are one slice's, and nothing is written.
+    let read = unsafe { raw::chroma_patch(rectangle, w, h, rgb.as_ptr(), rgb.len()) };
+    Refusal::check(read.refusal)?;
+    Ok((read.given != 0).then_some(Patch {
+        mean: read.mean,
+        whole: read.whole,
+        pixels: read.pixels,
+    }))
 }

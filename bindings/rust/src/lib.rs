@@ -7,7 +7,7 @@
 //! `chroma = { path = "…/bindings/rust" }` among its dependencies and nothing else.
 //!
 //! [`fill`] gives a whole picture as RGB, a [`Reader`] rows of chroma, [`linear_plane`] and the
-//! like one plane of chroma.
+//! like one plane of chroma. [`patch`] reads the colour of a rectangle from a picture of RGB rows.
 //!
 //! ```
 //! use chroma::{fill, Kernel, Layout, Picture, Plane, Scratch, Upsampling};
@@ -29,10 +29,12 @@
 
 #[allow(unsafe_code)]
 mod ffi;
+mod patch;
 mod picture;
 mod reader;
 mod refusal;
 
+pub use patch::{patch, Patch, Rectangle};
 pub use picture::{Layout, Picture, Plane, Scratch, Siting};
 pub use reader::Reader;
 pub use refusal::Refusal;

@@ -5,7 +5,7 @@ use std::mem::{offset_of, size_of};
 
 /// CHROMA_VERSION of the header that this file follows.
 #[allow(dead_code)]
-pub(super) const VERSION: u32 = 0x00_02_00;
+pub(super) const VERSION: u32 = 0x00_03_00;
 
 #[repr(C)]
 #[derive(Clone, Copy)]
@@ -74,6 +74,24 @@ pub(super) struct ChromaWritten {
     pub(super) len: usize,
 }
 
+#[repr(C)]
+#[derive(Clone, Copy)]
+pub(super) struct ChromaRectangle {
+    pub(super) left: usize,
+    pub(super) top: usize,
+    pub(super) width: usize,
+    pub(super) height: usize,
+}
+
+#[repr(C)]
+pub(super) struct ChromaPatch {
+    pub(super) refusal: u32,
+    pub(super) given: u32,
+    pub(super) pixels: usize,
+    pub(super) mean: [f64; 3],
+    pub(super) whole: [u8; 3],
+}
+
 // Where each field stands, as tests/c has it of the header.
 const _: () = {
     assert!(size_of::<ChromaLayout>() == 72);
@@ -130,6 +148,22 @@ const _: () = {
     assert!(size_of::<ChromaWritten>() == 16);
     assert!(offset_of!(ChromaWritten, refusal) == 0);
     assert!(offset_of!(ChromaWritten, len) == 8);
+};
+
+const _: () = {
+    assert!(size_of::<ChromaRectangle>() == 32);
+    assert!(offset_of!(ChromaRectangle, left) == 0);
+    assert!(offset_of!(ChromaRectangle, top) == 8);
+    assert!(offset_of!(ChromaRectangle, width) == 16);
+    assert!(offset_of!(ChromaRectangle, height) == 24);
+};
+const _: () = {
+    assert!(size_of::<ChromaPatch>() == 48);
+    assert!(offset_of!(ChromaPatch, refusal) == 0);
+    assert!(offset_of!(ChromaPatch, given) == 4);
+    assert!(offset_of!(ChromaPatch, pixels) == 8);
+    assert!(offset_of!(ChromaPatch, mean) == 16);
+    assert!(offset_of!(ChromaPatch, whole) == 40);
 };
 
 extern "C" {
@@ -224,4 +258,11 @@ extern "C" {
         out: *mut u8,
         out_len: usize,
     ) -> ChromaWritten;
+    pub(super) fn chroma_patch(
+        rectangle: ChromaRectangle,
+        w: usize,
+        h: usize,
+        rgb: *const u8,
+        rgb_len: usize,
+    ) -> ChromaPatch;
 }

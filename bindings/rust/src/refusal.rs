@@ -67,13 +67,15 @@ pub enum Refusal {
     TooLarge,
     /// Co-sited chroma on either axis with a guided or triangular call.
     NotCentred,
+    /// A rectangle whose end passes 65,535.
+    BadRectangle,
     /// A number that this crate has no name for, from a library that is newer than the crate. The
     /// library of the crate's own version gives none.
     Unknown(u32),
 }
 
 impl Refusal {
-    const NAMED: [Refusal; 16] = [
+    const NAMED: [Refusal; 17] = [
         Refusal::BadState,
         Refusal::BadSize,
         Refusal::BadRatio,
@@ -90,6 +92,7 @@ impl Refusal {
         Refusal::BadHeader,
         Refusal::TooLarge,
         Refusal::NotCentred,
+        Refusal::BadRectangle,
     ];
 
     /// The number of the reason, as docs/REFUSALS.md and include/chroma.h have it.
@@ -111,6 +114,7 @@ impl Refusal {
             Refusal::BadHeader => 14,
             Refusal::TooLarge => 15,
             Refusal::NotCentred => 16,
+            Refusal::BadRectangle => 19,
             Refusal::Unknown(number) => number,
         }
     }
@@ -144,6 +148,7 @@ impl fmt::Display for Refusal {
             Refusal::BadHeader => "header not as it should be, or bytes left over",
             Refusal::TooLarge => "size limits passed, or rows missing",
             Refusal::NotCentred => "co-sited chroma, which guided and triangular calls don't take",
+            Refusal::BadRectangle => "a rectangle whose end passes 65535",
             Refusal::Unknown(_) => "a reason that this crate has no name for",
         };
         write!(f, "refused {}: {words}", self.number())
@@ -163,7 +168,8 @@ mod tests {
             let refusal = Refusal::check(number).unwrap_err();
             assert_eq!(refusal.number(), number);
             let unknown = matches!(refusal, Refusal::Unknown(_));
-            assert_eq!(unknown, number > 16, "{number}");
+            let named = (1..=16).chain([19]).any(|known| known == number);
+            assert_eq!(unknown, !named, "{number}");
         }
     }
 

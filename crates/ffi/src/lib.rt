@@ -2,6 +2,7 @@
 // None has a `requires`: what stands for nothing is answered. What C's structs and numbers stand for is said in specs/Types, what the
 // calls promise in specs/Calls.
 mod filling;
+mod patches;
 mod pictures;
 mod pixels;
 mod planes;
@@ -11,6 +12,9 @@ mod types;
 mod version;
 
 pub use filling::chroma_fill;
+pub use patches::ChromaPatch;
+pub use patches::ChromaRectangle;
+pub use patches::chroma_patch;
 pub use pictures::chroma_picture;
 pub use pixels::chroma_exact_pixel;
 pub use pixels::chroma_fixed_pixel;

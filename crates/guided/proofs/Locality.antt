@@ -7,19 +7,16 @@ use native.Mathlib.Nat.{mul-add-div-right, div-eq-of-lt, add-zero}
 use native.Mathlib.Omega.{arith}
 use lib.Ieee.{Float}
 use Rattle.laws.specs.Floats.{f32, _⊕_, _⊗_}
+use Rattle.laws.specs.Sums.{sumTo}
+use Rattle.laws.proofs.Sums.{sum-same}
 use Rattle.image.specs.Inner.Tests.{Sound}
 use Rattle.image.specs.declared.chroma.Chroma.{Chroma}
 use Rattle.image.specs.Picture.{Picture}
 use Rattle.fround.specs.Rounding.{fmin, fmax}
-use Rattle.guided.specs.Guided.{sumTo, three, Across, Luma, LumaSum, SquareSum, Cell, CellSum, ProductSum, lumaOf, extremeOf, cellLuma, cellOf, acrossVal, extreme, slope, downTo, guidedSample}
+use Rattle.guided.specs.Guided.{three, Across, Luma, LumaSum, SquareSum, Cell, CellSum, ProductSum, lumaOf, extremeOf, cellLuma, cellOf, acrossVal, extreme, slope, downTo, guidedSample}
 use Rattle.guided.specs.Events.{Near, AlikeNear}
 use Rattle.guided.proofs.Taken.{taken, own-row, own-column}
 use Rattle.guided.proofs.Congruence.{Beside, three-cong, slope-cong, down-cong, detail-cong, value-cong}
-
-sum-cong : (n : ℕ) (f g : ℕ → ℕ) → ((d : ℕ) → d < n → f d ≡ g d) → sumTo n f ≡ sumTo n g
-unfolding sumTo
-sum-cong zero f g e = refl
-sum-cong (suc n) f g e = ap₂ (λ (u v : ℕ). u + v) (sum-cong n f g (λ d l. e d (omega arith))) (e n (omega arith))
 
 -- a pixel's cell
 own : (r i d : ℕ) → d < r → (i * r + d) / r ≡ i
@@ -39,8 +36,8 @@ module _ (p : Picture) (luma : ℕ → ℕ → ℕ) (chroma : Chroma → ℕ →
       let l = p .layout in
       let nx = min (l .rh) (l .w - i * l .rh) in
       let ny = min (l .rv) (l .h - j * l .rv) in
-      rw (sum-cong ny (λ dy. sumTo nx (λ dx. p .luma (j * l .rv + dy) (i * l .rh + dx))) (λ dy. sumTo nx (λ dx. luma (j * l .rv + dy) (i * l .rh + dx)))
-      (λ dy Y. sum-cong nx (λ dx. p .luma (j * l .rv + dy) (i * l .rh + dx)) (λ dx. luma (j * l .rv + dy) (i * l .rh + dx))
+      rw (sum-same ny (λ dy. sumTo nx (λ dx. p .luma (j * l .rv + dy) (i * l .rh + dx))) (λ dy. sumTo nx (λ dx. luma (j * l .rv + dy) (i * l .rh + dx)))
+      (λ dy Y. sum-same nx (λ dx. p .luma (j * l .rv + dy) (i * l .rh + dx)) (λ dx. luma (j * l .rv + dy) (i * l .rh + dx))
       (λ dx X. eL (i * l .rh + dx) (j * l .rv + dy) (omega arith) (omega arith) (omega (arith, own (l .rh) i dx (omega arith))) (omega (arith, own (l .rv) j dy (omega arith)))))) refl
 
   cell-local : (k : Chroma) (i j : ℕ) → i < p .layout .cw → j < p .layout .ch → Near i ci → Near j cj → cellOf p k j i ≡ cellOf (like p luma chroma) k j i

@@ -6,11 +6,12 @@ use lib.Ieee.{binary32, add, sub, sum, neg, mul, div, round, size, span, climb, 
 use lib.Count.{trailingZeros}
 use Rattle.laws.specs.Axes.{plain}
 use Rattle.laws.specs.Lists.{table}
+use Rattle.laws.specs.Sums.{sumTo}
 use Rattle.image.specs.Samples.{sampleOf, sampleAt}
 use Rattle.image.specs.declared.chroma.Chroma.the-variants.{Cb}
 use Rattle.image.specs.Picture.{Picture, inside, pictureOf}
 use Rattle.taps.specs.Taps.{spotAt, sitedAt, spotOf, tapBy, phaseOf}
-use Rattle.guided.specs.Guided.{sumTo, three, lumaOf, extremeOf, cellLuma, cellOf, acrossVal, extreme, epsilon, mean, slopeOf, downTo, acrossTo, detailOf, valueOf, slope, guidedSample, guidedRow}
+use Rattle.guided.specs.Guided.{three, lumaOf, extremeOf, cellLuma, cellOf, acrossVal, extreme, epsilon, mean, slopeOf, downTo, acrossTo, detailOf, valueOf, slope, guidedSample, guidedRow}
 
 -- a picture of so many bytes a sample at ratios rh and rv, of cw by ch cells whose chroma is c twice
 abbrev pictureV : ℕ → ℕ → ℕ → ℕ → ℕ → ℕ → ℕ → ℕ → List ℕ → List ℕ → Picture

@@ -13,6 +13,7 @@ use Rattle.laws.specs.declared.answers.Answer.the-variants.{Accepted, Refused}
 use Rattle.laws.specs.Axes.{plain}
 use Rattle.laws.specs.Floats.{f32}
 use Rattle.laws.specs.Lists.{table}
+use Rattle.laws.specs.Sums.{sumTo}
 use Rattle.laws.specs.Refusals.{first, accepted}
 use Rattle.laws.proofs.Refusals.{Failed, failed-accepted}
 use Rattle.image.specs.declared.layout.Layout.{Layout}
@@ -23,7 +24,7 @@ use Rattle.image.specs.Picture.{Planes, chromaPlane, inside, pictureOf, shortPl
 use Rattle.taps.specs.Taps.{spotAt, sitedAt, spotOf, tapBy, phaseOf}
 use Rattle.image.specs.Scratch.{scratchNeed}
 use Rattle.guided.specs.declared.state.Reader.{Reader}
-use Rattle.guided.specs.Guided.{sumTo, three, lumaOf, extremeOf, cellLuma, cellOf, acrossVal, extreme, epsilon, mean, slopeOf, downTo, acrossTo, detailOf, valueOf, slope, guidedSample, guidedRow}
+use Rattle.guided.specs.Guided.{three, lumaOf, extremeOf, cellLuma, cellOf, acrossVal, extreme, epsilon, mean, slopeOf, downTo, acrossTo, detailOf, valueOf, slope, guidedSample, guidedRow}
 use Rattle.guided.specs.Calls.{geometryOf, readerLayout, readerAt, afterOpen, afterSeek, afterRow, badState, OpenCall, SeekCall, RowCall, openTests, seekTests, rowTests, rowScratch, rowOut, Bytes}
 use Rattle.guided.specs.Events.{RowEvent, Event, Opened, Sought, Rowed, Ran, AllRan, done, Start, pictureBy, moved, next, Handed, Premise, Gives, here, later, given}
 use Rattle.guided.proofs.FinishedRows.{length-row}

@@ -1,10 +1,11 @@
 -- 'Guided' of document 01: a sample and a row, from a picture, a component and a row number alone. Every operation is rounded once, in the order written. Definitions only.
 use mathlib.Core.Bool.{Bool, true, false, cond}
 use mathlib.Core.List.{List}
-use Prim.Native.Nat.{ℕ, zero, suc, _+_, _-_, _*_, _/_, _%_, min}
+use Prim.Native.Nat.{ℕ, _+_, _-_, _*_, _/_, _%_, min}
 use lib.Ieee.{Float}
 use Rattle.laws.specs.Floats.{f32, _⊕_, _⊖_, _⊗_, _⊘_}
 use Rattle.laws.specs.Lists.{table}
+use Rattle.laws.specs.Sums.{sumTo}
 use Rattle.image.specs.declared.layout.Layout.{Layout}
 use Rattle.image.specs.declared.chroma.Chroma.{Chroma}
 use Rattle.image.specs.Picture.{Picture}
@@ -12,11 +13,6 @@ use Rattle.fround.specs.Rounding.{fmin, fmax}
 use Rattle.taps.specs.declared.positions.Tap.{Tap}
 use Rattle.taps.specs.declared.phases.Phase.{Phase}
 use Rattle.taps.specs.Taps.{lerpOf, tapOf, phaseOf}
-
--- f 0 + .. + f (n - 1)
-unfoldable pub sumTo : ℕ → (ℕ → ℕ) → ℕ
-sumTo zero f = 0
-sumTo (suc n) f = sumTo n f + f n
 
 -- "(left + middle) + right", and likewise down, of n values "with edges repeated"
 unfoldable pub three : (Float → Float → Float) → ℕ → (ℕ → Float) → ℕ → Float

@@ -14,10 +14,11 @@ use Rattle.image.specs.Samples.{Plane, sampleOf, sampleAt, place}
 use Rattle.image.specs.Picture.{inside}
 use Rattle.image.proofs.Planes.{short-holds, sample-inside}
 use Rattle.image.proofs.Pictures.{inside-is}
-use Rattle.guided.specs.Guided.{sumTo, lumaOf}
+use Rattle.laws.specs.Sums.{sumTo}
+use Rattle.guided.specs.Guided.{lumaOf}
 use Rattle.guided_across.specs.Inner.Luma.{LumaPixels, rowSum, cellSum, lumaRun, lumaRow}
 use Rattle.guided_across.specs.Inner.ByteCells.{cellMean, cellRun}
-use Rattle.guided_across.proofs.SumsTo.{sum-same}
+use Rattle.laws.proofs.Sums.{sum-same}
 use Rattle.laws.proofs.Counts.{plus-none, none-plus, part-rest}
 
 -- ---- the pixels of a cell

@@ -9,9 +9,9 @@ use lib.Ieee.{Float, nan}
 use Rattle.laws.specs.Floats.{f32, _⊘_}
 use Rattle.laws.specs.Lists.{put}
 use Rattle.laws.proofs.Lists.{put-same, Run, run-over}
-use Rattle.guided.specs.Guided.{sumTo}
+use Rattle.laws.specs.Sums.{sumTo}
 use Rattle.guided_across.specs.Inner.ByteCells.{pairSum, pairsSum, cellMean}
-use Rattle.guided_across.proofs.SumsTo.{sum-same}
+use Rattle.laws.proofs.Sums.{sum-same}
 
 -- ---- sums
 

@@ -2,5 +2,4 @@
 pub mod Areas
 pub mod ByteBlocks
 pub mod ReadBack
-pub mod SumsTo
 pub mod Threes

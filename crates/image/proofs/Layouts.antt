@@ -9,6 +9,7 @@ use lib.Dec.{ltb, eqb}
 use borrow.Author.Tests.{ltb-false, eqb-true, not-false}
 use Rattle.laws.specs.Refusals.{first, accepted, placeOf, Ascending}
 use Rattle.laws.proofs.Refusals.{Failed, accepted-failed, accepted-is}
+pub use Rattle.laws.proofs.Limits.{neither, within}
 use Rattle.image.specs.declared.layout.Layout.{Layout}
 use Rattle.laws.specs.Numbers.{outsideOf}
 use Rattle.laws.specs.Axes.{plain}
@@ -18,15 +19,6 @@ use Rattle.laws.specs.declared.axes.Axis.{Axis}
 use Rattle.image.specs.Tests.{mostOf, divCeil, badSize, badRatio, badSamples, badChroma, coSited, badSiting, layoutTests}
 use Rattle.image.specs.Inner.Tests.{Sound}
 use Rattle.image.proofs.Quotients.{ceil-covers, ceil-most, ceil-some}
-
--- neither of two tests applies
-pub neither : (a b : Bool) → (a || b) ≡ false → (a ≡ false) × (b ≡ false)
-neither true b e = let z : _≡_ {A = ℕ} 0 1 = cc in absurd (omega arith)
-neither false b e = (refl, e)
-
--- a number that passes lies between the limits
-pub within : (lo hi x : ℕ) → outsideOf lo hi x ≡ false → (lo ≤ x) × (x ≤ hi)
-within lo hi x e = let p = neither (ltb x lo) (ltb hi x) e in (ltb-false x lo (p .0), ltb-false hi x (p .1))
 
 most-small : (b m : ℕ) → m ≤ mostOf b → m ≤ 65535
 most-small b m h = go (eqb b 1) h

@@ -13,3 +13,5 @@ pub mod Grids
 pub mod Units
 pub mod Operators
 pub mod Products
+pub mod Sums
+pub mod Limits

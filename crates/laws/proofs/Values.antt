@@ -4,13 +4,13 @@
 -- to the one of the given values, so that `round-same` rounds both alike.
 use mathlib.Core.Path.{_≡_, refl, sym, ap, _∙_, subst₂}
 use Prim.Native.Nat.{ℕ, zero, suc, _-_, _*_, _%_, _^_, _≤_, _<_}
-use native.Mathlib.Nat.{le-trans, le-of-eq, le-antisymm, lt-of-lt-of-le, lt-of-not-le, not-le-of-lt, lt-irrefl, lt-of-mul-lt-mul-right, le-of-mul-le-mul-right, le-of-suc-le-suc, mul-one, one-mul, mul-comm, mul-assoc, mul-right-comm, mul-left-comm, mul-pos, mul-sub, mul-le-mul-right, mul-le-mul-left, mul-lt-mul-of-pos-right, eq-of-mul-eq-mul-right}
+use native.Mathlib.Nat.{le-trans, le-of-eq, le-antisymm, lt-of-lt-of-le, lt-of-not-le, not-le-of-lt, lt-irrefl, lt-of-mul-lt-mul-right, le-of-mul-le-mul-right, le-of-suc-le-suc, mul-one, one-mul, zero-mul, mul-comm, mul-assoc, mul-right-comm, mul-left-comm, mul-pos, mul-sub, mul-le-mul-right, mul-le-mul-left, mul-lt-mul-of-pos-right, eq-of-mul-eq-mul-right}
 use native.Mathlib.Omega.{arith}
 use mathlib.Core.Bool.{Bool, true, false, not, _&&_, cond, true≢false}
 use lib.IntN.{ℤ, pos, negsuc}
 use lib.Dec.{T, ltb, leb, eqb, ltb→lt, nltb→le, lt→ltb, leb→le, le→leb, eqb→eq, lit≤, lit<}
 use lib.Pow.{pow-add, pow-pos, pow-mono, pow-lt}
-use lib.Ieee.{Float, nan, inf, fin, Format, binary32, up, down, size, round, neg, sum, add, sub, lt, fits, isNan, inFloat, ofInt}
+use lib.Ieee.{Float, nan, inf, fin, Format, binary32, prec, up, down, size, round, neg, sum, add, sub, div, lt, fits, isNan, inFloat, ofInt}
 use lib.Ieee.Digits.{size-lt, size-le, back}
 use lib.Ieee.Fits.{up-pos, down-pos, and-l, and-r}
 use lib.Ieee.Bits.{is-true}
@@ -20,16 +20,24 @@ use lib.Ieee.Order.{transfer}
 use lib.Ieee.Scale.{round-same}
 use Rattle.laws.specs.Floats.{f32}
 
--- ---- whole numbers up to 2 ^ 24
+-- ---- whole numbers up to 2 ^ prec, which a format counts without a gap
 
 -- the cast's own test
-pub in-float : (n : ℕ) → n ≤ 16777216 → T (inFloat binary32 (pos n))
+pub in-format : (f : Format) (n : ℕ) → n ≤ 2 ^ prec f → T (inFloat f (pos n))
 unfolding inFloat
-in-float n h = le→leb n (2 ^ 24) h
+in-format f n h = le→leb n (2 ^ prec f) h
+
+-- the cast is exact
+pub cast-value : (f : Format) (n : ℕ) → n ≤ 2 ^ prec f → HasValue (ofInt f (pos n)) false n 1
+unfolding ofInt
+cast-value f n h = round-whole f false n h
+
+-- in single precision they are those up to 2 ^ 24
+pub in-float : (n : ℕ) → n ≤ 16777216 → T (inFloat binary32 (pos n))
+in-float n h = in-format binary32 n h
 
 pub whole-value : (n : ℕ) → n ≤ 16777216 → HasValue (f32 n) false n 1
-unfolding ofInt
-whole-value n h = round-whole binary32 false n h
+whole-value n h = cast-value binary32 n h
 
 -- what has a value is no not-a-number
 pub value-no-nan : (x : Float) (s : Bool) (a c : ℕ) → HasValue x s a c → T (not (isNan x))
@@ -123,6 +131,37 @@ sub-lt f x y a c b c' p q h =
       down e * down d,
       opened f m e n d ∙ pick-lt f (m * up e * down d) (n * up d * down e) (down e * down d) (cross-less (m * up e) (n * up d) (down e) (down d) a c b c' (down-pos e) (down-pos d) u v h),
     ))
+
+-- ---- the quotient of two values that are not negative, each by a fraction that it equals, rounded once
+
+-- (X / dx) / (Y / dy) is (a / c) / (b / c')
+same-quotient : (X dx Y dy a c b c' : ℕ) → X * c ≡ a * dx → Y * c' ≡ b * dy → X * dy * (b * c) ≡ a * c' * (Y * dx)
+same-quotient X dx Y dy a c b c' p q =
+    let l : X * dy * (b * c) ≡ X * c * (b * dy) = simp (mul-assoc, mul-comm, mul-left-comm) in
+    let r : a * c' * (Y * dx) ≡ a * dx * (Y * c') = simp (mul-assoc, mul-comm, mul-left-comm) in
+    l ∙ ap (λ (z : ℕ). z * (b * dy)) p ∙ ap (λ (z : ℕ). a * dx * z) (sym q) ∙ sym r
+
+pub div-rounded : (f : Format) (x y : Float) (a c b c' : ℕ) → 0 < c → 0 < b → 0 < c' → HasValue x false a c → HasValue y false b c' → div f x y ≡ round f false (a * c') (b * c)
+unfolding div
+div-rounded f x y a c b c' C B C' p q =
+    both-finite (λ x y. div f x y ≡ round f false (a * c') (b * c)) x y a c b c' p q (λ m e n d u v.
+    let N : 0 < n = positive n (up d) c' (b * down d) v (mul-pos B (down-pos d)) in
+    rw (unequal n N) (round-same f false (m * up e * down d) (n * up d * down e) (a * c') (b * c) (mul-pos (mul-pos N (up-pos d)) (down-pos e)) (mul-pos B C)
+    (same-quotient (m * up e) (down e) (n * up d) (down d) a c b c' u v)))
+  where
+    zero-product : (u c : ℕ) → 0 * u * c ≡ 0
+    zero-product u c = rw (zero-mul u, zero-mul c) refl
+
+    positive : (n u c z : ℕ) → n * u * c ≡ z → 0 < z → 0 < n
+    positive zero u c z e h = absurd (lt-irrefl 0 (lt-of-lt-of-le h (le-of-eq (sym e ∙ zero-product u c))))
+    positive (suc n) u c z e h = omega arith
+
+    unequal : (n : ℕ) → 0 < n → eqb n 0 ≡ false
+    unequal n h = go (eqb n 0) (eqb→eq n 0)
+      where
+        go : (t : Bool) → (T t → n ≡ 0) → t ≡ false
+        go true k = absurd (let e = k tt in omega arith)
+        go false k = refl
 
 -- ---- what it takes to be an f32, taken apart
 

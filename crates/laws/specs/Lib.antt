@@ -5,4 +5,5 @@ pub mod Rounding
 pub mod Floats
 pub mod Numbers
 pub mod Axes
+pub mod Sums
 pub mod Inner

@@ -3,6 +3,8 @@
 -- the picture: "sizes, ratios, sample bytes, maxval and the samples inside its planes, without padding or surplus"
 pub use Rattle.image.specs.Samples.{Plane, planeOf, sampleOf, sampleAt}
 pub use Rattle.image.specs.Picture.{Picture, Planes, planesOf, chromaPlane, pictureOf}
+-- part of a picture, for the calls of crates above
+pub use Rattle.image.specs.declared.rectangle.Rectangle.{Rectangle}
 -- "A tap is two indices and a fraction."
 pub use Rattle.taps.specs.Taps.{Spot, spotOf, tapOf}
 -- W2: "a siting for each axis, centred or co-sited"

@@ -31,6 +31,7 @@ pub use lines::strides;
 pub use planes::grow;
 pub use planes::grown;
 pub use planes::plane;
+pub use planes::spelled_plane;
 pub use words::byte;
 pub use words::eight;
 pub use words::long;

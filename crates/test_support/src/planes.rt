@@ -71,8 +71,8 @@ fn spell(plane: &mut [u8], spelling: &[u8], from: usize) {
     }
 }
 
-// A plane of n bytes that a line spells from byte `from` on, at the front of a buffer like that of `grown`.
-fn spelled_plane(n: usize, spelling: &[u8], from: usize) -> [u8; 65_536]
+// Inner: a plane of n bytes that a line spells from byte `from` on, at the front of a buffer like that of `grown`.
+pub fn spelled_plane(n: usize, spelling: &[u8], from: usize) -> [u8; 65_536]
     requires { ⌜ n < 65536 ⌝ }
 {
     let mut plane = io::large_buffer();

@@ -5,7 +5,7 @@ use lib.ListN.{getD}
 use lib.Ieee.{Float}
 use Rattle.laws.specs.Floats.{f32, _⊘_}
 use Rattle.laws.specs.Lists.{put}
-use Rattle.guided.specs.Guided.{sumTo}
+use Rattle.laws.specs.Sums.{sumTo}
 
 -- the sum of pair i of bytes of the row of a plane that begins at `at`
 abbrev pub pairSum : List ℕ → ℕ → ℕ → ℕ

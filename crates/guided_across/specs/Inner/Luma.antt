@@ -9,7 +9,8 @@ use Rattle.image.specs.declared.layout.Layout.{Layout}
 use Rattle.image.specs.Inner.Tests.{Sound}
 use Rattle.image.specs.Samples.{Plane, sampleAt}
 use Rattle.image.specs.Picture.{shortPlane}
-use Rattle.guided.specs.Guided.{sumTo, lumaOf}
+use Rattle.laws.specs.Sums.{sumTo}
+use Rattle.guided.specs.Guided.{lumaOf}
 
 -- what is known of a layout and its luma plane: the layout passed its tests, and the plane holds all pixels
 pub record LumaPixels (l : Layout) (p : Plane) : Type 0 where

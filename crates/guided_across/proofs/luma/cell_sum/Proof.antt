@@ -1,4 +1,4 @@
-use Rattle.guided_across.proofs.SumsTo.{Summed, sum-none, sum-more, sum-end}
+use Rattle.laws.proofs.Sums.{Summed, sum-none, sum-more, sum-end}
 use Rattle.guided_across.specs.Inner.Luma.{rowSum, cellSum}
 use Prim.Native.Nat.{_+_, _-_, _*_, _≤_}
 use native.Mathlib.Omega.{arith}

@@ -1,6 +1,6 @@
 -- The loop's invariant: t is the sum of the first i samples (`Summed`), each at most 65,535; `sum-more` is a turn and `sum-end` the promise.
 -- The one step that isn't linear is that sample i lies within the plane: `within-plane`.
-use Rattle.guided_across.proofs.SumsTo.{Summed, sum-none, sum-more, sum-end}
+use Rattle.laws.proofs.Sums.{Summed, sum-none, sum-more, sum-end}
 use Rattle.guided_across.proofs.Areas.{within-plane}
 use Rattle.guided_across.specs.Inner.Luma.{rowSum}
 use Rattle.image.specs.Samples.{sampleAt, planeOf}

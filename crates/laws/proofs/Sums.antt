@@ -1,9 +1,9 @@
 -- Sums of the first values of a function.
 use mathlib.Core.Path.{_≡_, refl, ap, _∙_}
-use Prim.Native.Nat.{ℕ, zero, suc, _+_, _≤_, _<_}
+use Prim.Native.Nat.{ℕ, zero, suc, _+_, _*_, _≤_, _<_}
 use native.Mathlib.Numerals.{add-one}
 use native.Mathlib.Omega.{arith}
-use Rattle.guided.specs.Guided.{sumTo}
+use Rattle.laws.specs.Sums.{sumTo}
 
 -- ---- a loop that sums: its invariant is `Summed`, and its steps are `sum-none`, `sum-more` and `sum-end`
 
@@ -27,3 +27,9 @@ pub sum-same : (n : ℕ) (f g : ℕ → ℕ) → ((i : ℕ) → i < n → f i �
 unfolding sumTo
 sum-same zero f g e = refl
 sum-same (suc n) f g e = rw (sum-same n f g (λ i l. e i (omega arith)), e n (omega arith)) refl
+
+-- a sum of values between two bounds
+pub sum-within : (n : ℕ) (f : ℕ → ℕ) (lo hi : ℕ) → ((i : ℕ) → i < n → (lo ≤ f i) × (f i ≤ hi)) → (lo * n ≤ sumTo n f) × (sumTo n f ≤ hi * n)
+unfolding sumTo
+sum-within zero f lo hi h = (omega arith, omega arith)
+sum-within (suc n) f lo hi h = let p = sum-within n f lo hi (λ i l. h i (omega arith)) in let q = h n (omega arith) in (omega (arith, p .0, q .0), omega (arith, p .1, q .1))

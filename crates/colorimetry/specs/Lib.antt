@@ -1,0 +1,3 @@
+pub mod Patches
+pub mod PatchClaims
+pub mod Inner
