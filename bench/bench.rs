@@ -37,7 +37,12 @@ struct Input {
 
 /// Noise that is the same at every run, without padding.
 fn input(w: usize, h: usize, rh: usize, rv: usize, sample_bytes: usize, maxval: u32) -> Input {
-    let (cw, ch) = (w.div_ceil(rh), h.div_ceil(rv));
+    input_by(w, h, (1, rh), (1, rv), sample_bytes, maxval)
+}
+
+/// The same with `rh` pixels to `nh` cells across and `rv` to `nv` down.
+fn input_by(w: usize, h: usize, (nh, rh): (usize, usize), (nv, rv): (usize, usize), sample_bytes: usize, maxval: u32) -> Input {
+    let (cw, ch) = ((w * nh).div_ceil(rh), (h * nv).div_ceil(rv));
     let mut state = 88_172_645_463_325_252u64;
     let mut plane = |w: usize, h: usize| {
         let mut data = Vec::with_capacity(w * h * sample_bytes);
@@ -54,8 +59,10 @@ fn input(w: usize, h: usize, rh: usize, rv: usize, sample_bytes: usize, maxval: 
     let strides = ChromaStrides { y: w * sample_bytes, cb: cw * sample_bytes, cr: cw * sample_bytes };
     let all = [strides.y, strides.cb, strides.cr];
     let bytes = [0, 1, 2].map(|k| Bytes { data: &planes[k], stride: all[k] });
-    let beside = Picture::new(Numbers { w, h, rh, rv, bps: sample_bytes, maxval }, bytes).expect("a picture");
-    let layout = ChromaLayout { w, h, rh, rv, cw, ch, sample_bytes, maxval, siting_across: 0, siting_down: 0 };
+    let beside = Picture::new(Numbers { w, h, nh, nv, rh, rv, bps: sample_bytes, maxval }, bytes).expect("a picture");
+    let layout = ChromaLayout {
+        w, h, rh, rv, cw, ch, sample_bytes, maxval, siting_across: 0, siting_down: 0, num_across: nh, num_down: nv,
+    };
     Input { layout, planes, strides, beside, scratch: vec![0.0; 64 * cw + 8 * w] }
 }
 
@@ -227,6 +234,11 @@ fn main() {
     cell.plane(&i, 0, "linear plane, 2:2");
     cell.plane(&i, 1, "guided plane, 2:2");
     cell.plane(&i, 2, "triangular plane, 2:2");
+    for (num, den) in [(2, 2), (2, 3), (2, 4), (3, 3), (3, 4), (4, 4)] {
+        let i = input_by(1_024, 1_024, (num, den), (num, den), 1, 255);
+        cell.plane(&i, 0, &format!("linear plane, {num} of {den} both ways"));
+        cell.fill(&i, true, false, 3, &format!("fill linear exact, 3 bytes, {num} of {den} both ways, 1024 by 1024"));
+    }
     // Co-sited chroma beside the original's centred rows, which are as much work: the output is another one.
     for (rh, rv) in [(2, 2), (2, 1), (3, 3), (4, 4)] {
         let mut i = input(1_024, 1_024, rh, rv, 1, 255);

@@ -46,7 +46,7 @@ extern "C" {
 /* The interface that this header describes, 0xMMmmpp: raised whenever a struct, a number or a call
  * moves. chroma_version gives that of the library that is linked: a program that was compiled
  * against another one should stop. */
-#define CHROMA_VERSION 0x000300
+#define CHROMA_VERSION 0x000400
 uint32_t chroma_version(void);
 
 /* What a call answers: the first number of its list that applies, where lists follow the order
@@ -58,10 +58,12 @@ enum ChromaRefusal {
     CHROMA_BAD_STATE = 1,     /* a state that open, seek or row never leaves; a phase whose left
                                  is neither 0 nor 1 is one */
     CHROMA_BAD_SIZE = 2,      /* width or height 0 or over 8192 */
-    CHROMA_BAD_RATIO = 3,     /* a ratio outside 1..4 */
+    CHROMA_BAD_RATIO = 3,     /* a ratio outside 1..4, or a numerator that isn't 1; for the linear
+                                 calls a numerator outside 1 to its ratio */
     CHROMA_BAD_SAMPLES = 4,   /* sample_bytes not 1 or 2, or maxval outside 1..255 (1..65535 for
                                  2 bytes), or the fixed kernel with maxval not 255 */
-    CHROMA_BAD_CHROMA = 5,    /* cw not w / rh rounded up, or ch not h / rv rounded up */
+    CHROMA_BAD_CHROMA = 5,    /* cw not w * num_across / rh rounded up, or ch not
+                                 h * num_down / rv rounded up */
     CHROMA_NO_TRIANGULAR = 6, /* triangular with (rh, rv) not (2,1), (1,2) or (2,2), or with rh 2
                                  and cw at most 2 */
     CHROMA_BAD_PLANE = 7,     /* a stride below its row's bytes, or a plane that ends before its
@@ -85,7 +87,9 @@ enum ChromaRefusal {
  * of a sample, the largest sample, and where a chroma sample sits, across and down. 4:2:0 is rh 2
  * and rv 2, 4:2:2 is 2 and 1, 4:4:4 is 1 and 1. A siting is 0 for centred, in the middle of the
  * cell's pixels, as JPEG has it, or 1 for co-sited, on the first of them, as BT.601 has it
- * across: 4:2:2 video is siting_across 1 and siting_down 0. Co-sited chroma is for the linear calls. */
+ * across: 4:2:2 video is siting_across 1 and siting_down 0. The numerators say how many cells lie to
+ * rh pixels across and to rv down: 1 for whole ratios; 2 with rh 3 is two cells to three pixels.
+ * Co-sited chroma and numerators other than 1 are for the linear calls. */
 typedef struct ChromaLayout {
     size_t w, h;
     size_t rh, rv;
@@ -93,10 +97,11 @@ typedef struct ChromaLayout {
     size_t sample_bytes;
     uint32_t maxval;
     uint32_t siting_across, siting_down;
+    size_t num_across, num_down;
 } ChromaLayout;
 
-/* The layout of a picture of one byte a sample with maxval 255 and centred chroma, whose chroma
- * size is the quotient rounded up (0 where a ratio is 0, which every call refuses). */
+/* The layout of a picture of one byte a sample with maxval 255, whole ratios and centred chroma,
+ * whose chroma size is the quotient rounded up (0 where a ratio is 0, which every call refuses). */
 static inline ChromaLayout chroma_layout(size_t w, size_t h, size_t rh, size_t rv) {
     ChromaLayout l;
     l.w = w, l.h = h, l.rh = rh, l.rv = rv;
@@ -104,6 +109,7 @@ static inline ChromaLayout chroma_layout(size_t w, size_t h, size_t rh, size_t r
     l.ch = rv == 0 ? 0 : h / rv + (h % rv != 0);
     l.sample_bytes = 1, l.maxval = 255;
     l.siting_across = 0, l.siting_down = 0;
+    l.num_across = 1, l.num_down = 1;
     return l;
 }
 
@@ -211,7 +217,8 @@ ChromaReply chroma_row(ChromaReader reader,
                        float *out_cr, size_t out_cr_len);
 
 /* One whole chroma plane, interpolated linearly: w * h values into out, row by row without gaps,
- * rounded halves up and limited to 0..maxval. `plane` is Cb or Cr, by either siting.
+ * rounded halves up and limited to 0..maxval. `plane` is Cb or Cr, by either siting
+ * and any numerators.
  * Refusals 255, then 2, 3, 4, 5, 7, 9, 10. */
 uint32_t chroma_linear_plane(ChromaLayout layout,
                              const uint8_t *plane, size_t plane_len, size_t stride,

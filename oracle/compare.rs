@@ -1,5 +1,5 @@
-//! Random pictures and call lists, the crates' sources beside the original; co-sited ones beside
-//! sited.rs.
+//! Random pictures and call lists, the crates' sources beside the original; pairs that aren't whole
+//! beside it too, and co-sited pictures beside sited.rs.
 //! Usage: compare PICTURES LISTS PIXELS FILLS SITED; it ends with status 1 where anything differs.
 mod sited;
 
@@ -57,7 +57,11 @@ fn plane(r: &mut Random, kind: usize, row: usize, h: usize) -> Plane {
 
 /// Picture t: the ratio pairs in turn, sides to 40 by 30, at times 1 by 1.
 fn picture(r: &mut Random, t: usize) -> Picture {
-    let (rh, rv) = (1 + t % 4, 1 + t / 4 % 4);
+    picture_by(r, t, (1, 1 + t % 4), (1, 1 + t / 4 % 4))
+}
+
+/// Picture t with `rh` pixels to `nh` cells across and `rv` to `nv` down.
+fn picture_by(r: &mut Random, t: usize, (nh, rh): (usize, usize), (nv, rv): (usize, usize)) -> Picture {
     let mut w = 1 + r.below(if t % 2 == 0 { 11 } else { 40 });
     let mut h = 1 + r.below(if t % 5 == 0 { 30 } else { 11 });
     if t % 97 == 0 {
@@ -66,8 +70,8 @@ fn picture(r: &mut Random, t: usize) -> Picture {
     let sample_bytes = 1 + r.below(2);
     let most = if sample_bytes == 1 { 255 } else { 65_535 };
     let maxval = if t % 3 == 0 { most } else { 1 + r.below(most) } as u32;
-    let (cw, ch) = (w.div_ceil(rh), h.div_ceil(rv));
-    let (across, down) = (Axis::PLAIN, Axis::PLAIN);
+    let (cw, ch) = ((w * nh).div_ceil(rh), (h * nv).div_ceil(rv));
+    let [across, down] = [nh, nv].map(|num| Axis { num, ..Axis::PLAIN });
     let layout = Layout { w, h, rh, rv, cw, ch, across, down, sample_bytes, maxval };
     let kind = r.below(3);
     let y = plane(r, kind, w * sample_bytes, h);
@@ -81,6 +85,8 @@ fn original(p: &Picture) -> oracle::Picture {
     let numbers = Numbers {
         w: l.w,
         h: l.h,
+        nh: l.across.num,
+        nv: l.down.num,
         rh: l.rh,
         rv: l.rv,
         bps: l.sample_bytes,
@@ -287,20 +293,25 @@ fn cells(p: &Plane, bytes: usize) -> impl Fn(usize, usize) -> i64 + '_ {
     move |i, j| (0..bytes).rev().fold(0, |v, k| v * 256 + p.data[i * p.stride + j * bytes + k] as i64)
 }
 
-/// A linear plane and a linear fill of a picture that is co-sited on one axis or on both; how many
-/// differ from sited.rs with the original's kernels. Guided calls and triangular answer 16.
+/// The pairs that linear calls take, cells and pixels.
+const PAIRS: [(usize, usize); 10] =
+    [(1, 1), (1, 2), (1, 3), (1, 4), (2, 2), (2, 3), (2, 4), (3, 3), (3, 4), (4, 4)];
+
+/// A linear plane and a linear fill of a picture by any pairs, centred every other time and else
+/// co-sited on one axis or on both; how many differ from the original, where centred, and from
+/// sited.rs with the original's kernels. Guided calls and triangular turn it down.
 fn sited_calls(r: &mut Random, t: usize) -> [usize; 3] {
-    let mut p = picture(r, t);
+    let mut p = picture_by(r, t, PAIRS[t / 2 % 10], PAIRS[t / 20 % 10]);
     if r.below(2) == 0 {
         p.layout.maxval = 255;
     }
-    let kind = 1 + r.below(3);
-    let siting = |co_sited: bool| Axis { siting: if co_sited { Siting::CoSited } else { Siting::Centred } };
-    (p.layout.across, p.layout.down) = (siting(kind & 1 != 0), siting(kind & 2 != 0));
+    let kind = if t % 2 == 0 { 0 } else { 1 + r.below(3) };
+    let siting = |bit: usize| if kind & bit != 0 { Siting::CoSited } else { Siting::Centred };
+    (p.layout.across.siting, p.layout.down.siting) = (siting(1), siting(2));
     let l = p.layout;
     let axes = (
-        sited::Axis { co_sited: kind & 1 != 0, ratio: l.rh },
-        sited::Axis { co_sited: kind & 2 != 0, ratio: l.rv },
+        sited::Axis { co_sited: kind & 1 != 0, num: l.across.num, ratio: l.rh },
+        sited::Axis { co_sited: kind & 2 != 0, num: l.down.num, ratio: l.rv },
     );
     let at = |q: &Plane, x, y| sited::chroma(cells(q, l.sample_bytes), (l.cw, l.ch), axes, x, y);
     let places: Vec<(usize, usize)> = (0..l.h).flat_map(|y| (0..l.w).map(move |x| (x, y))).collect();
@@ -308,7 +319,10 @@ fn sited_calls(r: &mut Random, t: usize) -> [usize; 3] {
     let mut out = vec![42_405u16; l.w * l.h + 3];
     let a = ours::linear_plane(l, &p.cb.data, p.cb.stride, &mut s, &mut out);
     let want: Vec<u32> = places.iter().map(|&(x, y)| sited::halves_up(at(&p.cb, x, y) as f64, l.maxval)).collect();
-    let plane = a == Answer::Accepted && agrees(&out, &want);
+    let mut plane = a == Answer::Accepted && agrees(&out, &want);
+    if kind == 0 {
+        plane &= oracle::linear_plane(&original(&p), Chroma::Cb) == want;
+    }
 
     let size = 3 + r.below(2);
     let fixed = l.maxval == 255 && r.below(2) == 0;
@@ -330,16 +344,28 @@ fn sited_calls(r: &mut Random, t: usize) -> [usize; 3] {
         ours::fill(l, &p.y.data, &p.cb.data, &p.cr.data, strides(&p), up, kernel, size, &mut s, out)
     };
     let a = filled(ChromaUpsampling::Linear, &mut rgb);
-    let fill = a == Answer::Accepted && rgb == colours;
+    let mut fill = a == Answer::Accepted && rgb == colours;
+    if kind == 0 {
+        let other = if fixed { oracle::Kernel::Fixed } else { oracle::Kernel::Exact };
+        let mut want = colours.clone();
+        let whole = &mut want[..l.w * l.h * size];
+        oracle::fill(&original(&p), size, oracle::Upsampling::Linear, other, whole).expect("a fill of the original's");
+        fill &= want == colours;
+    }
 
-    let mut others = filled(ChromaUpsampling::LumaGuided, &mut rgb) == Answer::Refused(16) && rgb == colours;
+    let whole = l.across.num == 1 && l.down.num == 1;
+    if whole && kind == 0 {
+        return [plane, fill, true].map(|same| !same as usize);
+    }
+    let refused = Answer::Refused(if whole { 16 } else { 3 });
+    let mut others = filled(ChromaUpsampling::LumaGuided, &mut rgb) == refused && rgb == colours;
     let before = out.clone();
     let a = ours::guided_plane(l, &p.y.data, p.y.stride, &p.cb.data, p.cb.stride, &mut s, &mut out);
-    others &= a == Answer::Refused(16) && out == before;
+    others &= a == refused && out == before;
     let a = ours::triangular_plane(l, &p.cb.data, p.cb.stride, &mut out);
-    others &= matches!(a, Answer::Refused(6 | 16)) && out == before;
+    others &= (a == refused || whole && a == Answer::Refused(6)) && out == before;
     let reply = ours::open(l, &p.y.data, &p.cb.data, &p.cr.data, strides(&p), &s, closed());
-    others &= reply.answer == Answer::Refused(16);
+    others &= reply.answer == refused;
     [plane, fill, others].map(|same| !same as usize)
 }
 
@@ -385,7 +411,7 @@ fn main() {
         (0..3).for_each(|i| sited[i] += found[i]);
     }
     let [planes, filled, refused] = sited;
-    println!("{} co-sited pictures; differ: planes {planes}, fills {filled}, refusals {refused}", counts[4]);
+    println!("{} pictures by any pairs, half of them co-sited; differ: planes {planes}, fills {filled}, refusals {refused}", counts[4]);
     let all = linear + guided + triangular + lists + exact + other + fixed + every + fills
         + planes + filled + refused;
     std::process::exit((all != 0) as i32);

@@ -1,11 +1,12 @@
 //! Linear chroma from its positions in exact fractions: not the original's, which knows centred
 //! chroma alone. BT.601 has a co-sited sample on the first luma sample of its cell, so that output o
-//! of ratio r lies at o/r.
+//! lies at o·num/ratio where `ratio` outputs lie to `num` cells.
 
-/// An axis: whether its samples are co-sited, and how many outputs lie to a cell.
+/// An axis: whether its samples are co-sited, and how many outputs lie to how many cells.
 #[derive(Clone, Copy)]
 pub struct Axis {
     pub co_sited: bool,
+    pub num: usize,
     pub ratio: usize,
 }
 
@@ -17,8 +18,8 @@ struct Tap {
 }
 
 fn tap(axis: Axis, cells: usize, o: usize) -> Tap {
-    let (o, r, last) = (o as i64, axis.ratio as i64, cells as i64 - 1);
-    let (n, whole) = if axis.co_sited { (o, r) } else { (2 * o + 1 - r, 2 * r) };
+    let (o, num, r, last) = (o as i64, axis.num as i64, axis.ratio as i64, cells as i64 - 1);
+    let (n, whole) = if axis.co_sited { (o * num, r) } else { ((2 * o + 1) * num - r, 2 * r) };
     if n < 0 {
         return Tap { cells: [0; 2], part: 0, whole: 1 };
     }

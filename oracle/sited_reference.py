@@ -14,6 +14,8 @@ import struct
 from fractions import Fraction
 
 CENTRED, CO_SITED = 0, 1
+# How many cells lie to how many outputs: the pairs that linear calls take.
+PAIRS = [(num, den) for den in range(1, 5) for num in range(1, den + 1)]
 # The sitings of an axis across and of one down, but for centred both ways.
 SITED = ((CO_SITED, CENTRED), (CENTRED, CO_SITED), (CO_SITED, CO_SITED))
 
@@ -79,16 +81,17 @@ def chroma(cells, w, h, across, down, rh, rv):
 def plane(case, data, stride):
     """The floats of a stored plane by a case's layout and sitings."""
     cells = samples(data, stride, case["size"], case["cw"], case["ch"])
-    across, down = ((siting, 1) for siting in case["sitings"])
+    across, down = zip(case["sitings"], case.get("nums", (1, 1)))
     return chroma(cells, case["w"], case["h"], across, down, case["rh"],
                   case["rv"])
 
 
 def ratio_words(case):
     """The words rh and rv of a stored line whose kind is a capital: the siting
-    is their first digit."""
-    return [case[name] + (siting << 12)
-            for name, siting in zip(("rh", "rv"), case["sitings"])]
+    is their first digit, and the numerator less 1 their second, 15 for 0."""
+    return [case[name] + (siting << 12) + ((num - 1) % 16 << 8)
+            for name, siting, num in zip(("rh", "rv"), case["sitings"],
+                                         case.get("nums", (1, 1)))]
 
 
 def samples(data, stride, size, columns, rows):
@@ -107,6 +110,16 @@ def main():
         found = chroma([[0, 100]], 2 * r, 1, (siting, 1), (CENTRED, 1), r, 1)
         if [halves_up(v, 255) for v in found[0]] != row:
             raise SystemExit("%s at ratio %d: %s" % (siting, r, found[0]))
+    two_of_three, three_of_four = [0, 100, 200, 60], [0, 100, 200, 60, 10, 250]
+    for cells, siting, num, den, row in (
+            (two_of_three, CENTRED, 2, 3, [0, 50, 117, 183, 130, 60]),
+            (two_of_three, CO_SITED, 2, 3, [0, 67, 133, 200, 107, 60]),
+            (three_of_four, CENTRED, 3, 4, [0, 63, 138, 183, 78, 29, 100, 250]),
+            (three_of_four, CO_SITED, 3, 4,
+             [0, 75, 150, 165, 60, 23, 130, 250])):
+        found = chroma([cells], len(row), 1, (siting, num), (CENTRED, 1), den, 1)
+        if [halves_up(v, 255) for v in found[0]] != row:
+            raise SystemExit("%d of %d: %s" % (num, den, found[0]))
     print("as by hand")
 
 

@@ -48,10 +48,11 @@ pub mod reconstruction {
     #[derive(Clone, Copy, Debug, PartialEq)]
     pub struct Axis {
         pub siting: Siting,
+        pub num: usize,
     }
 
     impl Axis {
-        pub const PLAIN: Axis = Axis { siting: Siting::Centred };
+        pub const PLAIN: Axis = Axis { siting: Siting::Centred, num: 1 };
     }
 
     #[derive(Clone, Copy, Debug, PartialEq)]
@@ -139,7 +140,8 @@ pub mod reconstruction {
     fn raw_layout(l: Layout) -> ChromaLayout {
         let Layout { w, h, rh, rv, cw, ch, across, down, sample_bytes, maxval } = l;
         let (siting_across, siting_down) = (across.siting as u32, down.siting as u32);
-        ChromaLayout { w, h, rh, rv, cw, ch, sample_bytes, maxval, siting_across, siting_down }
+        let (num_across, num_down) = (across.num, down.num);
+        ChromaLayout { w, h, rh, rv, cw, ch, sample_bytes, maxval, siting_across, siting_down, num_across, num_down }
     }
 
     /// The state as C has it.

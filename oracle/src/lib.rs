@@ -88,12 +88,15 @@ pub struct Bytes<'a> {
     pub stride: usize,
 }
 
-/// Width and height of the picture, luma samples per chroma sample across
-/// and down, bytes per sample, greatest sample value.
+/// Width and height of the picture, `rh` luma samples to `nh` chroma samples
+/// across and `rv` to `nv` down, bytes per sample, greatest sample value. Only
+/// linear calls look at numerators other than 1.
 #[derive(Clone, Copy, Debug, PartialEq, Eq)]
 pub struct Numbers {
     pub w: usize,
     pub h: usize,
+    pub nh: usize,
+    pub nv: usize,
     pub rh: usize,
     pub rv: usize,
     pub bps: usize,
@@ -115,6 +118,10 @@ pub struct Picture {
     img: JpegImage,
 }
 
+fn chroma_size(n: &Numbers) -> (usize, usize) {
+    ((n.w * n.nh).div_ceil(n.rh), (n.h * n.nv).div_ceil(n.rv))
+}
+
 impl Picture {
     /// A picture of Y, Cb and Cr, or what is wrong with it.
     pub fn new(n: Numbers, planes: [Bytes<'_>; 3]) -> Result<Self, &'static str> {
@@ -124,6 +131,9 @@ impl Picture {
         if !(1..=4).contains(&n.rh) || !(1..=4).contains(&n.rv) {
             return Err("ratio outside 1..4");
         }
+        if !(1..=n.rh).contains(&n.nh) || !(1..=n.rv).contains(&n.nv) {
+            return Err("numerator outside 1 to the ratio");
+        }
         let greatest = match n.bps {
             1 => 255,
             2 => 65_535,
@@ -132,7 +142,7 @@ impl Picture {
         if n.maxval == 0 || n.maxval > greatest {
             return Err("maxval outside 1..255 or 1..65535");
         }
-        let (cw, ch) = (n.w.div_ceil(n.rh), n.h.div_ceil(n.rv));
+        let (cw, ch) = chroma_size(&n);
         for (p, (w, h)) in planes.iter().zip([(n.w, n.h), (cw, ch), (cw, ch)]) {
             let row = w * n.bps;
             let end = (h - 1)
@@ -154,8 +164,7 @@ impl Picture {
 
     /// Width and height of the chroma planes, the rounded-up quotients.
     pub fn chroma_size(&self) -> (usize, usize) {
-        let n = &self.numbers;
-        (n.w.div_ceil(n.rh), n.h.div_ceil(n.rv))
+        chroma_size(&self.numbers)
     }
 
     fn get(&self, plane: usize, x: usize, y: usize) -> u32 {
@@ -179,7 +188,7 @@ impl Picture {
         let (cw, ch) = self.chroma_size();
         let get = |x: usize, y: usize| self.get(plane as usize, x, y);
         let luma = |x: usize, y: usize| self.get(0, x, y);
-        let (hr, vr) = ((1, n.rh), (1, n.rv));
+        let (hr, vr) = ((n.nh, n.rh), (n.nv, n.rv));
         let guide: Option<(&dyn Fn(usize, usize) -> u32, (usize, usize))> = if guided {
             Some((&luma, (n.rh, n.rv)))
         } else {
@@ -349,7 +358,7 @@ pub fn fill(
             Kernel::Fixed => YcbcrKernel::FixedPoint16,
         })
         .with_threads(1);
-    convert::fill_ycbcr_interp(&picture.img, out, bpp, &opts, n.maxval, n.bps, (n.rh, n.rv));
+    convert::fill_ycbcr_interp(&picture.img, out, bpp, &opts, n.maxval, n.bps, (n.nh, n.nv), (n.rh, n.rv));
     Ok(())
 }
 

@@ -262,6 +262,8 @@ impl State {
                 let n = Numbers {
                     w: width,
                     h: height,
+                    nh: 1,
+                    nv: 1,
                     rh,
                     rv,
                     bps,

@@ -114,7 +114,7 @@ static int same_state(const ChromaReader *a, const ChromaReader *b) {
 #define STANDS(type, field, at) CHECK(offsetof(type, field) == (at))
 
 static void test_structs(void) {
-    CHECK(sizeof(ChromaLayout) == 72);
+    CHECK(sizeof(ChromaLayout) == 88);
     STANDS(ChromaLayout, w, 0);
     STANDS(ChromaLayout, h, 8);
     STANDS(ChromaLayout, rh, 16);
@@ -125,6 +125,8 @@ static void test_structs(void) {
     STANDS(ChromaLayout, maxval, 56);
     STANDS(ChromaLayout, siting_across, 60);
     STANDS(ChromaLayout, siting_down, 64);
+    STANDS(ChromaLayout, num_across, 72);
+    STANDS(ChromaLayout, num_down, 80);
     CHECK(sizeof(ChromaStrides) == 24);
     STANDS(ChromaStrides, y, 0);
     STANDS(ChromaStrides, cb, 8);
@@ -314,6 +316,41 @@ static void test_sitings(void) {
     end_slices();
 }
 
+/* Two cells to three pixels and three to four, by both sitings, across and down. */
+static void test_pairs(void) {
+    static const uint8_t cells[] = {0, 100, 200, 60, 10, 250};
+    static const struct {
+        size_t num, den, cells, w;
+        int row[2][8];
+    } pairs[] = {
+        {2, 3, 4, 6, {{0, 50, 117, 183, 130, 60}, {0, 67, 133, 200, 107, 60}}},
+        {3, 4, 6, 8, {{0, 63, 138, 183, 78, 29, 100, 250}, {0, 75, 150, 165, 60, 23, 130, 250}}},
+    };
+    uint8_t *plane = lend_bytes(6);
+    float *scratch = lend_floats(chroma_scratch_need(8, 8));
+    uint16_t *out = lend_values(9);
+
+    memcpy(plane, cells, 6);
+    for (int k = 0; k < 2; k++)
+        for (uint32_t siting = 0; siting < 2; siting++) {
+            size_t w = pairs[k].w, n = pairs[k].cells, need = chroma_scratch_need(n, w);
+            ChromaLayout across = chroma_layout(w, 1, pairs[k].den, 1), down = chroma_layout(1, w, 1, pairs[k].den);
+            across.num_across = pairs[k].num, across.cw = n, across.siting_across = siting;
+            down.num_down = pairs[k].num, down.ch = n, down.siting_down = siting;
+            SAME(chroma_linear_plane(across, plane, n, n, scratch, need, out, w), 0);
+            values_are(out, pairs[k].row[siting], w);
+            SAME(chroma_linear_plane(down, plane, n, 1, scratch, chroma_scratch_need(1, 1), out, w), 0);
+            values_are(out, pairs[k].row[siting], w);
+            across.cw = n - 1;
+            SAME(chroma_linear_plane(across, plane, n, n, scratch, need, out, w), 5);
+            across.num_across = pairs[k].den + 1;
+            SAME(chroma_linear_plane(across, plane, n, n, scratch, need, out, w), 3);
+            across.num_across = 0;
+            SAME(chroma_linear_plane(across, plane, n, n, scratch, need, out, w), 3);
+        }
+    end_slices();
+}
+
 /* Every call with a layout of 9 by 6 pixels: its refusal, and 0 for those that are taken. */
 static void sited_calls(ChromaLayout l, uint32_t guided, uint32_t linear) {
     uint8_t *y = lend_bytes(54), *c = lend_bytes(15), *out = lend_bytes(162);
@@ -346,6 +383,13 @@ static void test_not_centred(void) {
         ChromaLayout l = chroma_layout(9, 6, 2, 2);
         l.siting_across = k % 2, l.siting_down = k / 2;
         sited_calls(l, CHROMA_NOT_CENTRED, CHROMA_ACCEPTED);
+    }
+    /* 2 of 2 is 3 for the others, although each pixel has its cell; so is a numerator past its ratio. */
+    for (uint32_t k = 0; k < 4; k++) {
+        ChromaLayout l = chroma_layout(9, 6, 2, 2);
+        *(k % 2 ? &l.num_across : &l.num_down) = k / 2 ? 3 : 0;
+        l.siting_across = k / 2;
+        sited_calls(l, CHROMA_BAD_RATIO, CHROMA_BAD_RATIO);
     }
     for (uint32_t k = 0; k < 8; k++) {
         ChromaLayout l = chroma_layout(9, 6, 2, 2);
@@ -1149,6 +1193,7 @@ int main(void) {
     test_pixels();
     test_linear_plane();
     test_sitings();
+    test_pairs();
     test_not_centred();
     test_triangular_plane();
     test_guided_plane();

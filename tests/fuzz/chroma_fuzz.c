@@ -84,8 +84,11 @@ static ChromaLayout layout(void) {
     l.h = number();
     l.rh = number() % 6;
     l.rv = number() % 6;
-    l.cw = l.rh ? (l.w + (l.rh - 1)) / l.rh : number();
-    l.ch = l.rv ? (l.h + (l.rv - 1)) / l.rv : number();
+    uint8_t nums = (uint8_t)take(1);
+    l.num_across = nums < 128 ? 1 : nums % 6;
+    l.num_down = nums < 128 ? 1 : nums / 6 % 6;
+    l.cw = l.rh ? (l.w * l.num_across + (l.rh - 1)) / l.rh : number();
+    l.ch = l.rv ? (l.h * l.num_down + (l.rv - 1)) / l.rv : number();
     if (take(1) % 8 == 0) {
         l.cw = number();
     }

@@ -37,6 +37,8 @@ impl From<Layout> for raw::ChromaLayout {
             maxval: l.maxval,
             siting_across: l.siting_across as u32,
             siting_down: l.siting_down as u32,
+            num_across: l.num_across,
+            num_down: l.num_down,
         }
     }
 }

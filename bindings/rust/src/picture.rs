@@ -25,9 +25,9 @@ pub struct Layout {
     pub rh: usize,
     /// Pixels to a chroma cell down, 1 to 4.
     pub rv: usize,
-    /// Chroma cells across: `w / rh` rounded up.
+    /// Chroma cells across: `w * num_across / rh` rounded up.
     pub cw: usize,
-    /// Chroma cells down: `h / rv` rounded up.
+    /// Chroma cells down: `h * num_down / rv` rounded up.
     pub ch: usize,
     /// Bytes of a sample, 1 or 2; two are little-endian.
     pub sample_bytes: usize,
@@ -37,6 +37,11 @@ pub struct Layout {
     pub siting_across: Siting,
     /// Where chroma sits down.
     pub siting_down: Siting,
+    /// Chroma cells to `rh` pixels across: 1 for whole ratios, which all calls take; the linear
+    /// calls take 1 to `rh`.
+    pub num_across: usize,
+    /// Chroma cells to `rv` pixels down.
+    pub num_down: usize,
 }
 
 impl Layout {
@@ -70,6 +75,36 @@ impl Layout {
             maxval: 255,
             siting_across: Siting::Centred,
             siting_down: Siting::Centred,
+            num_across: 1,
+            num_down: 1,
+        }
+    }
+
+    /// The same picture with `across` chroma cells to `rh` pixels and `down` to `rv`, and the chroma
+    /// size that belongs to that. (Sides that no call takes keep their chroma size.)
+    ///
+    /// ```
+    /// use chroma::{linear_plane, Layout, Plane, Scratch};
+    ///
+    /// // Two cells to three pixels.
+    /// let layout = Layout::new(6, 1, 3, 1).with_numerators(2, 1);
+    /// assert_eq!(layout.cw, 4);
+    /// let mut out = [0; 6];
+    /// linear_plane(layout, Plane::new(&[0, 100, 200, 60], 4), &mut Scratch::new(), &mut out)?;
+    /// assert_eq!(out, [0, 50, 117, 183, 130, 60]);
+    /// # Ok::<(), chroma::Refusal>(())
+    /// ```
+    pub fn with_numerators(self, across: usize, down: usize) -> Layout {
+        let cells = |n: usize, num: usize, r: usize, cells: usize| match n.checked_mul(num) {
+            Some(product) if r != 0 => product.div_ceil(r),
+            _ => cells,
+        };
+        Layout {
+            cw: cells(self.w, across, self.rh, self.cw),
+            ch: cells(self.h, down, self.rv, self.ch),
+            num_across: across,
+            num_down: down,
+            ..self
         }
     }
 

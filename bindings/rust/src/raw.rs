@@ -5,7 +5,7 @@ use std::mem::{offset_of, size_of};
 
 /// CHROMA_VERSION of the header that this file follows.
 #[allow(dead_code)]
-pub(super) const VERSION: u32 = 0x00_03_00;
+pub(super) const VERSION: u32 = 0x00_04_00;
 
 #[repr(C)]
 #[derive(Clone, Copy)]
@@ -20,6 +20,8 @@ pub(super) struct ChromaLayout {
     pub(super) maxval: u32,
     pub(super) siting_across: u32,
     pub(super) siting_down: u32,
+    pub(super) num_across: usize,
+    pub(super) num_down: usize,
 }
 
 #[repr(C)]
@@ -94,7 +96,7 @@ pub(super) struct ChromaPatch {
 
 // Where each field stands, as tests/c has it of the header.
 const _: () = {
-    assert!(size_of::<ChromaLayout>() == 72);
+    assert!(size_of::<ChromaLayout>() == 88);
     assert!(offset_of!(ChromaLayout, w) == 0);
     assert!(offset_of!(ChromaLayout, h) == 8);
     assert!(offset_of!(ChromaLayout, rh) == 16);
@@ -105,6 +107,8 @@ const _: () = {
     assert!(offset_of!(ChromaLayout, maxval) == 56);
     assert!(offset_of!(ChromaLayout, siting_across) == 60);
     assert!(offset_of!(ChromaLayout, siting_down) == 64);
+    assert!(offset_of!(ChromaLayout, num_across) == 72);
+    assert!(offset_of!(ChromaLayout, num_down) == 80);
 };
 const _: () = {
     assert!(size_of::<ChromaStrides>() == 24);

@@ -35,7 +35,8 @@ pub enum Refusal {
     BadState,
     /// Width or height 0 or over 8,192.
     BadSize,
-    /// A ratio outside 1..=4.
+    /// A ratio outside 1..=4, or a numerator other than 1; for the linear calls a numerator outside
+    /// 1 to its ratio.
     BadRatio,
     /// Sample bytes not 1 or 2, maxval outside 1..=255 (1..=65,535 for two bytes), or the fixed
     /// kernel with a maxval that is not 255.
@@ -134,7 +135,7 @@ impl fmt::Display for Refusal {
         let words = match self {
             Refusal::BadState => "a state that no call leaves",
             Refusal::BadSize => "width or height 0 or over 8192",
-            Refusal::BadRatio => "ratio outside 1 to 4",
+            Refusal::BadRatio => "ratio outside 1 to 4, or a numerator that the call doesn't take",
             Refusal::BadSamples => "sample bytes or maxval out of range",
             Refusal::BadChroma => "chroma size not the rounded-up quotient",
             Refusal::NoTriangular => "ratios or width that triangular doesn't take",

@@ -20,9 +20,9 @@ use Rattle.ffi.specs.declared.types.ChromaStrides.{ChromaStrides}
 use Rattle.ffi.specs.declared.types.ChromaPhase.{ChromaPhase}
 use Rattle.ffi.specs.declared.types.ChromaReader.{ChromaReader}
 
--- CHROMA_VERSION: 0.3.0 as major, minor and patch, a byte each
+-- CHROMA_VERSION: 0.4.0 as major, minor and patch, a byte each
 abbrev pub version : ℕ
-version = 0x00_0300
+version = 0x00_0400
 
 -- 0 for accepted, else the papers' number
 abbrev pub numberOf : Answer → ℕ
@@ -36,16 +36,16 @@ abbrev pub pickSiting : Bool → Siting → Siting → Siting
 pickSiting true a b = a
 pickSiting false a b = b
 
--- 0 centred, 1 co-sited
-unfoldable pub asAxis : ℕ → Axis
-asAxis n = record { siting = pickSiting (eqb n 1) CoSited Centred }
+-- 0 centred, 1 co-sited; and the numerator
+unfoldable pub asAxis : ℕ → ℕ → Axis
+asAxis siting num = record { siting = pickSiting (eqb siting 1) CoSited Centred; num = num }
 
 -- a siting that is neither 0 nor 1: no layout has this form
 unfoldable pub strangeLayout : ChromaLayout → Bool
 strangeLayout l = ltb 1 (l .«siting_across») || ltb 1 (l .«siting_down»)
 
 unfoldable pub asLayout : ChromaLayout → Layout
-asLayout l = record { w = l .w; h = l .h; rh = l .rh; rv = l .rv; cw = l .cw; ch = l .ch; across = asAxis (l .«siting_across»); down = asAxis (l .«siting_down»); «sample_bytes» = l .«sample_bytes»; maxval = l .maxval }
+asLayout l = record { w = l .w; h = l .h; rh = l .rh; rv = l .rv; cw = l .cw; ch = l .ch; across = asAxis (l .«siting_across») (l .«num_across»); down = asAxis (l .«siting_down») (l .«num_down»); «sample_bytes» = l .«sample_bytes»; maxval = l .maxval }
 
 unfoldable pub asStrides : ChromaStrides → Strides
 asStrides s = record { y = s .y; cb = s .cb; cr = s .cr }

@@ -12,7 +12,8 @@ use laws::Siting;
 use laws::either;
 use taps::Phase;
 
-// A picture's numbers, as `Layout` has them. A siting is 0 for centred and 1 for co-sited; another number stands for none.
+// A picture's numbers, as `Layout` has them: rh pixels to num_across cells, and rv to num_down. A siting is 0 for centred and 1 for co-sited;
+// another number stands for none.
 #[repr(C)]
 pub struct ChromaLayout {
     pub w: usize,
@@ -25,6 +26,8 @@ pub struct ChromaLayout {
     pub maxval: u32,
     pub siting_across: u32,
     pub siting_down: u32,
+    pub num_across: usize,
+    pub num_down: usize,
 }
 
 // How many bytes apart the rows of each plane begin.
@@ -82,16 +85,20 @@ pub struct ChromaWritten {
     pub len: usize,
 }
 
-// The axis that C's siting stands for. Another number than 0 and 1 was answered before.
-fn to_axis(siting: u32) -> Axis
-    ensures { λ r. ⌜ r ≡ asAxis siting ⌝ }
+// The axis that C's siting and numerator stand for. Another siting than 0 and 1 was answered before.
+fn to_axis(siting: u32, num: usize) -> Axis
+    ensures { λ r. ⌜ r ≡ asAxis siting num ⌝ }
 {
     if siting == 1 {
         return Axis {
             siting: Siting::CoSited,
+            num,
         };
     }
-    Axis::PLAIN
+    Axis {
+        siting: Siting::Centred,
+        num,
+    }
 }
 
 // Inner: whether a siting is neither 0 nor 1, so that the layout stands for none.
@@ -112,8 +119,8 @@ pub fn to_layout(l: ChromaLayout) -> Layout
         rv: l.rv,
         cw: l.cw,
         ch: l.ch,
-        across: to_axis(l.siting_across),
-        down: to_axis(l.siting_down),
+        across: to_axis(l.siting_across, l.num_across),
+        down: to_axis(l.siting_down, l.num_down),
         sample_bytes: l.sample_bytes,
         maxval: l.maxval,
     }

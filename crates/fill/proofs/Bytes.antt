@@ -62,7 +62,7 @@ module _ (k : FillCall) (answer : Answer) (s' : List Float) (out' : List ℕ) (g
   painted : out' ≡ pixelRows (k .layout .w) (k .size) (fillColour (k .upsampling) (k .kernel) (pictureOf (k .layout) (k .planes))) 0 (k .layout .h) (k .out)
   painted = rw e at (g .gives)
 
-  lent : FillLent (k .layout) (k .planes) (k .size) (length (k .scratch)) (length (k .out))
+  lent : FillLent (k .upsampling) (k .layout) (k .planes) (k .size) (length (k .scratch)) (length (k .out))
   lent = ready k (sym (g .answers) ∙ accepted-is answer e)
 
   -- red, green and blue of column x of row y

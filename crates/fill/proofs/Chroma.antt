@@ -11,7 +11,7 @@ use lib.ListN.{length}
 use lib.Ieee.{Float, nan}
 use Rattle.laws.proofs.Lists.{put-before}
 use Rattle.image.specs.declared.layout.Layout.{Layout}
-use Rattle.image.specs.Inner.Tests.{Sound}
+use Rattle.image.specs.Inner.Tests.{Shaped}
 use Rattle.image.specs.Samples.{sampleAt}
 use Rattle.image.specs.declared.chroma.Chroma.{Chroma}
 use Rattle.image.specs.declared.chroma.Chroma.the-variants.{Cb, Cr}
@@ -21,7 +21,7 @@ use Rattle.taps.specs.Taps.{tapBy}
 use Rattle.taps.specs.Inner.Taps.{TapGiven}
 use Rattle.linear.specs.Linear.{linearDown, linearSample, linearRow}
 use Rattle.image.specs.Scratch.{scratchNeed, cellAt}
-use Rattle.taps.proofs.Spots.{tap-given}
+use Rattle.taps.proofs.Spots.{tap-given, own-cell}
 use Rattle.linear.proofs.LinearRows.{length-row, row-read}
 use Rattle.guided.specs.Scratch.{finishedAt}
 use Rattle.guided.proofs.Held.{Has}
@@ -30,23 +30,23 @@ use Rattle.guided_rows.proofs.GuidedRows.{length-step, rows-finished}
 use Rattle.fill.specs.declared.options.ChromaUpsampling.{ChromaUpsampling}
 use Rattle.fill.specs.declared.options.ChromaUpsampling.the-variants.{Linear, LumaGuided}
 use Rattle.fill.specs.Fill.{chromaBy, linearPair, linearRows, fillScratch}
-use Rattle.fill.specs.Inner.Steps.{fillStep}
+use Rattle.fill.specs.Inner.Steps.{fillStep, ChromaLent}
 
 -- ---- linear: a sample's cells lie inside the plane, so that the picture gives the same as the plane
 
-module _ (l : Layout) (o : Sound l) (c d : ℕ → ℕ → ℕ) (E : (i j : ℕ) → i < l .cw → j < l .ch → c j i ≡ d j i) where
+module _ (l : Layout) (o : Shaped l) (c d : ℕ → ℕ → ℕ) (E : (i j : ℕ) → i < l .cw → j < l .ch → c j i ≡ d j i) where
   down-same : (y i : ℕ) → y < l .h → i < l .cw → linearDown l c y i ≡ linearDown l d y i
   unfolding linearDown
   down-same y i Y I =
       let t = tapBy (l .down) (l .rv) (l .ch) y in
-      let n : TapGiven (l .down) (l .rv) (l .ch) y t = tap-given (l .down) (l .rv) (l .ch) y t (o .ch-some) (omega arith) refl in
+      let n : TapGiven (l .down) (l .rv) (l .ch) y t = tap-given (l .down) (l .rv) (l .ch) y t (o .ch-some) (own-cell (l .down .num) (l .rv) (l .h) (l .ch) y (o .rv-some) (o .lines) Y) refl in
       rw (E i (t .i0) I (n .i0-inside), E i (t .i1) I (n .i1-inside)) refl
 
   linear-same : (y x : ℕ) → y < l .h → x < l .w → linearSample l c y x ≡ linearSample l d y x
   unfolding linearSample
   linear-same y x Y X =
       let t = tapBy (l .across) (l .rh) (l .cw) x in
-      let n : TapGiven (l .across) (l .rh) (l .cw) x t = tap-given (l .across) (l .rh) (l .cw) x t (o .cw-some) (omega arith) refl in
+      let n : TapGiven (l .across) (l .rh) (l .cw) x t = tap-given (l .across) (l .rh) (l .cw) x t (o .cw-some) (own-cell (l .across .num) (l .rh) (l .w) (l .cw) x (o .rh-some) (o .cells) X) refl in
       rw (down-same y (t .i0) Y (n .i0-inside), down-same y (t .i1) Y (n .i1-inside)) refl
 
 -- ---- the two rows of a linear pair
@@ -101,15 +101,15 @@ module _ {up : ChromaUpsampling} {l : Layout} {ps : Planes} {a n : ℕ} {before 
   scratched-end m h k = let e : n ≡ m = omega arith in w .eq ∙ ap (λ (i : ℕ). fillScratch up l ps a i before) e
 
 -- the next row's finished rows are the chroma of that row
-pub chroma-is : (up : ChromaUpsampling) (l : Layout) (ps : Planes) → Sound l → (a n : ℕ) (before after : List Float) → Scratched up l ps a n before after → scratchNeed l ≤ length before → a + n < l .h
+pub chroma-is : (up : ChromaUpsampling) (l : Layout) (ps : Planes) → ChromaLent up l ps → (a n : ℕ) (before after : List Float) → Scratched up l ps a n before after → scratchNeed l ≤ length before → a + n < l .h
     → (k : Chroma) (x : ℕ) → x < l .w → cellAt (fillStep up l ps a n after) (finishedAt l k) x ≡ chromaBy up (pictureOf l ps) k (a + n) x
 unfolding fillStep chromaBy pictureOf fillScratch
 chroma-is Linear l ps o a n before after w L Y k x X =
     pair-read l ps (a + n) after (rw (w .len) L) x X k
-    ∙ sym (linear-same l o (inside (l .cw) (l .ch) (sampleAt (l .«sample_bytes») (chromaPlane ps k))) (sampleAt (l .«sample_bytes») (chromaPlane ps k)) (λ i j I J. inside-is (l .cw) (l .ch) _ i j I J) (a + n) x Y X)
+    ∙ sym (linear-same l (o .shaped) (inside (l .cw) (l .ch) (sampleAt (l .«sample_bytes») (chromaPlane ps k))) (sampleAt (l .«sample_bytes») (chromaPlane ps k)) (λ i j I J. inside-is (l .cw) (l .ch) _ i j I J) (a + n) x Y X)
 chroma-is LumaGuided l ps o a n before after w L Y k x X =
     ap (λ (z : List Float). cellAt (guidedStep (pictureOf l ps) (Cb ∷ Cr ∷ []) a n z) (finishedAt l k) x) (w .eq)
-    ∙ rows-finished (pictureOf l ps) (Cb ∷ Cr ∷ []) o a before L n Y k (has k) x X
+    ∙ rows-finished (pictureOf l ps) (Cb ∷ Cr ∷ []) (o .whole refl) a before L n Y k (has k) x X
   where
     has : (k : Chroma) → Has k (Cb ∷ Cr ∷ [])
     has Cb = inl refl

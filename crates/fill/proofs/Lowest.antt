@@ -6,12 +6,12 @@ use lib.Ieee.{Float}
 use Rattle.laws.specs.declared.answers.Answer.{Answer}
 use Rattle.laws.specs.Refusals.{placeOf, Ascending, Lowest}
 use Rattle.laws.proofs.Refusals.{given-lowest}
-use Rattle.image.specs.Tests.{layoutTests}
+use Rattle.image.specs.Tests.{testsFor}
 use Rattle.fill.specs.Tests.{FillCall, fillTests}
 use Rattle.fill.specs.Fill.{FillGiven}
 
 pub fill-ascends : (c : FillCall) → Ascending 0 (fillTests c)
-unfolding placeOf Ascending layoutTests fillTests
+unfolding placeOf Ascending testsFor fillTests
 fill-ascends c = (omega arith, (omega arith, (omega arith, (omega arith, (omega arith, (omega arith, (omega arith, (omega arith, (omega arith, tt)))))))))
 
 pub fill-lowest : (c : FillCall) (answer : Answer) (scratch' : List Float) (out' : List ℕ) → FillGiven c answer scratch' out' → Lowest (fillTests c) answer

@@ -11,7 +11,6 @@ use lib.ListN.{length}
 use lib.Ieee.{Float}
 use Rattle.laws.proofs.Rows.{row-fits}
 use Rattle.image.specs.declared.layout.Layout.{Layout}
-use Rattle.image.specs.Inner.Tests.{Sound}
 use Rattle.image.specs.Samples.{sampleAt}
 use Rattle.image.specs.declared.chroma.Chroma.the-variants.{Cb, Cr}
 use Rattle.image.specs.Picture.{Planes, pictureOf}
@@ -25,16 +24,16 @@ use Rattle.kernels.specs.declared.kernel.YcbcrKernel.{YcbcrKernel}
 use Rattle.colour_rows.specs.Inner.Colours.{rowColour, colourRow}
 use Rattle.fill.specs.declared.options.ChromaUpsampling.{ChromaUpsampling}
 use Rattle.fill.specs.Fill.{fillColour, pixelRows}
-use Rattle.fill.specs.Inner.Steps.{fillStep, FillLent}
+use Rattle.fill.specs.Inner.Steps.{fillStep, ChromaLent, FillLent}
 use Rattle.fill.proofs.Chroma.{Scratched, chroma-is}
 
 -- a row of out is no product that wraps, and fits out: it has at most 8,192·4 bytes, and begins at no more than 8,192 times that
-module _ {l : Layout} {ps : Planes} {size space room : ℕ} (c : FillLent l ps size space room) where
+module _ {up : ChromaUpsampling} {l : Layout} {ps : Planes} {size space room : ℕ} (c : FillLent up l ps size space room) where
   pub row-bytes : l .w * size ≤ 32768
-  row-bytes = mul-le-mul (c .lent .sound .w-most) (c .size-most)
+  row-bytes = mul-le-mul (c .lent .shaped .w-most) (c .size-most)
 
   pub row-begins : (y : ℕ) → y < l .h → y * (l .w * size) ≤ 268435456
-  row-begins y Y = let h = c .lent .sound .h-most in let e : y ≤ 8192 = omega arith in mul-le-mul e row-bytes
+  row-begins y Y = let h = c .lent .shaped .h-most in let e : y ≤ 8192 = omega arith in mul-le-mul e row-bytes
 
   pub row-room : (y : ℕ) → y < l .h → y * (l .w * size) + l .w * size ≤ room
   row-room y Y =
@@ -66,7 +65,7 @@ module _ {w size : ℕ} {f : ℕ → ℕ → Colour} {a n : ℕ} {before after :
 
 -- ---- the row that is made of a step's chroma
 
-module _ (up : ChromaUpsampling) (kernel : YcbcrKernel) (l : Layout) (ps : Planes) (o : Sound l) (a n : ℕ) (before after : List Float) (w : Scratched up l ps a n before after) (L : scratchNeed l ≤ length before) (Y : a + n < l .h) where
+module _ (up : ChromaUpsampling) (kernel : YcbcrKernel) (l : Layout) (ps : Planes) (o : ChromaLent up l ps) (a n : ℕ) (before after : List Float) (w : Scratched up l ps a n before after) (L : scratchNeed l ≤ length before) (Y : a + n < l .h) where
   pixel-is : (x : ℕ) → x < l .w → rowColour kernel l (ps .y) (a + n) (fillStep up l ps a n after) x ≡ fillColour up kernel (pictureOf l ps) (a + n) x
   unfolding rowColour fillColour finishedAt pictureOf
   pixel-is x X =

@@ -21,7 +21,7 @@ fn is_fixed(kernel: YcbcrKernel) -> bool
     }
 }
 
-// Whether chroma is guided by luma, which refusal 16 holds to centred axes.
+// Whether chroma is guided by luma, which refusal 3 holds to numerator 1 and refusal 16 to centred axes.
 fn is_guided(upsampling: ChromaUpsampling) -> bool
     ensures { λ r. ⌜ r ≡ isGuided upsampling ⌝ }
 {
@@ -55,7 +55,7 @@ pub fn fill_answer(
         (fillCall layout (planesOf (now (y .entry)) (now (cb .entry)) (now (cr .entry)) strides)
         upsampling kernel size (now (s .entry)) (now (out .entry)))) ⌝ }
 {
-    let answer = layout.answer(is_fixed(kernel));
+    let answer = layout.answer_for(is_guided(upsampling), is_fixed(kernel));
     let answer = laws::then(answer, bad_guided(layout, upsampling), 16);
     let answer = laws::then(answer, image::bad_planes(layout, y, cb, cr, strides), 7);
     let answer = laws::then(answer, laws::outside(3, 4, size), 8);

@@ -7,11 +7,10 @@ ghost use Rattle.image.specs.Picture.{pictureOf, planesOf};
 ghost use Rattle.linear.specs.Linear.{linearRow};
 ghost use Rattle.linear.specs.Inner.Linear.{Ready};
 ghost use Rattle.image.specs.Scratch.{scratchNeed};
-ghost use Rattle.guided_window.specs.Inner.Lent.{Lent};
 ghost use Rattle.colour_rows.specs.Inner.Colours.{colourRow};
 ghost use Rattle.colour_rows.specs.Inner.Lent.{TablesFor};
 ghost use Rattle.fill.specs.Fill.{fillColour, pixelRows, fillScratch};
-ghost use Rattle.fill.specs.Inner.Steps.{fillStep, FillLent};
+ghost use Rattle.fill.specs.Inner.Steps.{fillStep, ChromaLent, FillLent};
 ghost use Rattle.image.specs.Samples.{planeOf};
 use crate::options::ChromaUpsampling;
 use image::Components;
@@ -44,7 +43,7 @@ fn chroma_row(
     n: usize,
     s: &mut [f32],
 )
-    requires { ⌜ Lent layout (planesOf (now y) (now cb) (now cr) strides) Components.Both ⌝ }
+    requires { ⌜ ChromaLent upsampling layout (planesOf (now y) (now cb) (now cr) strides) ⌝ }
     requires { ⌜ (first + n < layout .h) × (scratchNeed layout ≤ length (now s)) ⌝ }
     ensures { λ _. ⌜ now (s .exit) ≡ fillStep upsampling layout
         (planesOf (now (y .entry)) (now (cb .entry)) (now (cr .entry)) strides)
@@ -77,7 +76,7 @@ fn fill_row(
     out: &mut [u8],
     tables: &[[i32; 256]],
 )
-    requires { ⌜ FillLent layout (planesOf (now y) (now cb) (now cr) strides) size (length (now s)) (length (now out)) ⌝ }
+    requires { ⌜ FillLent upsampling layout (planesOf (now y) (now cb) (now cr) strides) size (length (now s)) (length (now out)) ⌝ }
     requires { ⌜ (first + n < layout .h) × TablesFor kernel (now tables) ⌝ }
     ensures { λ _. ⌜ now (s .exit) ≡ fillStep upsampling layout
         (planesOf (now (y .entry)) (now (cb .entry)) (now (cr .entry)) strides)
@@ -109,7 +108,7 @@ fn rows_by(
     out: &mut [u8],
     tables: &[[i32; 256]],
 )
-    requires { ⌜ FillLent layout (planesOf (now y) (now cb) (now cr) strides) size (length (now s)) (length (now out)) ⌝ }
+    requires { ⌜ FillLent upsampling layout (planesOf (now y) (now cb) (now cr) strides) size (length (now s)) (length (now out)) ⌝ }
     requires { ⌜ (a ≤ b) × (b ≤ layout .h) × TablesFor kernel (now tables) ⌝ }
     ensures { λ _. ⌜ now (out .exit) ≡ pixelRows (layout .w) size
         (fillColour upsampling kernel (pictureOf layout (planesOf (now (y .entry)) (now (cb .entry)) (now (cr .entry)) strides)))
@@ -157,7 +156,7 @@ pub fn fill_rows(
     s: &mut [f32],
     out: &mut [u8],
 )
-    requires { ⌜ FillLent layout (planesOf (now y) (now cb) (now cr) strides) size (length (now s)) (length (now out)) ⌝ }
+    requires { ⌜ FillLent upsampling layout (planesOf (now y) (now cb) (now cr) strides) size (length (now s)) (length (now out)) ⌝ }
     requires { ⌜ (a ≤ b) × (b ≤ layout .h) ⌝ }
     ensures { λ _. ⌜ now (out .exit) ≡ pixelRows (layout .w) size
         (fillColour upsampling kernel (pictureOf layout (planesOf (now (y .entry)) (now (cb .entry)) (now (cr .entry)) strides)))

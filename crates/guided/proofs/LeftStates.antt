@@ -62,10 +62,10 @@ phases-pass l = rw (same-self (phaseAt (l .rh) 0), same-self (phaseAt (l .rh) 1)
 abbrev flat : Layout → Layout
 flat l = record { w = l .w; h = l .h; rh = l .rh; rv = l .rv; cw = l .cw; ch = l .ch; across = plain; down = plain; «sample_bytes» = l .«sample_bytes»; maxval = l .maxval }
 
--- where 16 does not apply that is the layout itself, so that a reader fresh from an accepted open has the layout that open was given
-pub plain-back : (l : Layout) → badSiting l ≡ false → readerLayout (afterOpen l) ≡ l
+-- where 3 and 16 do not apply that is the layout itself, so that a reader fresh from an accepted open has the layout that open was given
+pub plain-back : (l : Layout) → Failed (layoutTests false l) → badSiting l ≡ false → readerLayout (afterOpen l) ≡ l
 unfolding afterOpen readerAt readerLayout geometryOf
-plain-back l e = let p = plain-axes l e in flat-is (p .0) (p .1)
+plain-back l f e = let p = plain-axes (sound false l f) e in flat-is (p .0) (p .1)
   where
     flat-is : l .across ≡ plain → l .down ≡ plain → flat l ≡ l
     flat-is a d = λ i. record { w = l .w; h = l .h; rh = l .rh; rv = l .rv; cw = l .cw; ch = l .ch; across = sym a i; down = sym d i; «sample_bytes» = l .«sample_bytes»; maxval = l .maxval }
@@ -75,7 +75,7 @@ pub after-open-passes : (l : Layout) → Failed (layoutTests false l) → badSit
 unfolding badState badCounters afterOpen readerAt readerLayout geometryOf topOf
 after-open-passes l f e =
     passes (accepted (first (layoutTests false (flat l)))) (badPhases (geometryOf l)) (leb (l .h) 0) (badCounters (afterOpen l))
-    (ap accepted (ap (λ (k : Layout). first (layoutTests false k)) (plain-back l e) ∙ failed-accepted (layoutTests false l) f)) (phases-pass l) (lt-leb (l .h) 0 (sound false l f .h-some)) (first-pair (freshH l 0) (freshF l 0) _)
+    (ap accepted (ap (λ (k : Layout). first (layoutTests false k)) (plain-back l f e) ∙ failed-accepted (layoutTests false l) f)) (phases-pass l) (lt-leb (l .h) 0 (sound false l f .h-some)) (first-pair (freshH l 0) (freshF l 0) _)
 
 module _ (s : Reader) (y : ℕ) (e : badState s ≡ false) (Y : y < s .geometry .h) where
   pub after-seek-passes : badState (afterSeek s y) ≡ false

@@ -4,12 +4,12 @@ use native.Mathlib.Omega.{arith}
 use lib.Ieee.{Float}
 use Rattle.laws.specs.Refusals.{placeOf, Ascending, Lowest}
 use Rattle.laws.proofs.Refusals.{given-lowest}
-use Rattle.image.specs.Tests.{layoutTests}
+use Rattle.image.specs.Tests.{testsFor}
 use Rattle.guided.specs.declared.state.Reply.{Reply}
 use Rattle.guided.specs.Calls.{OpenCall, SeekCall, RowCall, openTests, seekTests, rowTests, OpenGiven, SeekGiven, RowGiven}
 
 pub open-ascends : (o : OpenCall) → Ascending 0 (openTests o)
-unfolding placeOf Ascending layoutTests openTests
+unfolding placeOf Ascending testsFor openTests
 open-ascends o = (omega arith, (omega arith, (omega arith, (omega arith, (omega arith, (omega arith, (omega arith, tt)))))))
 
 pub open-lowest : (o : OpenCall) (r : Reply) → OpenGiven o r → Lowest (openTests o) (r .answer)

@@ -148,7 +148,7 @@ open-ok : (o : OpenCall) (b : Bytes o) → OpenHanded o → Ok (record { by = o;
 unfolding afterOpen readerAt readerLayout geometryOf pictureOf
 open-ok o b h = record {
   state = after-open-passes (o .layout) (h .layout) (h .siting);
-  layout = plain-back (o .layout) (h .siting);
+  layout = plain-back (o .layout) (h .layout) (h .siting);
   planes = h .planes;
   bytes = b;
   win = win-fresh (pictureBy o) (Cb ∷ Cr ∷ []) (topOf (o .layout) 0) (o .scratch) (h .room);

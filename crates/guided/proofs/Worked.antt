@@ -17,7 +17,7 @@ use Rattle.laws.specs.Sums.{sumTo}
 use Rattle.laws.specs.Refusals.{first, accepted}
 use Rattle.laws.proofs.Refusals.{Failed, failed-accepted}
 use Rattle.image.specs.declared.layout.Layout.{Layout}
-use Rattle.image.specs.Tests.{badSize, badRatio, badSamples, divCeil, badChroma, badSiting, layoutTests, badPlane}
+use Rattle.image.specs.Tests.{badSize, badRatio, badSamples, divCeil, badChroma, badSiting, layoutTests, badPlane, testsFor}
 use Rattle.image.specs.Samples.{sampleOf, sampleAt}
 use Rattle.image.specs.declared.chroma.Chroma.the-variants.{Cb, Cr}
 use Rattle.image.specs.Picture.{Planes, chromaPlane, inside, pictureOf, shortPlane, badPlanes}
@@ -106,23 +106,23 @@ unfolding rowScratch
 length-scratch c = length-row _ _ _ _ _ _ (c .scratch)
 
 openA-answer : first (openTests openA) ≡ Accepted
-unfolding openTests first layoutTests badSize badRatio badSamples divCeil badChroma badSiting badPlane shortPlane badPlanes scratchNeed
+unfolding openTests first testsFor badSize badRatio badSamples divCeil badChroma badSiting badPlane shortPlane badPlanes scratchNeed
 openA-answer = refl
 
 badOpen-answer : first (openTests badOpen) ≡ Refused 2
-unfolding openTests first layoutTests badSize
+unfolding openTests first testsFor badSize
 badOpen-answer = refl
 
 badRow-answer : first (rowTests badRow) ≡ Refused 1
-unfolding rowTests first badState readerLayout layoutTests badSize badRatio badSamples
+unfolding rowTests first badState readerLayout testsFor badSize badRatio badSamples
 badRow-answer = refl
 
 layoutA-sound : Failed (layoutTests false layoutA)
-unfolding layoutTests badSize badRatio badSamples divCeil badChroma
+unfolding testsFor badSize badRatio badSamples divCeil badChroma
 layoutA-sound = (refl, (refl, (refl, (refl, tt))))
 
 layoutB-sound : Failed (layoutTests false layoutB)
-unfolding layoutTests badSize badRatio badSamples divCeil badChroma
+unfolding testsFor badSize badRatio badSamples divCeil badChroma
 layoutB-sound = (refl, (refl, (refl, (refl, tt))))
 
 state0 : badState (afterOpen layoutA) ≡ false
@@ -156,7 +156,7 @@ unfolding rowTests afterOpen afterRow afterSeek readerAt geometryOf readerLayout
 row1-answer = failed-accepted (rowTests row1) (state2, (refl, (rw scratch0 refl, (refl, (refl, (refl, tt))))))
 
 openB-answer : first (openTests openB) ≡ Accepted
-unfolding openTests layoutTests badSize badRatio badSamples divCeil badChroma badSiting badPlane shortPlane badPlanes scratchNeed
+unfolding openTests testsFor badSize badRatio badSamples divCeil badChroma badSiting badPlane shortPlane badPlanes scratchNeed
 openB-answer = failed-accepted (openTests openB) (refl, (refl, (refl, (refl, (refl, (refl, (rw scratch1 refl, tt)))))))
 
 row2-answer : first (rowTests row2) ≡ Accepted

@@ -7,7 +7,6 @@ ghost use Rattle.image.specs.Scratch.{scratchNeed};
 ghost use Rattle.guided_pixels.specs.Inner.Columns.{lerpRun, ColumnGiven, downColumn};
 use guided_window::Window;
 use image::Layout;
-use laws::Axis;
 
 // The n cells at a and the n cells at b, lerped by f, to s from dst on.
 fn lerp_row(s: &mut [f32], a: usize, b: usize, f: f32, n: usize, dst: usize)
@@ -34,7 +33,7 @@ pub fn down_column(layout: Layout, n: usize, m: usize, y: usize, s: &mut [f32])
     requires { ⌜ Sound layout × (n < 15) × (m < 5) × (y < layout .h) × (scratchNeed layout ≤ length (now s)) ⌝ }
     ensures { λ _. ⌜ now (s .exit) ≡ downColumn layout n m y (now (s .entry)) ⌝ }
 {
-    let t = taps::tap_at(Axis::PLAIN, layout.rv, layout.ch, y);
+    let t = taps::plain_tap(layout.rv, layout.ch, y);
     let a = guided_window::slot_at(layout, n, t.i0);
     let b = guided_window::slot_at(layout, n, t.i1);
     let dst = column_at(layout, m);

@@ -9,11 +9,11 @@ use Rattle.laws.specs.Refusals.{placeOf, Ascending, Lowest}
 use Rattle.laws.proofs.Refusals.{given-lowest}
 use Rattle.image.specs.declared.layout.Layout.{Layout}
 use Rattle.image.specs.Samples.{Plane}
-use Rattle.image.specs.Tests.{layoutTests}
+use Rattle.image.specs.Tests.{testsFor}
 use Rattle.guided_plane.specs.Plane.{guidedTests, GuidedGiven}
 
 pub guided-ascends : (l : Layout) (y c : Plane) (space room : ℕ) → Ascending 0 (guidedTests l y c space room)
-unfolding placeOf Ascending layoutTests guidedTests
+unfolding placeOf Ascending testsFor guidedTests
 guided-ascends l y c space room = (omega arith, (omega arith, (omega arith, (omega arith, (omega arith, (omega arith, (omega arith, (omega arith, tt))))))))
 
 pub guided-lowest : (l : Layout) (y c : Plane) (scratch : List Float) (out : List ℕ) (answer : Answer) (scratch' : List Float) (out' : List ℕ)

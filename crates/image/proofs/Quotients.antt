@@ -1,5 +1,5 @@
 -- Laws of the rounded-up quotient (n + (r - 1)) / r. Equations come from n = (n / r) * r + n % r, bounds from turning a quotient below m into a
--- number below m * r. Products with r are not linear, so that omega is handed them as terms; `ceil-most` needs the most of it.
+-- number below m * r. Products with r are not linear, so that omega is handed them as terms.
 use mathlib.Core.Path.{_≡_, ap, _∙_}
 use mathlib.Core.Logic.{inl, inr}
 use Prim.Native.Nat.{ℕ, suc, _+_, _-_, _*_, _/_, _%_, _≤_, _<_}
@@ -56,13 +56,13 @@ ceil-covers n r p =
     let l : m % r < r = mod-lt m p in
     omega arith
 
--- there are no more cells than pixels, and one at least
-pub ceil-most : (n r : ℕ) → 0 < r → divCeil n r ≤ n
+-- there are no more cells than m where m cells reach over the pixels, so no more than pixels, and one at least
+pub ceil-within : (n r m : ℕ) → 0 < r → n ≤ m * r → divCeil n r ≤ m
 unfolding divCeil
-ceil-most n r p = le-of-suc-le-suc (div-lt-iff-lt-mul p .1 (less n r p))
-  where
-    less : (n r : ℕ) → 0 < r → n + (r - 1) < suc n * r
-    less n r p = omega (arith, suc-mul n r, mul-le-mul-left n p)
+ceil-within n r m p h = le-of-suc-le-suc (div-lt-iff-lt-mul p .1 (omega (arith, suc-mul m r)))
+
+pub ceil-most : (n r : ℕ) → 0 < r → divCeil n r ≤ n
+ceil-most n r p = ceil-within n r n p (omega (arith, mul-le-mul-left n p))
 
 pub ceil-some : (n r : ℕ) → 0 < r → 0 < n → 0 < divCeil n r
 ceil-some n r p h = elim (eq-zero-or-pos (divCeil n r)) [ inl e ↦ absurd (none (divCeil n r) e (ceil-covers n r p)) | inr l ↦ l ]

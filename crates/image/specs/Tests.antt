@@ -1,4 +1,5 @@
--- The tests behind refusals 2, 3, 4, 5, 16 and 7, in the order and words of document 01's table and, for 16, document 02's request W2. Definitions only.
+-- The tests behind refusals 2, 3, 4, 5, 16 and 7, in the order and words of document 01's table and of document 02's requests W2 (16) and W11 (ratios that
+-- aren't whole). Definitions only.
 use mathlib.Core.Bool.{Bool, true, false, _&&_, _||_, not, cond}
 use mathlib.Core.List.{List, [], _∷_}
 use Prim.Native.Nat.{ℕ, _+_, _-_, _*_, _/_}
@@ -7,15 +8,20 @@ use Rattle.laws.specs.Refusals.{Test}
 use Rattle.laws.specs.Numbers.{outsideOf}
 use Rattle.laws.specs.declared.axes.Siting.{Siting}
 use Rattle.laws.specs.declared.axes.Siting.the-variants.{Centred, CoSited}
+use Rattle.laws.specs.declared.axes.Axis.{Axis}
 use Rattle.image.specs.declared.layout.Layout.{Layout}
 
 -- 2: "width or height 0 or over 8,192"
 unfoldable pub badSize : Layout → Bool
 badSize l = outsideOf 1 8192 (l .w) || outsideOf 1 8192 (l .h)
 
--- 3: "ratio outside 1..4"
-unfoldable pub badRatio : Layout → Bool
-badRatio l = outsideOf 1 4 (l .rh) || outsideOf 1 4 (l .rv)
+-- num cells to r outputs: "a numerator and denominator per axis, each 1 to 4, numerator no greater"; `whole` where the numerator must be 1
+abbrev pub badPair : Bool → Axis → ℕ → Bool
+badPair whole a r = outsideOf 1 4 r || outsideOf 1 (cond whole 1 r) (a .num)
+
+-- 3: "ratio outside 1..4"; "Guided and triangular stay with numerator 1. A pair outside these gets refusal 3"
+unfoldable pub badRatio : Bool → Layout → Bool
+badRatio whole l = badPair whole (l .across) (l .rh) || badPair whole (l .down) (l .rv)
 
 -- the most that a sample of one or of two bytes holds
 abbrev pub mostOf : ℕ → ℕ
@@ -29,13 +35,17 @@ badSamples fixed l = (outsideOf 1 2 (l .«sample_bytes») || outsideOf 1 (mostOf
 unfoldable pub divCeil : ℕ → ℕ → ℕ
 divCeil n r = (n + (r - 1)) / r
 
--- 5: "chroma size not the rounded-up quotient"
+-- 5: "chroma size not the rounded-up quotient": "Chroma width is w·num/den rounded up, height likewise"
 unfoldable pub badChroma : Layout → Bool
-badChroma l = not (eqb (l .cw) (divCeil (l .w) (l .rh))) || not (eqb (l .ch) (divCeil (l .h) (l .rv)))
+badChroma l = not (eqb (l .cw) (divCeil (l .w * l .across .num) (l .rh))) || not (eqb (l .ch) (divCeil (l .h * l .down .num) (l .rv)))
 
--- the tests that open, the planes and fill begin with
-unfoldable pub layoutTests : Bool → Layout → List Test
-layoutTests fixed l = (badSize l, 2) ∷ (badRatio l, 3) ∷ (badSamples fixed l, 4) ∷ (badChroma l, 5) ∷ []
+-- the tests that open, the planes and fill begin with: `whole` for guided and triangular, which "stay with numerator 1", and not for linear
+unfoldable pub testsFor : Bool → Bool → Layout → List Test
+testsFor whole fixed l = (badSize l, 2) ∷ (badRatio whole l, 3) ∷ (badSamples fixed l, 4) ∷ (badChroma l, 5) ∷ []
+
+-- those of guided and triangular
+abbrev pub layoutTests : Bool → Layout → List Test
+layoutTests fixed l = testsFor true fixed l
 
 abbrev pub coSited : Siting → Bool
 coSited Centred = false

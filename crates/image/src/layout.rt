@@ -1,7 +1,9 @@
-// Sizes, ratios, axes, sample bytes and maxval, and the tests on them. Each test answers for every number, so that any may be asked first.
+// Sizes, ratios, axes, sample bytes and maxval, and the tests on them. Each test but 5's answers for every number, so that any may be asked first.
 ghost use mathlib.Core.Path.{_≡_};
+ghost use mathlib.Core.Bool.{cond};
+ghost use Prim.Native.Nat.{_*_, _≤_};
 ghost use Rattle.laws.specs.Refusals.{first};
-ghost use Rattle.image.specs.Tests.{mostOf, divCeil, badSize, badRatio, badSamples, badChroma, coSited, badSiting, layoutTests};
+ghost use Rattle.image.specs.Tests.{mostOf, divCeil, badSize, badPair, badRatio, badSamples, badChroma, coSited, badSiting, testsFor, layoutTests};
 use laws::Answer;
 use laws::Axis;
 use laws::Siting;
@@ -10,8 +12,8 @@ use laws::either;
 use laws::outside;
 use laws::then;
 
-// The numbers of a picture: w by h pixels, rh by rv of them to a cell, cw by ch cells, where a sample sits in its cell across and down, and how
-// it is stored.
+// The numbers of a picture: w by h pixels, rh by rv of them to as many cells as the axes' numerators say, cw by ch cells, where a sample sits in
+// its cell across and down, and how it is stored.
 pub struct Layout {
     pub w: usize,
     pub h: usize,
@@ -29,7 +31,7 @@ impl Layout {
     // The longest side of a picture, in pixels.
     pub const SIDE: usize = 8_192;
 
-    // The largest ratio, across and down: how many pixels a cell has along one side.
+    // The largest ratio, across and down: how many pixels a cell has along one side, or as many cells as the numerator says.
     pub const RATIO: usize = 4;
 }
 
@@ -51,6 +53,31 @@ fn most(sample_bytes: usize) -> usize
     ensures { λ r. ⌜ r ≡ mostOf «sample_bytes» ⌝ }
 {
     if sample_bytes == 1 { 255 } else { 65_535 }
+}
+
+// The largest numerator at ratio r: where ratios are whole it is 1.
+fn most_num(whole: bool, r: usize) -> usize
+    ensures { λ n. ⌜ n ≡ cond whole 1 r ⌝ }
+{
+    if whole { 1 } else { r }
+}
+
+// Whether the numerator of an axis over its ratio is none that there is.
+fn bad_pair(whole: bool, axis: Axis, r: usize) -> bool
+    ensures { λ b. ⌜ b ≡ badPair whole axis r ⌝ }
+{
+    either(
+        outside(1, Layout::RATIO, r),
+        outside(1, most_num(whole, r), axis.num),
+    )
+}
+
+// How many cells an axis has to n outputs, the last of which may reach past them.
+fn cells_to(n: usize, axis: Axis, r: usize) -> usize
+    requires { ⌜ (n ≤ 8192) × (axis .num ≤ 4) ⌝ }
+    ensures { λ q. ⌜ q ≡ divCeil (n * axis .num) r ⌝ }
+{
+    div_ceil(n * axis.num, r)
 }
 
 // Whether an axis is sampled over the first output of each cell.
@@ -75,13 +102,14 @@ impl Layout {
         )
     }
 
-    // Inner: refusal 3's test, whether a ratio is 0 or larger than `Layout::RATIO`.
-    pub fn bad_ratio(self) -> bool
-        ensures { λ r. ⌜ r ≡ badRatio self ⌝ }
+    // Inner: refusal 3's test, whether a ratio is 0 or larger than `Layout::RATIO`, or its numerator 0 or larger than the ratio. `whole` says that
+    // the call takes numerator 1 alone.
+    pub fn bad_ratio(self, whole: bool) -> bool
+        ensures { λ r. ⌜ r ≡ badRatio whole self ⌝ }
     {
         either(
-            outside(1, Layout::RATIO, self.rh),
-            outside(1, Layout::RATIO, self.rv),
+            bad_pair(whole, self.across, self.rh),
+            bad_pair(whole, self.down, self.rv),
         )
     }
 
@@ -94,13 +122,15 @@ impl Layout {
         either(either(bytes, range), both(fixed, self.maxval != 255))
     }
 
-    // Inner: refusal 5's test, whether the chroma size is other than the rounded-up quotient of size and ratio.
+    // Inner: refusal 5's test, whether the chroma size is other than the rounded-up quotient of size times numerator and ratio. It is asked once 2
+    // and 3 are known not to apply, so that no product passes 2^64.
     pub fn bad_chroma(self) -> bool
+        requires { ⌜ (self .w ≤ 8192) × (self .h ≤ 8192) × (self .across .num ≤ 4) × (self .down .num ≤ 4) ⌝ }
         ensures { λ r. ⌜ r ≡ badChroma self ⌝ }
     {
         either(
-            self.cw != div_ceil(self.w, self.rh),
-            self.ch != div_ceil(self.h, self.rv),
+            self.cw != cells_to(self.w, self.across, self.rh),
+            self.ch != cells_to(self.h, self.down, self.rv),
         )
     }
 
@@ -111,13 +141,25 @@ impl Layout {
         either(co_sited(self.across), co_sited(self.down))
     }
 
-    // Inner: the lowest of refusals 2 to 5 that applies, with which open, the calls for planes and fill begin.
+    // Inner: the lowest of refusals 2 to 5 that applies, with which open, the calls for planes and fill begin. `whole` says that the call takes
+    // numerator 1 alone, `fixed` that the fixed kernel fills.
+    pub fn answer_for(self, whole: bool, fixed: bool) -> Answer
+        ensures { λ r. ⌜ r ≡ first (testsFor whole fixed self) ⌝ }
+    {
+        if self.bad_size() {
+            return Answer::Refused(2);
+        }
+        if self.bad_ratio(whole) {
+            return Answer::Refused(3);
+        }
+        let answer = then(Answer::Accepted, self.bad_samples(fixed), 4);
+        then(answer, self.bad_chroma(), 5)
+    }
+
+    // Inner: the same for a call that takes whole ratios alone.
     pub fn answer(self, fixed: bool) -> Answer
         ensures { λ r. ⌜ r ≡ first (layoutTests fixed self) ⌝ }
     {
-        let answer = then(Answer::Accepted, self.bad_size(), 2);
-        let answer = then(answer, self.bad_ratio(), 3);
-        let answer = then(answer, self.bad_samples(fixed), 4);
-        then(answer, self.bad_chroma(), 5)
+        self.answer_for(true, fixed)
     }
 }

@@ -1,10 +1,10 @@
 -- Outputs between neighbouring cells: which cells and which fraction each has, shown once for any ratio and either siting.
 -- The hard step is `centred-between`: output r / 2 + m lies between cells m / r and m / r + 1, by splitting m as (m / r) * r + m % r. Co-sited,
 -- output m does by the definition.
-use mathlib.Core.Path.{_≡_, refl, sym, ap, _∙_}
+use mathlib.Core.Path.{_≡_, refl, sym, ap, subst, _∙_}
 use mathlib.Core.List.{List, [], _∷_}
 use Prim.Native.Nat.{ℕ, zero, suc, _+_, _-_, _*_, _/_, _%_, _≤_, _<_}
-use native.Mathlib.Nat.{mul-comm, le-trans, div-add-mod', mod-lt, div-lt-iff-lt-mul, div-mul-le-self}
+use native.Mathlib.Nat.{mul-comm, le-of-mul-le-mul-right, le-trans, div-add-mod', mod-lt, div-lt-iff-lt-mul, div-mul-le-self}
 use native.Mathlib.Omega.{arith}
 use lib.Arith.{digits-div, digits-mod}
 use lib.Ieee.{Float, nan}
@@ -99,13 +99,13 @@ between-tap : (siting : Siting) (r len m : ℕ) → 1 < r → m / r + 1 < len �
 between-tap Centred r len m p h = ap tapOn (centred-between r len m p h)
 between-tap CoSited r len m p h = ap tapOn (co-sited-between r len m p h)
 
--- the outputs between n pairs of cells are those of the row behind its head
-pub between-taps : (a : Axis) (r src cw n dst : ℕ) (s : List Float) → 1 < r → n < cw
+-- one cell to r outputs: the outputs between n pairs of cells are those of the row behind its head
+pub between-taps : (a : Axis) (r src cw n dst : ℕ) (s : List Float) → a .num ≡ 1 → 1 < r → n < cw
     → betweenRun (partOf (a .siting) r) r src n (dst + headOf (a .siting) r) s ≡ acrossRun a src cw r dst (headOf (a .siting) r) (r * n) s
 unfolding betweenRun acrossRun tapBy
-between-taps a r src cw n dst s p h =
+between-taps a r src cw n dst s e p h =
     put-same s (dst + headOf (a .siting) r) (r * n) _ _
-    (λ i l. sym (ap (λ (t : Tap). acrossBy t (cellAt s src)) (between-tap (a .siting) r cw i p (pair i l))))
+    (λ i l. sym (ap (λ (t : Tap). acrossBy t (cellAt s src)) (ap (λ (num : ℕ). tapOn (spotOf (a .siting) num r cw (headOf (a .siting) r + i))) e ∙ between-tap (a .siting) r cw i p (pair i l))))
   where
     pair : (i : ℕ) → i < r * n → i / r + 1 < cw
     pair i l =
@@ -190,3 +190,11 @@ pairs-fit r cw w head lead g h l k =
 
     eights : (n r : ℕ) → n ≡ 1 → r ≡ 2 → 8 ≤ (w - n) / r
     eights n r a b = rw (a, b) (omega arith)
+
+-- one cell to an output: as many cells as outputs
+pub one-each : (num r w cw : ℕ) → 0 < r → w * num ≤ cw * r → num ≡ r → w ≤ cw
+one-each num r w cw z h e = le-of-mul-le-mul-right (subst (λ (x : ℕ). w * x ≤ cw * r) e h) z
+
+-- one cell to r outputs
+pub one-cell : (w num c : ℕ) → num ≡ 1 → w * num ≤ c → w ≤ c
+one-cell w num c e h = let k : w * num ≡ w * 1 = ap (λ (x : ℕ). w * x) e in omega arith

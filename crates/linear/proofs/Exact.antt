@@ -168,7 +168,7 @@ rounded-exact (fin true m e) p c top z h =
     least : (t : ℕ) → min t 0 ≡ 0
     least t = omega arith
 
--- ---- at ratios 1, 2 and 4
+-- ---- at denominators 1, 2 and 4
 
 module _ (num den len o i : ℕ) (l : i < 3) (e : den ≡ 2 ^ i) where
   some : 0 < den
@@ -188,8 +188,8 @@ module _ (num den len o i : ℕ) (l : i < 3) (e : den ≡ 2 ^ i) where
       by-co-sited Binary num den len o (λ _. cell o)
       (by-place Binary (o * num) den len (λ _. cell (len - 1)) (λ _. record { j = i; few = omega arith; is = e; part = mod-lt (o * num) some }))
 
--- an output of ratio 1, 2 or 4
-pub whole-ratio : (siting : Siting) (r len o : ℕ) → OneTwoFour r → Binary (spotOf siting 1 r len o)
-whole-ratio siting r len o (inl e) = spot-binary 1 r len o 0 (lit≤ tt) e siting
-whole-ratio siting r len o (inr (inl e)) = spot-binary 1 r len o 1 (lit≤ tt) e siting
-whole-ratio siting r len o (inr (inr e)) = spot-binary 1 r len o 2 (lit≤ tt) e siting
+-- an output of denominator 1, 2 or 4
+pub ratio-binary : (siting : Siting) (num den len o : ℕ) → OneTwoFour den → Binary (spotOf siting num den len o)
+ratio-binary siting num den len o (inl e) = spot-binary num den len o 0 (lit≤ tt) e siting
+ratio-binary siting num den len o (inr (inl e)) = spot-binary num den len o 1 (lit≤ tt) e siting
+ratio-binary siting num den len o (inr (inr e)) = spot-binary num den len o 2 (lit≤ tt) e siting

@@ -8,4 +8,5 @@ pub mod Lowest
 pub mod Positions
 pub mod Span
 pub mod Surplus
+pub mod Turns
 pub mod Vectors

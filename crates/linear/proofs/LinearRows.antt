@@ -15,9 +15,9 @@ use Rattle.image.specs.declared.layout.Layout.{Layout}
 use Rattle.laws.specs.declared.answers.Answer.the-variants.{Accepted}
 use Rattle.laws.specs.Refusals.{first}
 use Rattle.laws.proofs.Refusals.{accepted-failed, failed-both}
-use Rattle.image.specs.Tests.{layoutTests}
-use Rattle.image.specs.Inner.Tests.{Sound}
-use Rattle.image.proofs.Layouts.{sound}
+use Rattle.image.specs.Tests.{testsFor}
+use Rattle.image.specs.Inner.Tests.{Shaped}
+use Rattle.image.proofs.Layouts.{shaped}
 use Rattle.image.specs.Samples.{Plane, sampleAt}
 use Rattle.fround.specs.Rounding.{roundClamped}
 use Rattle.taps.specs.declared.positions.Tap.{Tap}
@@ -30,7 +30,7 @@ use Rattle.linear.specs.Inner.Down.{downRun}
 use Rattle.linear.specs.Linear.{acrossBy}
 use Rattle.linear.specs.Inner.AcrossRows.{acrossRun}
 use Rattle.linear.specs.Inner.Stores.{storeRun}
-use Rattle.taps.proofs.Spots.{tap-given}
+use Rattle.taps.proofs.Spots.{tap-given, own-cell}
 use Rattle.laws.proofs.Counts.{none-plus, plus-none}
 
 -- down by the row's tap: what is put into scratch are the definition's cells
@@ -44,7 +44,7 @@ across-read : (s : List Float) (at cw : ℕ) (f : ℕ → Float) (t : Tap) → a
 across-read s at cw f t h p q = rw (put-inside s at cw f (t .i0) nan p h, put-inside s at cw f (t .i1) nan q h) refl
 
 -- across from the cells that scratch holds: scratch afterwards is `linearRow`'s
-pub row-is : (l : Layout) (p : Plane) (dst y : ℕ) (s : List Float) → Sound l → linearCellsAt l + l .cw ≤ length s
+pub row-is : (l : Layout) (p : Plane) (dst y : ℕ) (s : List Float) → Shaped l → linearCellsAt l + l .cw ≤ length s
     → acrossRun (l .across) (linearCellsAt l) (l .cw) (l .rh) dst 0 (l .w) (put s (linearCellsAt l) (l .cw) (linearDown l (sampleAt (l .«sample_bytes») p) y)) ≡ linearRow l p dst y s
 unfolding acrossRun linearRow linearSample
 row-is l p dst y s o h =
@@ -53,12 +53,9 @@ row-is l p dst y s o h =
     ap (λ (at : ℕ). put xs at (l .w) (λ i. acrossBy (tapBy (l .across) (l .rh) (l .cw) (0 + i)) (cellAt xs (linearCellsAt l)))) (plus-none dst)
     ∙ put-same xs dst (l .w) _ _ (λ i k.
     let t = tapBy (l .across) (l .rh) (l .cw) i in
-    let n : TapGiven (l .across) (l .rh) (l .cw) i t = tap-given (l .across) (l .rh) (l .cw) i t (o .cw-some) (within i k (o .cells)) refl in
+    let n : TapGiven (l .across) (l .rh) (l .cw) i t = tap-given (l .across) (l .rh) (l .cw) i t (o .cw-some) (own-cell (l .across .num) (l .rh) (l .w) (l .cw) i (o .rh-some) (o .cells) k) refl in
     ap (λ (j : ℕ). acrossBy (tapBy (l .across) (l .rh) (l .cw) j) (cellAt xs (linearCellsAt l))) (none-plus i)
     ∙ across-read s (linearCellsAt l) (l .cw) g t h (n .i0-inside) (n .i1-inside))
-  where
-    within : (i : ℕ) → i < l .w → l .w ≤ l .cw * l .rh → i < l .cw * l .rh
-    within i k c = omega arith
 
 -- a row keeps scratch's length
 pub length-row : (l : Layout) (p : Plane) (at y : ℕ) (s : List Float) → length (linearRow l p at y s) ≡ length s
@@ -103,5 +100,5 @@ stored-is l p y at s out h = put-same out at (l .w) _ _ (λ x k. ap (roundClampe
 pub ready : (l : Layout) (p : Plane) (space room : ℕ) → first (linearTests l p space room) ≡ Accepted → Ready l p space × (l .w * l .h ≤ room)
 unfolding linearTests
 ready l p space room e =
-    let f = failed-both (layoutTests false l) _ (accepted-failed (linearTests l p space room) e) in
-    (record { sound = sound false l (f .0); plane = f .1 .0; scratch = ltb-false space (scratchNeed l) (f .1 .1 .0) }, ltb-false room (l .w * l .h) (f .1 .1 .1 .0))
+    let f = failed-both (testsFor false false l) _ (accepted-failed (linearTests l p space room) e) in
+    (record { shaped = shaped false false l (f .0); plane = f .1 .0; scratch = ltb-false space (scratchNeed l) (f .1 .1 .0) }, ltb-false room (l .w * l .h) (f .1 .1 .1 .0))

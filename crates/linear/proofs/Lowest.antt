@@ -9,11 +9,11 @@ use Rattle.laws.specs.Refusals.{placeOf, Ascending, Lowest}
 use Rattle.laws.proofs.Refusals.{given-lowest}
 use Rattle.image.specs.declared.layout.Layout.{Layout}
 use Rattle.image.specs.Samples.{Plane}
-use Rattle.image.specs.Tests.{layoutTests}
+use Rattle.image.specs.Tests.{testsFor}
 use Rattle.linear.specs.Linear.{linearTests, LinearGiven}
 
 pub linear-ascends : (l : Layout) (p : Plane) (space room : ℕ) → Ascending 0 (linearTests l p space room)
-unfolding placeOf Ascending layoutTests linearTests
+unfolding placeOf Ascending testsFor linearTests
 linear-ascends l p space room = (omega arith, (omega arith, (omega arith, (omega arith, (omega arith, (omega arith, (omega arith, tt)))))))
 
 pub linear-lowest : (l : Layout) (p : Plane) (scratch : List Float) (out : List ℕ) (answer : Answer) (scratch' : List Float) (out' : List ℕ)

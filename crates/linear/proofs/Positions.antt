@@ -1,13 +1,14 @@
 -- The exact bilinear value by positions is the exact value between the cells of the taps, so that what is near the one is near the other.
 -- An output's spot and its position are held against each other by the cases of `spotOf` (`spot-position`): on a cell the position is a whole
 -- number of cells, and between two cells it is the spot's own fraction.
-use mathlib.Core.Path.{_≡_, refl, sym, ap, _∙_, subst}
-use Prim.Native.Nat.{ℕ, _+_, _-_, _*_, _/_, _%_, _≤_, _<_}
-use native.Mathlib.Nat.{mul-div-cancel, mul-mod-left, div-lt-iff-lt-mul, le-div-iff-mul-le}
+use mathlib.Core.Path.{_≡_, ap, _∙_}
+use Prim.Native.Nat.{ℕ, _+_, _-_, _*_, _/_, _%_, _≤_, _<_, min}
+use native.Mathlib.Nat.{mul-le-mul-right, mul-div-cancel, mul-mod-left, div-lt-iff-lt-mul, le-div-iff-mul-le}
 use native.Mathlib.Omega.{arith}
 use lib.Ieee.{Float, nan, inf, fin, up, down}
 use Rattle.laws.specs.declared.axes.Siting.{Siting}
 use Rattle.laws.specs.declared.axes.Siting.the-variants.{Centred, CoSited}
+use Rattle.laws.specs.declared.axes.Axis.{Axis}
 use Rattle.laws.specs.Inner.Floats.{NearFraction}
 use Rattle.laws.proofs.Nearness.{near-widen, near-aim}
 use Rattle.taps.specs.Taps.{Spot, onCell, spotAt, spotOf}
@@ -28,6 +29,10 @@ on-cell i q p z e = record { n = q; den = omega arith; num = λ f. rw (e, mul-di
     whole : (a b d : ℕ) → d ≡ q → d * a + 0 * b ≡ (a * 1 + a * 0) * q
     whole a b d e = omega (arith, ap (λ (x : ℕ). x * a) e)
 
+-- one cell to an output: it lies o cells from the first, and before the last or on it
+least : (a b c : ℕ) → a ≡ b → b ≤ c → min a c ≡ b
+least a b c e h = omega arith
+
 -- m parts of which d make a cell: between the cells of its quotient
 in-between : (m d p : ℕ) → p ≡ m → Same (between m d) (record { p = p; q = d })
 in-between m d p e = record { n = 1; den = omega arith; num = λ f. rw e (same (f (m / d)) (f (m / d + 1)) (d - m % d) (m % d)) }
@@ -36,51 +41,54 @@ in-between m d p e = record { n = 1; den = omega arith; num = λ f. rw e (same (
     same a b j k = omega arith
 
 -- an output's spot and its position, centred
-centred-position : (r len o : ℕ) → 0 < r → 0 < len → o < len * r → Same (spotOf Centred 1 r len o) (centredAt r len o)
+centred-position : (num den len o : ℕ) → 0 < den → 0 < len → (num ≡ den → o < len) → Same (spotOf Centred num den len o) (centredAt num den len o)
 unfolding centredAt
-centred-position r len o z L O =
-    by-centred (λ (s : Spot). Same s (centredAt r len o)) 1 r len o (λ e. on-cell o (2 * r) (centredAt r len o .p) (omega arith) (one e)) (λ h. on-cell 0 (2 * r) (centredAt r len o .p) (omega arith) (none h))
-    (λ h. by-place (λ (s : Spot). Same s (centredAt r len o)) ((2 * o + 1) * 1 - r) (2 * r) len
-    (λ g. on-cell (len - 1) (2 * r) (centredAt r len o .p) (omega arith) (past (le-div-iff-mul-le (omega arith) .0 g)))
-    (λ g. in-between ((2 * o + 1) * 1 - r) (2 * r) (centredAt r len o .p) (before (div-lt-iff-lt-mul (omega arith) .0 g))))
+centred-position num den len o z L O =
+    by-centred (λ (s : Spot). Same s (centredAt num den len o)) num den len o (λ e. on-cell o (2 * den) (centredAt num den len o .p) (omega arith) (own e)) (λ h. on-cell 0 (2 * den) (centredAt num den len o .p) (omega arith) (none h))
+    (λ h. by-place (λ (s : Spot). Same s (centredAt num den len o)) ((2 * o + 1) * num - den) (2 * den) len
+    (λ g. on-cell (len - 1) (2 * den) (centredAt num den len o .p) (omega arith) (past (le-div-iff-mul-le (omega arith) .0 g)))
+    (λ g. in-between ((2 * o + 1) * num - den) (2 * den) (centredAt num den len o .p) (before (div-lt-iff-lt-mul (omega arith) .0 g))))
   where
-    one : 1 ≡ r → centredAt r len o .p ≡ o * (2 * r)
-    one e =
-        let h : o < len * 1 = subst (λ (x : ℕ). o < len * x) (sym e) O in
-        subst (λ (x : ℕ). centredAt x len o .p ≡ o * (2 * x)) e (omega arith)
+    own : num ≡ den → centredAt num den len o .p ≡ o * (2 * den)
+    own e =
+        let i : o ≤ len - 1 = (let h = O e in omega arith) in
+        let m : (2 * o + 1) * num ≡ (2 * o + 1) * den = ap (λ (x : ℕ). (2 * o + 1) * x) e in
+        let k : (2 * o + 1) * num - den ≡ o * (2 * den) = omega arith in
+        let h : o * (2 * den) ≤ (len - 1) * (2 * den) = mul-le-mul-right (2 * den) i in
+        least _ _ _ k h
 
-    none : (2 * o + 1) * 1 < r → centredAt r len o .p ≡ 0 * (2 * r)
+    none : (2 * o + 1) * num < den → centredAt num den len o .p ≡ 0 * (2 * den)
     none h = omega arith
 
-    past : (len - 1) * (2 * r) ≤ (2 * o + 1) * 1 - r → centredAt r len o .p ≡ (len - 1) * (2 * r)
+    past : (len - 1) * (2 * den) ≤ (2 * o + 1) * num - den → centredAt num den len o .p ≡ (len - 1) * (2 * den)
     past h = omega arith
 
-    before : (2 * o + 1) * 1 - r < (len - 1) * (2 * r) → centredAt r len o .p ≡ (2 * o + 1) * 1 - r
+    before : (2 * o + 1) * num - den < (len - 1) * (2 * den) → centredAt num den len o .p ≡ (2 * o + 1) * num - den
     before h = omega arith
 
 -- co-sited
-co-sited-position : (r len o : ℕ) → 0 < r → 0 < len → o < len * r → Same (spotOf CoSited 1 r len o) (coSitedAt r len o)
+co-sited-position : (num den len o : ℕ) → 0 < den → 0 < len → (num ≡ den → o < len) → Same (spotOf CoSited num den len o) (coSitedAt num den len o)
 unfolding coSitedAt
-co-sited-position r len o z L O =
-    by-co-sited (λ (s : Spot). Same s (coSitedAt r len o)) 1 r len o (λ e. on-cell o r (coSitedAt r len o .p) z (one e))
-    (by-place (λ (s : Spot). Same s (coSitedAt r len o)) (o * 1) r len
-    (λ g. on-cell (len - 1) r (coSitedAt r len o .p) z (past (le-div-iff-mul-le z .0 g)))
-    (λ g. in-between (o * 1) r (coSitedAt r len o .p) (before (div-lt-iff-lt-mul z .0 g))))
+co-sited-position num den len o z L O =
+    by-co-sited (λ (s : Spot). Same s (coSitedAt num den len o)) num den len o (λ e. on-cell o den (coSitedAt num den len o .p) z (own e))
+    (by-place (λ (s : Spot). Same s (coSitedAt num den len o)) (o * num) den len
+    (λ g. on-cell (len - 1) den (coSitedAt num den len o .p) z (past (le-div-iff-mul-le z .0 g)))
+    (λ g. in-between (o * num) den (coSitedAt num den len o .p) (before (div-lt-iff-lt-mul z .0 g))))
   where
-    one : 1 ≡ r → coSitedAt r len o .p ≡ o * r
-    one e =
-        let h : o < len * 1 = subst (λ (x : ℕ). o < len * x) (sym e) O in
-        subst (λ (x : ℕ). coSitedAt x len o .p ≡ o * x) e (omega arith)
+    own : num ≡ den → coSitedAt num den len o .p ≡ o * den
+    own e =
+        let i : o ≤ len - 1 = (let h = O e in omega arith) in
+        least _ _ _ (ap (λ (x : ℕ). o * x) e) (mul-le-mul-right den i)
 
-    past : (len - 1) * r ≤ o * 1 → coSitedAt r len o .p ≡ (len - 1) * r
+    past : (len - 1) * den ≤ o * num → coSitedAt num den len o .p ≡ (len - 1) * den
     past h = omega arith
 
-    before : o * 1 < (len - 1) * r → coSitedAt r len o .p ≡ o * 1
+    before : o * num < (len - 1) * den → coSitedAt num den len o .p ≡ o * num
     before h = omega arith
 
-spot-position : (siting : Siting) (r len o : ℕ) → 0 < r → 0 < len → o < len * r → Same (spotOf siting 1 r len o) (placedAt siting r len o)
-spot-position Centred r len o z L O = centred-position r len o z L O
-spot-position CoSited r len o z L O = co-sited-position r len o z L O
+spot-position : (siting : Siting) (num den len o : ℕ) → 0 < den → 0 < len → (num ≡ den → o < len) → Same (spotOf siting num den len o) (placedAt siting num den len o)
+spot-position Centred num den len o z L O = centred-position num den len o z L O
+spot-position CoSited num den len o z L O = co-sited-position num den len o z L O
 
 -- sixteen 256ths are a sixteenth
 pub sixteenth : (x : Float) (num den : ℕ) → NearFraction x num 0 den 16 → Sixteenth x num den
@@ -110,15 +118,16 @@ module _ (c : ℕ → ℕ → ℕ) (v h : Spot) (p q : Position) (a : Same v p) 
       let n = a .n * b .n in
       rw (num-is, den-is) (near-aim x (spotNum c v h * n) (0 * n) (spotDen v h * n) e (spotNum c v h * n) 0 (omega arith) (near-widen x (spotNum c v h) 0 (spotDen v h) e n g))
 
--- what is within e / 256 of the value by two outputs' spots is so of the value by their positions
-pub position-near : (c : ℕ → ℕ → ℕ) (down : Siting) (rv ch y : ℕ) (across : Siting) (rh cw x : ℕ) → 0 < rv → 0 < ch → y < ch * rv → 0 < rh → 0 < cw → x < cw * rh
-    → (z : Float) (e : ℕ) → NearFraction z (spotNum c (spotOf down 1 rv ch y) (spotOf across 1 rh cw x)) 0 (spotDen (spotOf down 1 rv ch y) (spotOf across 1 rh cw x)) e
-    → NearFraction z (exactNum c (placedAt down rv ch y) (placedAt across rh cw x)) 0 (exactDen (placedAt down rv ch y) (placedAt across rh cw x)) e
-position-near c down rv ch y across rh cw x a b Y d f X z e g =
-    near-both c (spotOf down 1 rv ch y) (spotOf across 1 rh cw x) (placedAt down rv ch y) (placedAt across rh cw x) (spot-position down rv ch y a b Y) (spot-position across rh cw x d f X) z e g
+-- what is within e / 256 of the value by two outputs' spots is so of the value by their positions, by either siting and any pair on each axis
+pub position-near : (c : ℕ → ℕ → ℕ) (down across : Axis) (rv ch y rh cw x : ℕ) → 0 < rv → 0 < ch → (down .num ≡ rv → y < ch) → 0 < rh → 0 < cw → (across .num ≡ rh → x < cw)
+    → (z : Float) (e : ℕ) → NearFraction z (spotNum c (spotOf (down .siting) (down .num) rv ch y) (spotOf (across .siting) (across .num) rh cw x)) 0 (spotDen (spotOf (down .siting) (down .num) rv ch y) (spotOf (across .siting) (across .num) rh cw x)) e
+    → NearFraction z (exactNum c (placedAt (down .siting) (down .num) rv ch y) (placedAt (across .siting) (across .num) rh cw x)) 0 (exactDen (placedAt (down .siting) (down .num) rv ch y) (placedAt (across .siting) (across .num) rh cw x)) e
+position-near c down across rv ch y rh cw x a b Y d f X z e g =
+    near-both c (spotOf (down .siting) (down .num) rv ch y) (spotOf (across .siting) (across .num) rh cw x) (placedAt (down .siting) (down .num) rv ch y) (placedAt (across .siting) (across .num) rh cw x)
+    (spot-position (down .siting) (down .num) rv ch y a b Y) (spot-position (across .siting) (across .num) rh cw x d f X) z e g
 
 -- the denominator of a position is the ratio or its double
-pub placed-some : (siting : Siting) (r len o : ℕ) → 0 < r → 0 < placedAt siting r len o .q
+pub placed-some : (siting : Siting) (num den len o : ℕ) → 0 < den → 0 < placedAt siting num den len o .q
 unfolding centredAt coSitedAt
-placed-some Centred r len o z = omega arith
-placed-some CoSited r len o z = z
+placed-some Centred num den len o z = omega arith
+placed-some CoSited num den len o z = z

@@ -1,4 +1,4 @@
--- 'Linear' of document 01: "lerp down by the tap, then across", each tap by the siting of its axis (W2), whole planes of it, and the reasons for turning the
+-- 'Linear' of document 01: "lerp down by the tap, then across", each tap by its axis (W2, W11), whole planes of it, and the reasons for turning the
 -- call down. Definitions only.
 use mathlib.Core.Path.{_≡_}
 use mathlib.Core.Bool.{Bool, false, cond}
@@ -12,7 +12,7 @@ use Rattle.laws.specs.Lists.{put, rows}
 use Rattle.laws.specs.Refusals.{Test, first, accepted}
 use Rattle.laws.specs.declared.answers.Answer.{Answer}
 use Rattle.image.specs.declared.layout.Layout.{Layout}
-use Rattle.image.specs.Tests.{layoutTests}
+use Rattle.image.specs.Tests.{testsFor}
 use Rattle.image.specs.Samples.{Plane, sampleAt}
 use Rattle.image.specs.Picture.{shortPlane}
 use Rattle.image.specs.Scratch.{scratchNeed}
@@ -36,9 +36,9 @@ acrossBy t g = lerpOf (g (t .i0)) (g (t .i1)) (t .f)
 unfoldable pub linearSample : Layout → (ℕ → ℕ → ℕ) → ℕ → ℕ → Float
 linearSample l c y x = acrossBy (tapBy (l .across) (l .rh) (l .cw) x) (linearDown l c y)
 
--- "refusals 2, 3, 4, 5, 7, 9, 10"; `space` and `room` are how many values scratch and output hold
+-- "refusals 2, 3, 4, 5, 7, 9, 10", ratios that aren't whole among those taken; `space` and `room` are how many values scratch and output hold
 unfoldable pub linearTests : Layout → Plane → ℕ → ℕ → List Test
-linearTests l p space room = layoutTests false l ++ ((shortPlane l (l .cw) (l .ch) p, 7) ∷ (ltb space (scratchNeed l), 9) ∷ (ltb room (l .w * l .h), 10) ∷ [])
+linearTests l p space room = testsFor false false l ++ ((shortPlane l (l .cw) (l .ch) p, 7) ∷ (ltb space (scratchNeed l), 9) ∷ (ltb room (l .w * l .h), 10) ∷ [])
 
 -- the output afterwards: w·h values row by row, "rounded and limited to 0..maxval"; the rest is as it was
 unfoldable pub linearPlane : Layout → Plane → List ℕ → List ℕ

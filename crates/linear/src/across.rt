@@ -1,12 +1,16 @@
 // Rows lerped across from cells that lie in scratch behind them. Between two cells the fractions of a ratio repeat, so that a loop with
-// constant fractions gives the floats of the taps; taps themselves are computed only at a row's edges, at ratio 1 and in narrow rows.
+// constant fractions gives the floats of the taps; taps themselves are computed only at a row's edges, at ratio 1 and in narrow rows. At a
+// numerator other than 1 cells and fractions repeat by turns, of which `cycles` has the loop.
 ghost use mathlib.Core.Path.{_≡_};
 ghost use Prim.Native.Nat.{ℕ, _+_, _*_, _≤_, _<_};
 ghost use lib.Ieee.{nan};
 ghost use lib.ListN.{length, getD};
 ghost use Rattle.laws.specs.Lists.{put};
 ghost use Rattle.taps.specs.Taps.{lerpOf};
-ghost use Rattle.linear.specs.Inner.AcrossRows.{acrossRun, headOf, partOf, partsIn, betweenRun};
+ghost use Rattle.linear.specs.Inner.AcrossRows.{acrossRun, headOf, firstOf, partOf, partsIn, betweenRun};
+use crate::cycles::across_cycles;
+use crate::cycles::cycle_of;
+use crate::sitings::first_of;
 use crate::sitings::head_of;
 use crate::sitings::lead_of;
 use crate::sitings::parts_of;
@@ -29,7 +33,7 @@ fn across_taps(
     from: usize,
     n: usize,
 )
-    requires { ⌜ (0 < r) × (r ≤ 4) × (0 < cw) × (from + n ≤ 8192) × (from + n ≤ cw * r) ⌝ }
+    requires { ⌜ (axis .num ≤ r) × (0 < r) × (r ≤ 4) × (0 < cw) × (from + n ≤ 8192) × (axis .num ≡ r → from + n ≤ cw) ⌝ }
     requires { ⌜ (dst + from + n ≤ src) × (src + cw ≤ length (now s)) ⌝ }
     ensures { λ _. ⌜ now (s .exit) ≡ acrossRun axis src cw r dst from n (now (s .entry)) ⌝ }
 {
@@ -101,7 +105,7 @@ fn across_parts(
     head: usize,
     n: usize,
 )
-    requires { ⌜ (1 < r) × (r ≤ 4) × (w ≤ 8192) × (w ≤ cw * r) ⌝ }
+    requires { ⌜ (axis .num ≡ 1) × (1 < r) × (r ≤ 4) × (w ≤ 8192) ⌝ }
     requires { ⌜ (head ≡ headOf (axis .siting) r) × (head + r * n ≤ w) × (n < cw) × (r ≡ 2 → 8 ≤ n) ⌝ }
     requires { ⌜ (dst + w ≤ src) × (src + cw ≤ length (now s)) ⌝ }
     ensures { λ _. ⌜ now (s .exit) ≡ acrossRun axis src cw r dst 0 w (now (s .entry)) ⌝ }
@@ -113,13 +117,57 @@ fn across_parts(
     across_taps(axis, s, src, cw, r, dst, rest, w - rest);
 }
 
-// Inner: a row of w outputs at ratio r over the cw cells at src, to s from dst on. At ratio 1 and in narrow rows each output has its tap;
-// else the row goes by its head, its pairs of cells and the rest.
-pub fn across_row(axis: Axis, s: &mut [f32], src: usize, cw: usize, r: usize, dst: usize, w: usize)
-    requires { ⌜ (0 < r) × (r ≤ 4) × (0 < cw) × (0 < w) × (w ≤ 8192) × (w ≤ cw * r) ⌝ }
+// A row of w outputs in three parts: those below the first cell, n turns of r outputs, then the rest.
+fn across_turns(
+    axis: Axis,
+    s: &mut [f32],
+    src: usize,
+    cw: usize,
+    r: usize,
+    dst: usize,
+    w: usize,
+    from: usize,
+    n: usize,
+)
+    requires { ⌜ (1 < axis .num) × (axis .num < r) × (r ≤ 4) × (w ≤ 8192) ⌝ }
+    requires { ⌜ (from ≡ firstOf (axis .siting)) × (from ≤ 1) × (from + r * n ≤ w) × (axis .num * n < cw) ⌝ }
     requires { ⌜ (dst + w ≤ src) × (src + cw ≤ length (now s)) ⌝ }
     ensures { λ _. ⌜ now (s .exit) ≡ acrossRun axis src cw r dst 0 w (now (s .entry)) ⌝ }
 {
+    let rest = from + r * n;
+    let turn = cycle_of(axis, r, cw, from);
+    across_taps(axis, s, src, cw, r, dst, 0, from);
+    across_cycles(axis, turn, s, src, cw, r, dst, from, n);
+    across_taps(axis, s, src, cw, r, dst, rest, w - rest);
+}
+
+// A row at a numerator other than 1. Where it is the ratio each output has its own cell. Else it goes by turns, and one output at least isn't
+// counted where it is divided into them: in a row that fills its cells the last turn's outputs reach the last cell, behind which there is none.
+fn across_ratio(axis: Axis, s: &mut [f32], src: usize, cw: usize, r: usize, dst: usize, w: usize)
+    requires { ⌜ (0 < axis .num) × (axis .num ≤ r) × (axis .num ≡ 1 → ⊥) × (r ≤ 4) × (0 < cw) × (0 < w) × (w ≤ 8192) × (w * axis .num ≤ cw * r) ⌝ }
+    requires { ⌜ (dst + w ≤ src) × (src + cw ≤ length (now s)) ⌝ }
+    ensures { λ _. ⌜ now (s .exit) ≡ acrossRun axis src cw r dst 0 w (now (s .entry)) ⌝ }
+{
+    if axis.num == r {
+        across_taps(axis, s, src, cw, r, dst, 0, w);
+        return;
+    }
+    let siting = axis.siting;
+    let from = first_of(siting);
+    across_turns(axis, s, src, cw, r, dst, w, from, (w - 1) / r);
+}
+
+// Inner: a row of w outputs over the cw cells at src, of which the axis has `axis.num` to r outputs, to s from dst on. At ratio 1 and in
+// narrow rows of whole ratios each output has its tap; else the row goes by its head, its pairs of cells and the rest, or by its turns.
+pub fn across_row(axis: Axis, s: &mut [f32], src: usize, cw: usize, r: usize, dst: usize, w: usize)
+    requires { ⌜ (0 < axis .num) × (axis .num ≤ r) × (r ≤ 4) × (0 < cw) × (0 < w) × (w ≤ 8192) × (w * axis .num ≤ cw * r) ⌝ }
+    requires { ⌜ (dst + w ≤ src) × (src + cw ≤ length (now s)) ⌝ }
+    ensures { λ _. ⌜ now (s .exit) ≡ acrossRun axis src cw r dst 0 w (now (s .entry)) ⌝ }
+{
+    if axis.num != 1 {
+        across_ratio(axis, s, src, cw, r, dst, w);
+        return;
+    }
     if r == 1 {
         across_taps(axis, s, src, cw, r, dst, 0, w);
         return;

@@ -38,7 +38,7 @@ pub fn linear_answer(
 ) -> Answer
     ensures { λ r. ⌜ r ≡ first (linearTests layout (planeOf (now (plane .entry)) stride) space room) ⌝ }
 {
-    let answer = layout.answer(false);
+    let answer = layout.answer_for(false, false);
     let short = image::bad_plane(
         layout.sample_bytes,
         layout.cw,

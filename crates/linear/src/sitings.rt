@@ -1,7 +1,7 @@
 // How the outputs of a row lie between neighbouring cells, by either siting, where a cell has more than one output.
 ghost use mathlib.Core.Path.{_≡_};
 ghost use Prim.Native.Nat.{ℕ, _≤_, _<_};
-ghost use Rattle.linear.specs.Inner.AcrossRows.{headOf, leadOf, partOf, partsIn};
+ghost use Rattle.linear.specs.Inner.AcrossRows.{headOf, leadOf, firstOf, partOf, partsIn};
 use laws::Siting;
 use taps::fraction;
 
@@ -24,6 +24,17 @@ pub fn lead_of(siting: Siting, r: usize) -> usize
     match siting {
         Siting::Centred => r / 2,
         Siting::CoSited => 1,
+    }
+}
+
+// Inner: the first output that isn't below the first cell, where there are more cells than one to the ratio's outputs. Centred the first output
+// lies before the middle of cell 0.
+pub fn first_of(siting: Siting) -> usize
+    ensures { λ n. ⌜ n ≡ firstOf siting ⌝ }
+{
+    match siting {
+        Siting::Centred => 1,
+        Siting::CoSited => 0,
     }
 }
 

@@ -5,6 +5,7 @@ use mathlib.Core.Path.{_≡_, refl, sym, _∙_}
 use mathlib.Core.Bool.{Bool, true, false, _&&_, _||_, not, cond}
 use mathlib.Core.List.{List, _++_}
 use Prim.Native.Nat.{ℕ, _+_, _*_, _≤_}
+use native.Mathlib.Nat.{mul-one}
 use native.Mathlib.Omega.{arith}
 use lib.Dec.{ltb, eqb}
 use lib.ListN.{length}
@@ -15,7 +16,7 @@ use Rattle.laws.specs.Refusals.{first}
 use Rattle.laws.specs.Numbers.{outsideOf}
 use Rattle.laws.proofs.Refusals.{Failed, accepted-failed, failed-accepted, failed-both}
 use Rattle.image.specs.declared.layout.Layout.{Layout}
-use Rattle.image.specs.Tests.{divCeil, badSize, badRatio, mostOf, badSamples, badChroma, badSiting, layoutTests}
+use Rattle.image.specs.Tests.{divCeil, badSize, badRatio, mostOf, badSamples, badChroma, badSiting, layoutTests, testsFor}
 use Rattle.image.proofs.Layouts.{neither}
 use Rattle.netpbm.specs.declared.reading.Reading.the-variants.{Read}
 use Rattle.netpbm.specs.Bytes.{bigOf}
@@ -60,8 +61,8 @@ module _ (s : List ℕ) (a : first (readingTests s) ≡ Accepted) where
   down = ratio-fits (heightOf s 0) (heightOf s (cbAt s)) (heightOf s (crAt s)) (ratios .1)
 
   -- refusals 3, 4 and 5 don't apply to the layout
-  ratio-passed : badRatio (inputLayout s) ≡ false
-  unfolding badRatio
+  ratio-passed : badRatio true (inputLayout s) ≡ false
+  unfolding badRatio inputLayout
   ratio-passed =
       let h = across in
       let v = down in
@@ -83,14 +84,14 @@ module _ (s : List ℕ) (a : first (readingTests s) ≡ Accepted) where
       go false f = rw (le-ltb m 1 (three .0 .maxval-some), le-ltb 255 m (f refl)) refl
 
   chroma-passed : badChroma (inputLayout s) ≡ false
-  unfolding badChroma
+  unfolding badChroma inputLayout
   chroma-passed =
       let b : eqb (inputLayout s .cw) (divCeil (inputLayout s .w) (inputLayout s .rh)) ≡ true = eq-eqb _ _ (across .one) in
       let d : eqb (inputLayout s .ch) (divCeil (inputLayout s .h) (inputLayout s .rv)) ≡ true = eq-eqb _ _ (down .one) in
-      rw (b, d) refl
+      rw (mul-one (inputLayout s .w), mul-one (inputLayout s .h), b, d) refl
 
   passed : first (layoutTests false (inputLayout s)) ≡ Accepted
-  unfolding layoutTests
+  unfolding testsFor
   passed = failed-accepted (layoutTests false (inputLayout s)) (size-passed, (ratio-passed, (samples-passed, (chroma-passed, tt))))
 
   width-is : inputLayout s .w ≤ 128

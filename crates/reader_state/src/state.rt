@@ -36,7 +36,7 @@ pub fn top_of(layout: Layout, y: usize) -> usize
     requires { ⌜ y < layout .h ⌝ }
     ensures { λ r. ⌜ (r ≡ topOf layout y) × (r < layout .ch) ⌝ }
 {
-    let t = taps::tap_at(Axis::PLAIN, layout.rv, layout.ch, y);
+    let t = taps::plain_tap(layout.rv, layout.ch, y);
     t.i0
 }
 
@@ -46,7 +46,7 @@ pub fn last_of(layout: Layout, y: usize) -> usize
     requires { ⌜ y < layout .h ⌝ }
     ensures { λ r. ⌜ (r ≡ lastOf layout y) × (r < layout .ch) ⌝ }
 {
-    let t = taps::tap_at(Axis::PLAIN, layout.rv, layout.ch, y);
+    let t = taps::plain_tap(layout.rv, layout.ch, y);
     let own = y / layout.rv;
     if t.i1 < own { own } else { t.i1 }
 }

@@ -3,7 +3,7 @@
 -- "The lowest number that applies is given, and only then"
 pub use Rattle.laws.specs.Refusals.{Test, accepted, first, placeOf, Ascending, Applies, Lowest}
 -- the rows of the table, and the lists of the calls
-pub use Rattle.image.specs.Tests.{badSize, badRatio, badSamples, badChroma, badSiting, badPlane, layoutTests}
+pub use Rattle.image.specs.Tests.{badSize, badPair, badRatio, badSamples, badChroma, badSiting, badPlane, testsFor, layoutTests}
 pub use Rattle.guided.specs.Calls.{badState, openTests, seekTests, rowTests}
 pub use Rattle.linear.specs.Linear.{linearTests}
 pub use Rattle.guided_plane.specs.Plane.{guidedTests}

@@ -1,10 +1,10 @@
 -- Laws of `spotOf` for either siting and any num and den: its part is below 1, its cells are there, in order, and beside the output's own cell.
 -- Each goes by the cases of the definition (`by-spot`, `by-place`). The hard one is `spot-around`, of centred outputs, where the floor of u and the output's
 -- own cell o / r are held against each other by the remainders of both divisions.
-use mathlib.Core.Path.{_≡_, sym, ap, subst}
+use mathlib.Core.Path.{_≡_, subst}
 use mathlib.Core.Bool.{Bool, true, false, not}
 use Prim.Native.Nat.{ℕ, suc, _+_, _-_, _*_, _/_, _%_, _≤_, _<_, min, zero-le}
-use native.Mathlib.Nat.{le-refl, not-le-of-lt, le-of-suc-le-suc, div-one, le-trans, mod-lt, mul-le-mul-right, div-lt-iff-lt-mul, div-add-mod'}
+use native.Mathlib.Nat.{le-refl, not-le-of-lt, le-of-suc-le-suc, le-of-mul-le-mul-right, div-one, le-trans, mod-lt, mul-le-mul-right, div-lt-iff-lt-mul, div-add-mod'}
 use native.Mathlib.Omega.{arith}
 use lib.Dec.{T, ltb, leb, eqb, ltb→lt, nltb→le, leb→le, nleb→lt, eqb→eq, lit≤}
 use lib.Ieee.Nearest.{div-mono}
@@ -206,12 +206,13 @@ spot-around r len o z h =
     go : (s : Spot) (p q : ℕ) → (s .near ≡ min (len - 1) p) × (s .far ≡ min (len - 1) (p + 1)) → q < len → p ≤ q → q ≤ p + 1 → Around s q
     go s p q e h a b = omega arith
 
+-- one cell to an output: output o of n has its own cell where the cells reach over the outputs
+pub own-cell : (num r n len o : ℕ) → 0 < r → n * num ≤ len * r → o < n → num ≡ r → o < len
+own-cell num r n len o z h l e = let k : n ≤ len = le-of-mul-le-mul-right (subst (λ (x : ℕ). n * x ≤ len * r) e h) z in le-trans l k
+
 -- ---- a tap is its spot's: what `tap_at` promises of it
-pub tap-given : (a : Axis) (r len o : ℕ) (t : Tap) → 0 < len → o < len * r → t ≡ tapBy a r len o → TapGiven a r len o t
+pub tap-given : (a : Axis) (r len o : ℕ) (t : Tap) → 0 < len → (a .num ≡ r → o < len) → t ≡ tapBy a r len o → TapGiven a r len o t
 unfolding tapBy
 tap-given a r len o t p h e =
-    let i = spot-inside (a .siting) 1 r len o p one in
+    let i = spot-inside (a .siting) (a .num) r len o p h in
     record { is = e; i0-inside = rw e (i .near); i1-inside = rw e (i .far) }
-  where
-    one : 1 ≡ r → o < len
-    one z = let k : len * r ≡ len * 1 = ap (λ (x : ℕ). len * x) (sym z) in omega arith

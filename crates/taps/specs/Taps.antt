@@ -1,5 +1,6 @@
 -- 'Geometry' of document 01's chroma row: where an output sits among the cells, its tap, a pixel's phase, and lerp; and document 02's co-sited outputs
--- (W2). Definitions only.
+-- (W2)
+-- and ratios that aren't whole (W11). Definitions only.
 use mathlib.Core.Bool.{Bool, true, false}
 use mathlib.Core.List.{List, [], _∷_}
 use Prim.Native.Nat.{ℕ, _+_, _-_, _*_, _/_, _%_}
@@ -40,15 +41,15 @@ onCell i = record { near = i; far = i; k = 0; d = 1 }
 unfoldable pub spotAt : ℕ → ℕ → ℕ → Spot
 spotAt m d len = pickSpot (leb (len - 1) (m / d)) (onCell (len - 1)) (record { near = m / d; far = m / d + 1; k = m % d; d = d })
 
--- output o over len cells, num cells to den outputs (ratio r is 1 to r). Centred it sits at u = ((2o+1)·num − den)/(2·den), and "Below 0 it takes cell 0";
--- "Co-sited, output o of ratio r sits at u = o/r, with the same edge rule"
+-- output o over len cells, num cells to den outputs: "A centred output sits at ((2o+1)·num − den)/(2·den), a co-sited one at o·num/den"; centred, "Below 0 it
+-- takes cell 0". "Whole ratios are the case of numerator 1"
 unfoldable pub sitedAt : Siting → ℕ → ℕ → ℕ → ℕ → Spot
 sitedAt Centred num den len o =
     pickSpot (ltb ((2 * o + 1) * num) den) (onCell 0)
     (spotAt ((2 * o + 1) * num - den) (2 * den) len)
 sitedAt CoSited num den len o = spotAt (o * num) den len
 
--- "Ratio 1 gives cell o", by either siting
+-- "Ratio 1 gives cell o", by either siting, and so does any pair of equal numbers
 unfoldable pub spotOf : Siting → ℕ → ℕ → ℕ → ℕ → Spot
 spotOf siting num den len o = pickSpot (eqb num den) (onCell o) (sitedAt siting num den len o)
 
@@ -58,7 +59,7 @@ tapOn s = record { i0 = s .near; i1 = s .far; f = fractionOf (s .k) (s .d) }
 
 -- the tap of output o over len cells at ratio r, by the axis
 unfoldable pub tapBy : Axis → ℕ → ℕ → ℕ → Tap
-tapBy a r len o = tapOn (spotOf (a .siting) 1 r len o)
+tapBy a r len o = tapOn (spotOf (a .siting) (a .num) r len o)
 
 -- centred, as document 01 has it
 abbrev pub tapOf : ℕ → ℕ → ℕ → Tap

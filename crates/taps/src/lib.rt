@@ -12,4 +12,5 @@ pub use phases::phases_of;
 pub use positions::Tap;
 pub use positions::fraction;
 pub use positions::lerp;
+pub use positions::plain_tap;
 pub use positions::tap_at;

@@ -1,6 +1,7 @@
 // Where an output sits among the chroma cells, and how far between two of them.
 ghost use mathlib.Core.Path.{_≡_};
 ghost use Prim.Native.Nat.{_*_, _≤_, _<_};
+ghost use Rattle.laws.specs.Axes.{plain};
 ghost use Rattle.taps.specs.Taps.{lerpOf, fractionOf, onCell, spotAt, sitedAt, tapOn};
 ghost use Rattle.taps.specs.Inner.Taps.{TapGiven};
 use laws::Axis;
@@ -55,34 +56,42 @@ fn spot_at(m: usize, d: usize, len: usize) -> Tap
     }
 }
 
-// The tap of output o over len cells at ratio r, where a cell has more than one output.
+// The tap of output o over len cells, num of them to den outputs, where there are fewer cells than outputs.
 //
-// Centred it lies at (2o + 1 - r) / 2r cells. That is below 0 in the first half of the first cell, so the sign is looked at before the
-// difference. Co-sited it lies at o / r, never below 0.
-fn sited_at(siting: Siting, r: usize, len: usize, o: usize) -> Tap
-    requires { ⌜ (0 < r) × (r ≤ 4) × (0 < len) × (o ≤ 8192) ⌝ }
-    ensures { λ t. ⌜ t ≡ tapOn (sitedAt siting 1 r len o) ⌝ }
+// Centred it lies at ((2o + 1) * num - den) / 2den cells. That is below 0 before the middle of the first cell, so the sign is looked at
+// before the difference. Co-sited it lies at o * num / den, never below 0.
+fn sited_at(siting: Siting, num: usize, den: usize, len: usize, o: usize) -> Tap
+    requires { ⌜ (num ≤ 4) × (0 < den) × (den ≤ 4) × (0 < len) × (o ≤ 8192) ⌝ }
+    ensures { λ t. ⌜ t ≡ tapOn (sitedAt siting num den len o) ⌝ }
 {
     match siting {
         Siting::Centred => {
-            let n = 2 * o + 1;
-            if n < r {
+            let n = (2 * o + 1) * num;
+            if n < den {
                 return on_cell(0);
             }
-            spot_at(n - r, 2 * r, len)
+            spot_at(n - den, 2 * den, len)
         }
-        Siting::CoSited => spot_at(o, r, len),
+        Siting::CoSited => spot_at(o * num, den, len),
     }
 }
 
-// Inner: the tap of output o over len cells at ratio r, by the axis's siting.
+// Inner: the tap of output o over len cells, of which the axis has `axis.num` to r outputs.
 pub fn tap_at(axis: Axis, r: usize, len: usize, o: usize) -> Tap
-    requires { ⌜ (0 < r) × (r ≤ 4) × (0 < len) × (o ≤ 8192) × (o < len * r) ⌝ }
+    requires { ⌜ (axis .num ≤ r) × (0 < r) × (r ≤ 4) × (0 < len) × (o ≤ 8192) × (axis .num ≡ r → o < len) ⌝ }
     ensures { λ t. ⌜ TapGiven axis r len o t ⌝ }
 {
-    if r == 1 {
+    if axis.num == r {
         return on_cell(o);
     }
     let siting = axis.siting;
-    sited_at(siting, r, len, o)
+    sited_at(siting, axis.num, r, len, o)
+}
+
+// Inner: the tap of output o over len cells at ratio r on a plain axis, as the guided calls take it down.
+pub fn plain_tap(r: usize, len: usize, o: usize) -> Tap
+    requires { ⌜ (0 < r) × (r ≤ 4) × (0 < len) × (o ≤ 8192) × (o < len * r) ⌝ }
+    ensures { λ t. ⌜ TapGiven plain r len o t ⌝ }
+{
+    tap_at(Axis::PLAIN, r, len, o)
 }

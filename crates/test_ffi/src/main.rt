@@ -59,6 +59,8 @@ fn layout(text: &[u8]) -> ChromaLayout {
         maxval: l.maxval,
         siting_across: test_support::siting(text, 2),
         siting_down: test_support::siting(text, 3),
+        num_across: test_support::numerator(text, 2),
+        num_down: test_support::numerator(text, 3),
     }
 }
 

@@ -25,6 +25,7 @@ pub use floats::bits;
 pub use floats::float;
 pub use lines::kind;
 pub use lines::layout;
+pub use lines::numerator;
 pub use lines::scratch_part;
 pub use lines::siting;
 pub use lines::strides;

@@ -26,7 +26,7 @@ fn ratio(text: &[u8], k: usize) -> usize
     requires { ⌜ k < 999 ⌝ }
 {
     if capital(text) {
-        word(text, k) % 4_096
+        word(text, k) % 256
     } else {
         size(text, k)
     }
@@ -43,16 +43,32 @@ pub fn siting(text: &[u8], k: usize) -> u32
     }
 }
 
-// The axis whose siting is in word k of a line.
+// Inner: the numerator in word k of a line: one more than the second digit, and 0 for f, where the kind is a capital, and else 1.
+pub fn numerator(text: &[u8], k: usize) -> usize
+    requires { ⌜ k < 999 ⌝ }
+{
+    if capital(text) {
+        (word(text, k) / 256 + 1) % 16
+    } else {
+        1
+    }
+}
+
+// The axis whose siting and numerator are in word k of a line.
 fn axis(text: &[u8], k: usize) -> Axis
     requires { ⌜ k < 999 ⌝ }
 {
+    let num = numerator(text, k);
     if siting(text, k) == 1 {
         return Axis {
             siting: Siting::CoSited,
+            num,
         };
     }
-    Axis::PLAIN
+    Axis {
+        siting: Siting::Centred,
+        num,
+    }
 }
 
 // Inner: the layout that a line begins with. It takes nine words, the maxval two of them.

@@ -8,11 +8,11 @@ use Rattle.laws.specs.Refusals.{placeOf, Ascending, Lowest}
 use Rattle.laws.proofs.Refusals.{given-lowest}
 use Rattle.image.specs.declared.layout.Layout.{Layout}
 use Rattle.image.specs.Samples.{Plane}
-use Rattle.image.specs.Tests.{layoutTests}
+use Rattle.image.specs.Tests.{testsFor}
 use Rattle.upsample.specs.Triangular.{triangularTests, TriangularGiven}
 
 pub triangular-ascends : (l : Layout) (p : Plane) (room : ℕ) → Ascending 0 (triangularTests l p room)
-unfolding placeOf Ascending layoutTests triangularTests
+unfolding placeOf Ascending testsFor triangularTests
 triangular-ascends l p room = (omega arith, (omega arith, (omega arith, (omega arith, (omega arith, (omega arith, (omega arith, (omega arith, tt))))))))
 
 pub triangular-lowest : (l : Layout) (p : Plane) (before : List ℕ) (answer : Answer) (after : List ℕ)

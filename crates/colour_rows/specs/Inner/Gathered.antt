@@ -5,13 +5,13 @@ use mathlib.Core.List.{List}
 use Prim.Native.Nat.{ℕ, _<_}
 use lib.ListN.{getD}
 use Rattle.image.specs.declared.layout.Layout.{Layout}
-use Rattle.image.specs.Inner.Tests.{Sound}
+use Rattle.image.specs.Inner.Tests.{Shaped}
 use Rattle.image.specs.Samples.{Plane}
 use Rattle.image.specs.Picture.{shortPlane}
 
 -- a layout, luma's plane and a row of the picture
 pub record LumaRow (l : Layout) (p : Plane) (row : ℕ) : Type 0 where
-  pub sound : Sound l
+  pub shaped : Shaped l
   pub plane : shortPlane l (l .w) (l .h) p ≡ false
   pub inside : row < l .h
 

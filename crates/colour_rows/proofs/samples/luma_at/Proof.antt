@@ -26,7 +26,7 @@ add-sample : tie.Need-add-sample
 add-sample c = let h = inside (c .before) in omega arith
 
 sample-requires : tie.Need-sample-requires
-sample-requires c κs = let h = inside (c .before) in let s = c .before .pre .0 .sound in (s .bytes-some, s .bytes-most, h)
+sample-requires c κs = let h = inside (c .before) in let s = c .before .pre .0 .shaped in (s .bytes-some, s .bytes-most, h)
 
 wide-requires : tie.Need-wide-requires
 wide-requires c κs = search needs

@@ -20,7 +20,7 @@ inside s n e = let l = s .args .layout in rw e at (row-inside (short-holds l (l 
 
 -- samples that are not of one byte are of two
 two : (s : tie.Start) → s .args .layout .«sample_bytes» ≢ 1 → s .args .layout .«sample_bytes» ≡ 2
-two s n = let h = s .pre .0 .sound in let a = h .bytes-some in let b = h .bytes-most in omega arith
+two s n = let h = s .pre .0 .shaped in let a = h .bytes-some in let b = h .bytes-most in omega arith
 
 mul-one-byte-block : tie.Need-mul-one-byte-block
 mul-one-byte-block c = let h = inside (c .before .before .before) 1 (c .if1 .taken) in omega arith

@@ -5,11 +5,14 @@ use Rattle.fill.specs.Tests.{fillTests}
 use Rattle.fill.proofs.answer.fill_answer.Statement.{statement}
 use Rattle.fill.proofs.answer.fill_answer.Tie as tie
 
+is-guided-requires : tie.Need-is-guided-requires
+is-guided-requires c κs = search needs
+
 is-fixed-requires : tie.Need-is-fixed-requires
 is-fixed-requires c κs = search needs
 
-answer-requires : tie.Need-answer-requires
-answer-requires c κs = search needs
+answer-for-requires : tie.Need-answer-for-requires
+answer-for-requires c κs = search needs
 
 bad-guided-requires : tie.Need-bad-guided-requires
 bad-guided-requires c κs = search needs
@@ -49,14 +52,15 @@ returns c =
     let p = z .before .before in
     let g = p .before .before in
     let a = g .before .before in
-    rw (first-further, c .then5 .ensures, c .before .volume-passes .ensures, s .then4 .ensures, s .before .short-scratch .ensures, z .then3 .ensures, z .before .outside .ensures, p .then2 .ensures, p .before .bad-planes .ensures, g .then .ensures, g .before .bad-guided .ensures, a .answer .ensures, a .before .is-fixed .ensures) refl
+    rw (first-further, c .then5 .ensures, c .before .volume-passes .ensures, s .then4 .ensures, s .before .short-scratch .ensures, z .then3 .ensures, z .before .outside .ensures, p .then2 .ensures, p .before .bad-planes .ensures, g .then .ensures, g .before .bad-guided .ensures, a .answer-for .ensures, a .before .is-fixed .ensures, a .before .before .is-guided .ensures) refl
 
 pub fill-answer-spec : {M : Type 1} → statement M
 fill-answer-spec =
     tie.close
     (tie.spec
+    is-guided-requires
     is-fixed-requires
-    answer-requires
+    answer-for-requires
     bad-guided-requires
     then-requires
     bad-planes-requires

@@ -16,14 +16,16 @@ add-linear-pair c = search needs
 linear-pair-requires : tie.Need-linear-pair-requires
 linear-pair-requires c κs =
     let p = c .before .before .before .before .before .before .before .pre in
-    let o = p .0 .sound in
-    (record { sound = o; plane = p .0 .cb; scratch = p .1 .1 }, (record { sound = o; plane = p .0 .cr refl; scratch = p .1 .1 }, p .1 .0))
+    let o = p .0 .shaped in
+    (record { shaped = o; plane = p .0 .cb; scratch = p .1 .1 }, (record { shaped = o; plane = p .0 .cr; scratch = p .1 .1 }, p .1 .0))
 
 enum-told-2 : tie.Need-enum-told-2
 enum-told-2 c = search needs
 
 guided-step-requires : tie.Need-guided-step-requires
-guided-step-requires c κs = let p = c .before .before .before .before .before .before .before .pre in (p .0, (p .1 .0, p .1 .1))
+guided-step-requires c κs =
+    let p = c .before .before .before .before .before .before .before .pre in
+    (record { sound = p .0 .whole (c .before .enum-told2 .given .1); luma = p .0 .luma; cb = p .0 .cb; cr = λ _. p .0 .cr }, (p .1 .0, p .1 .1))
 
 same-length : tie.Need-same-length
 same-length c = search needs

@@ -36,7 +36,7 @@ colour-row-requires c κs =
     let e = ap length (c .before .before .before .before .chroma-row .ensures) ∙ length-fill (a .upsampling) (a .layout) (planesOf (a .y .now) (a .cb .now) (a .cr .now) (a .strides)) (a .first) (a .n) (a .s .now) in
     let f = front-fits (a .layout) in
     let g = p .scratch in
-    (record { luma = record { sound = p .lent .sound; plane = p .lent .luma; inside = s .pre .1 .0 }; rows = omega arith }, (p .size-least, p .size-most, row-room p (a .first + a .n) (s .pre .1 .0), s .pre .1 .1))
+    (record { luma = record { shaped = p .lent .shaped; plane = p .lent .luma; inside = s .pre .1 .0 }; rows = omega arith }, (p .size-least, p .size-most, row-room p (a .first + a .n) (s .pre .1 .0), s .pre .1 .1))
 
 same-length : tie.Need-same-length
 same-length c = search needs

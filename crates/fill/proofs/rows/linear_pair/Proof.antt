@@ -16,7 +16,7 @@ linear-row-requires-2 c κs =
     let s = c .before .before .before .before .before .before .before .before in
     let r = s .pre .1 .0 in
     let e = ap length (c .before .before .before .linear-row .ensures) ∙ length-row _ _ _ _ _ in
-    (record { sound = r .sound; plane = r .plane; scratch = rw e (r .scratch) }, (s .pre .1 .1, omega arith))
+    (record { shaped = r .shaped; plane = r .plane; scratch = rw e (r .scratch) }, (s .pre .1 .1, omega arith))
 
 same-length : tie.Need-same-length
 same-length c = search needs

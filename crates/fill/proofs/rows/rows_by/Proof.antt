@@ -47,7 +47,7 @@ loop-again c =
     let r = c .before .before .before .before .fill-row .ensures in
     let f = s .pre .0 in (
       omega arith,
-      painted-more (i .inv .1) _ (r .1 ∙ row-is (q .upsampling) (q .kernel) (q .layout) (planesOf (q .y .now) (q .cb .now) (q .cr .now) (q .strides)) (f .lent .sound) (q .a) (i .n) (q .s .now) (i .s) (i .inv .2) (f .scratch) (omega arith) ((q .a + i .n) * (q .layout .w * q .size)) (q .size) (i .out)),
+      painted-more (i .inv .1) _ (r .1 ∙ row-is (q .upsampling) (q .kernel) (q .layout) (planesOf (q .y .now) (q .cb .now) (q .cr .now) (q .strides)) (f .lent) (q .a) (i .n) (q .s .now) (i .s) (i .inv .2) (f .scratch) (omega arith) ((q .a + i .n) * (q .layout .w * q .size)) (q .size) (i .out)),
       scratched-more (i .inv .2) _ (r .0),
     )
 

@@ -5,8 +5,8 @@ use borrow.Author.Needs.{needs}
 use Rattle.guided_pixels.proofs.columns.down_column.Statement.{statement}
 use Rattle.guided_pixels.proofs.columns.down_column.Tie as tie
 
-tap-at-requires : tie.Need-tap-at-requires
-tap-at-requires c κs = search needs
+plain-tap-requires : tie.Need-plain-tap-requires
+plain-tap-requires c κs = search needs
 
 slot-at-requires : tie.Need-slot-at-requires
 slot-at-requires c κs = search needs
@@ -19,7 +19,7 @@ column-at-requires c κs = search needs
 
 lerp-row-requires : tie.Need-lerp-row-requires
 lerp-row-requires c κs =
-    let t = c .before .before .before .before .tap-at .result in
+    let t = c .before .before .before .before .plain-tap .result in
     let a = c .before .before .before .before .before .before .args in
     column-ready (a .layout) (a .n) (a .m) (t .i0) (t .i1) _ _ _ _ (omega arith) (c .before .column-at .ensures) (c .before .before .before .slot-at .ensures .is) (c .before .before .slot-at2 .ensures .is) (omega arith)
 
@@ -29,7 +29,7 @@ same-length c = search needs
 returns : tie.Need-returns
 returns c =
     let a = c .before .before .before .before .before .before .before .before .before .args in
-    let t = c .before .before .before .before .before .before .before .tap-at in
+    let t = c .before .before .before .before .before .before .before .plain-tap in
     c .before .before .lerp-row .ensures
     ∙ column-is (a .layout) (a .n) (a .m) (a .y) (t .result) _ _ _ (a .s .now) (t .ensures .is) (c .before .before .before .before .before .before .slot-at .ensures .is) (c .before .before .before .before .before .slot-at2 .ensures .is) (c .before .before .before .before .column-at .ensures .is)
 
@@ -37,7 +37,7 @@ pub down-column-spec : {M : Type 1} → statement M
 down-column-spec =
     tie.close
     (tie.spec
-    tap-at-requires
+    plain-tap-requires
     slot-at-requires
     slot-at-requires-2
     column-at-requires

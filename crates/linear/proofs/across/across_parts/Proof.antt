@@ -49,7 +49,7 @@ returns c =
     let t : two .last .1 .0 ≡ run (a .head) pairs s1 =
     two .ensures
     ∙ ap (λ (h : ℕ). betweenRun (partOf (a .axis .siting) (a .r)) (a .r) (a .src) (a .n) (a .dst + h) s1) e
-    ∙ between-taps (a .axis) (a .r) (a .src) (a .cw) (a .n) (a .dst) s1 (b .pre .0 .0) (p .2)
+    ∙ between-taps (a .axis) (a .r) (a .src) (a .cw) (a .n) (a .dst) s1 (b .pre .0 .0) (b .pre .0 .1) (p .2)
     ∙ ap (λ (h : ℕ). run h pairs s1) (sym e) in
     c .before .before .across-taps2 .ensures
     ∙ ap (run (a .head + pairs) (a .w - (a .head + pairs))) (t ∙ ap (run (a .head) pairs) (one .ensures))

@@ -1,7 +1,7 @@
 -- A loop that writes a run (`Run` of laws), a value a turn, by the tap of its own position. The cells of the tap lie behind all that is
 -- written, so that by `run-after` the lerp reads what the call was handed; that they are cells of the row is the tap's own contract.
 use borrow.Author.Needs.{needs}
-use mathlib.Core.Path.{refl, _∙_}
+use mathlib.Core.Path.{_≡_, refl, _∙_}
 use Prim.Native.Nat.{_+_, _-_, _≤_}
 use lib.Ieee.{nan}
 use Rattle.taps.specs.Taps.{tapBy}
@@ -26,7 +26,9 @@ add-tap-at : tie.Need-add-tap-at Inv-loop μ-loop
 add-tap-at c = omega arith
 
 tap-at-requires : tie.Need-tap-at-requires Inv-loop μ-loop
-tap-at-requires c κs = search needs
+tap-at-requires c κs =
+    let b = c .before .before .before in
+    (omega arith, omega arith, omega arith, omega arith, omega arith, λ (e : b .args .axis .num ≡ b .args .r). (let h = b .pre .0 .5 e in omega arith))
 
 add-lerp : tie.Need-add-lerp Inv-loop μ-loop
 add-lerp c = omega arith

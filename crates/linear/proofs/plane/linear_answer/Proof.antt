@@ -5,8 +5,8 @@ use Rattle.linear.specs.Linear.{linearTests}
 use Rattle.linear.proofs.plane.linear_answer.Statement.{statement}
 use Rattle.linear.proofs.plane.linear_answer.Tie as tie
 
-answer-requires : tie.Need-answer-requires
-answer-requires c κs = search needs
+answer-for-requires : tie.Need-answer-for-requires
+answer-for-requires c κs = search needs
 
 bad-plane-requires : tie.Need-bad-plane-requires
 bad-plane-requires c κs = search needs
@@ -34,7 +34,7 @@ pub linear-answer-spec : {M : Type 1} → statement M
 linear-answer-spec =
     tie.close
     (tie.spec
-    answer-requires
+    answer-for-requires
     bad-plane-requires
     then-requires
     short-scratch-requires

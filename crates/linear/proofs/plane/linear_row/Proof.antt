@@ -3,6 +3,7 @@
 use mathlib.Core.Path.{ap, _∙_}
 use Prim.Native.Nat.{_+_, _*_, _≤_}
 use Rattle.image.specs.Samples.{Plane, planeOf}
+use Rattle.taps.proofs.Spots.{own-cell}
 use Rattle.image.proofs.Planes.{short-holds, row-inside}
 use Rattle.linear.specs.Linear.{linearCellsAt}
 use Rattle.image.specs.Scratch.{scratchNeed}
@@ -29,7 +30,11 @@ unfolding scratchNeed
 room c = omega arith
 
 tap-at-requires : tie.Need-tap-at-requires
-tap-at-requires c κs = search needs
+tap-at-requires c κs =
+    let s = c .before .before in
+    let l = s .args .layout in
+    let o = s .pre .0 .shaped in
+    (o .down-most, o .rv-some, o .rv-most, o .ch-some, omega arith, own-cell (l .down .num) (l .rv) (l .h) (l .ch) (s .args .y) (o .rv-some) (o .lines) (omega arith))
 
 mul-a : tie.Need-mul-a
 mul-a c = let h = rows (c .before) in omega arith
@@ -58,7 +63,7 @@ returns c =
     let t = c .before .before .before .before .before .before .before .before .before .before .before .tap-at in
     c .before .before .across-row .ensures
     ∙ ap (acrossRun (l .across) (linearCellsAt l) (l .cw) (l .rh) (a .dst) 0 (l .w)) (c .before .before .before .before .before .before .down-row .ensures ∙ down-is l p (a .y) (t .result) (a .s .now) (t .ensures .is))
-    ∙ row-is l p (a .dst) (a .y) (a .s .now) (s .pre .0 .sound) (room s)
+    ∙ row-is l p (a .dst) (a .y) (a .s .now) (s .pre .0 .shaped) (room s)
 
 pub linear-row-spec : {M : Type 1} → statement M
 linear-row-spec =

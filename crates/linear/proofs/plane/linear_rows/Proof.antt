@@ -30,7 +30,7 @@ abbrev μ-loop : tie.MeasureT-loop
 
 -- the callees' premise, at scratch as it is by then
 ready : (c : tie.At-loop Inv-loop μ-loop) → Ready (c .before .before .before .before .args .layout) (planeOf (c .before .before .before .before .args .plane .now) (c .before .before .before .before .args .stride)) (length (c .loop .s))
-ready c = let r = c .before .before .before .before .pre .0 in record { sound = r .sound; plane = r .plane; scratch = rw (c .loop .inv .2 .len) (r .scratch) }
+ready c = let r = c .before .before .before .before .pre .0 in record { shaped = r .shaped; plane = r .plane; scratch = rw (c .loop .inv .2 .len) (r .scratch) }
 
 -- a finished row fits scratch
 room : (c : tie.At-loop Inv-loop μ-loop) → 0 + c .before .before .before .before .args .layout .w ≤ length (c .loop .s)

@@ -8,8 +8,8 @@ use borrow.Author.Needs.{needs}
 use Rattle.reader_state.proofs.state.last_of.Statement.{statement}
 use Rattle.reader_state.proofs.state.last_of.Tie as tie
 
-tap-at-requires : tie.Need-tap-at-requires
-tap-at-requires c κs = search needs
+plain-tap-requires : tie.Need-plain-tap-requires
+plain-tap-requires c κs = search needs
 
 div-own : tie.Need-div-own
 div-own c = search needs
@@ -22,7 +22,7 @@ returns : tie.Need-returns
 unfolding lastOf
 returns c =
     let a = c .before .before .before .before .args in
-    let t = c .before .before .before .tap-at in
+    let t = c .before .before .before .plain-tap in
     let e = ap (λ (u : Tap). u .i1) (t .ensures .is) in
     (rw (sym e) (omega arith), own (c .before .before .before .before))
 
@@ -30,9 +30,9 @@ returns-2 : tie.Need-returns-2
 unfolding lastOf
 returns-2 c =
     let a = c .before .before .before .before .args in
-    let t = c .before .before .before .tap-at in
+    let t = c .before .before .before .plain-tap in
     let e = ap (λ (u : Tap). u .i1) (t .ensures .is) in
     (rw (sym e) (omega arith), t .ensures .i1-inside)
 
 pub last-of-spec : {M : Type 1} → statement M
-last-of-spec = tie.close (tie.spec tap-at-requires div-own returns returns-2)
+last-of-spec = tie.close (tie.spec plain-tap-requires div-own returns returns-2)

@@ -5,12 +5,12 @@ use borrow.Author.Needs.{needs}
 use Rattle.reader_state.proofs.state.top_of.Statement.{statement}
 use Rattle.reader_state.proofs.state.top_of.Tie as tie
 
-tap-at-requires : tie.Need-tap-at-requires
-tap-at-requires c κs = search needs
+plain-tap-requires : tie.Need-plain-tap-requires
+plain-tap-requires c κs = search needs
 
 returns : tie.Need-returns
 unfolding topOf
-returns c = (ap (λ (t : Tap). t .i0) (c .tap-at .ensures .is), c .tap-at .ensures .i0-inside)
+returns c = (ap (λ (t : Tap). t .i0) (c .plain-tap .ensures .is), c .plain-tap .ensures .i0-inside)
 
 pub top-of-spec : {M : Type 1} → statement M
-top-of-spec = tie.close (tie.spec tap-at-requires returns)
+top-of-spec = tie.close (tie.spec plain-tap-requires returns)
