@@ -27,7 +27,7 @@
  *     left it. Other states, scratch and planes are safe too; the rows are then not those of the
  *     opened picture.
  *
- * A slice may be longer than needed; its surplus is untouched. Samples above maxval are taken
+ * A slice may be longer than needed, but for a chart; its surplus is untouched. Samples above maxval are taken
  * as they are.
  *
  * A not-a-number has one form in the logic of the proofs. So for a lent float 'unchanged' and
@@ -46,11 +46,11 @@ extern "C" {
 /* The interface that this header describes, 0xMMmmpp: raised whenever a struct, a number or a call
  * moves. chroma_version gives that of the library that is linked: a program that was compiled
  * against another one should stop. */
-#define CHROMA_VERSION 0x000400
+#define CHROMA_VERSION 0x000500
 uint32_t chroma_version(void);
 
 /* What a call answers: the first number of its list that applies, where lists follow the order
- * of this table, 16 stands between 6 and 7, 19 between 9 and 10, and 255 before all else;
+ * of this table, 16 stands between 6 and 7, 19 between 9 and 10, and 20 and 255 before all else;
  * chroma_picture has its own order.
  * docs/REFUSALS.md has each number's example and definition, and each call's list. */
 enum ChromaRefusal {
@@ -80,6 +80,7 @@ enum ChromaRefusal {
     CHROMA_TOO_LARGE = 15,    /* the picture call's size limits passed, or rows missing */
     CHROMA_NOT_CENTRED = 16,  /* co-sited chroma on either axis with a guided or triangular call */
     CHROMA_BAD_RECTANGLE = 19, /* chroma_patch: a rectangle whose end passes 65535 */
+    CHROMA_BAD_CHART = 20,    /* a chart that is not 2 to 24 shades of three bytes, no byte over */
     CHROMA_NO_SUCH_WAY = 255  /* a siting, or a switch of chroma_fill, that is neither 0 nor 1 */
 };
 
@@ -173,6 +174,22 @@ typedef struct ChromaPatch {
     double mean[3];
     uint8_t whole[3];
 } ChromaPatch;
+
+/* The reading of a patch on a chart: `given` is 1, or 0 where the call was refused or the patch is
+ * of no pixel, and then all behind it is 0. `nearest` is a shade's index, `pair` the index of the
+ * first of two neighbours and `weight` how many sixteenths of the second are mixed in; the two
+ * `off` are their sums of squared differences from `whole`, the patch's whole-number mean. */
+typedef struct ChromaChartReading {
+    uint32_t refusal;
+    uint32_t given;
+    size_t pixels;
+    size_t nearest;
+    size_t pair;
+    size_t weight;
+    uint32_t nearest_off;
+    uint32_t between_off;
+    uint8_t whole[3];
+} ChromaChartReading;
 
 /* How many floats (not bytes) of scratch every call with a `scratch` asks for (chroma_picture
  * too, where CHROMA_PICTURE_SCRATCH always suffices). Scratch may hold anything at first; calloc
@@ -284,6 +301,18 @@ ChromaWritten chroma_picture(const uint8_t *input, size_t input_len,
 ChromaPatch chroma_patch(ChromaRectangle rectangle,
                          size_t w, size_t h,
                          const uint8_t *rgb, size_t rgb_len);
+
+/* Reads a patch, as chroma_patch has it, on a chart of 2 to 24 shades, three bytes each: the shade
+ * that is nearest to the patch's whole-number mean, by the least sum of squared differences, the
+ * first on a tie; and the nearest mix of two neighbours, (16 - k) sixteenths of the first and k of
+ * the second for a weight k from 0 to 16, rounded halves up in each channel, the first pair and
+ * then the least weight on a tie.
+ * Refusals 20 (chart_len is not 3 times 2 to 24: here alone a surplus is refused), then 2, 19 and
+ * 10 as chroma_patch has them. */
+ChromaChartReading chroma_chart_reading(const uint8_t *chart, size_t chart_len,
+                                        ChromaRectangle rectangle,
+                                        size_t w, size_t h,
+                                        const uint8_t *rgb, size_t rgb_len);
 
 #ifdef __cplusplus
 }

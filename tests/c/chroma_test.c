@@ -166,6 +166,16 @@ static void test_structs(void) {
     STANDS(ChromaPatch, pixels, 8);
     STANDS(ChromaPatch, mean, 16);
     STANDS(ChromaPatch, whole, 40);
+    CHECK(sizeof(ChromaChartReading) == 56);
+    STANDS(ChromaChartReading, refusal, 0);
+    STANDS(ChromaChartReading, given, 4);
+    STANDS(ChromaChartReading, pixels, 8);
+    STANDS(ChromaChartReading, nearest, 16);
+    STANDS(ChromaChartReading, pair, 24);
+    STANDS(ChromaChartReading, weight, 32);
+    STANDS(ChromaChartReading, nearest_off, 40);
+    STANDS(ChromaChartReading, between_off, 44);
+    STANDS(ChromaChartReading, whole, 48);
     CHECK(sizeof(ChromaWritten) == 16);
     STANDS(ChromaWritten, refusal, 0);
     STANDS(ChromaWritten, len, 8);
@@ -1187,6 +1197,68 @@ static void test_largest_patch(void) {
     free(rgb);
 }
 
+/* ---- readings on a chart */
+
+static void no_reading(ChromaChartReading r, uint32_t refusal) {
+    SAME(r.refusal, refusal);
+    SAME(r.given, 0);
+    SAME(r.pixels, 0);
+    SAME(r.nearest, 0);
+    SAME(r.pair, 0);
+    SAME(r.weight, 0);
+    SAME(r.nearest_off, 0);
+    SAME(r.between_off, 0);
+    for (int k = 0; k < 3; k++)
+        SAME(r.whole[k], 0);
+}
+
+static void reading_is(ChromaChartReading r, size_t nearest, uint32_t nearest_off, size_t pair, size_t weight, uint32_t between_off) {
+    SAME(r.refusal, 0);
+    SAME(r.given, 1);
+    SAME(r.nearest, nearest);
+    SAME(r.nearest_off, nearest_off);
+    SAME(r.pair, pair);
+    SAME(r.weight, weight);
+    SAME(r.between_off, between_off);
+}
+
+static void test_charts(void) {
+    static const uint8_t chart[75] = {0, 0, 0,  100, 100, 100,  200, 200, 200,  200, 200, 200};
+    static const uint8_t steps[6] = {0, 0, 0,  1, 1, 1};
+    static const uint8_t grey[9] = {50, 50, 50,  51, 51, 51,  200, 200, 201};
+    const ChromaRectangle first = rectangle_of(0, 0, 1, 1), second = rectangle_of(1, 0, 1, 1);
+    const ChromaRectangle third = rectangle_of(2, 0, 1, 1), both = rectangle_of(0, 0, 2, 1);
+    ChromaChartReading r;
+
+    /* A tie goes to the first shade; a mix may be nearer than any. */
+    reading_is(chroma_chart_reading(chart, 12, first, 3, 1, grey, 9), 0, 7500, 0, 8, 0);
+    reading_is(chroma_chart_reading(chart, 12, second, 3, 1, grey, 9), 1, 7203, 0, 8, 3);
+    /* 50 and 51 have the mean 50.5, as a whole number 51. */
+    r = chroma_chart_reading(chart, 12, both, 3, 1, grey, 9);
+    reading_is(r, 1, 7203, 0, 8, 3);
+    SAME(r.pixels, 2);
+    SAME(r.whole[0], 51);
+    /* Equal shades: the first of them, and the first pair that comes to it, at its last weight. */
+    reading_is(chroma_chart_reading(chart, 12, third, 3, 1, grey, 9), 2, 1, 1, 16, 1);
+    /* Halves up: 0 and 1 give 0 up to weight 7 and 1 from 8 on. */
+    reading_is(chroma_chart_reading(steps, 6, rectangle_of(0, 0, 1, 1), 1, 1, steps, 3), 0, 0, 0, 0, 0);
+    reading_is(chroma_chart_reading(steps, 6, rectangle_of(1, 0, 1, 1), 2, 1, steps, 6), 1, 0, 0, 8, 0);
+
+    /* No pixel shared. */
+    no_reading(chroma_chart_reading(chart, 12, rectangle_of(3, 0, 1, 1), 3, 1, grey, 9), 0);
+    no_reading(chroma_chart_reading(chart, 12, rectangle_of(0, 0, 0, 0), 3, 1, grey, 9), 0);
+
+    /* 20 for every length but 3 times 2 to 24, before all else; then 2, 19 and 10. */
+    for (size_t n = 0; n <= 75; n++) {
+        int good = n % 3 == 0 && n >= 6 && n <= 72;
+        no_reading(chroma_chart_reading(chart, n, rectangle_of(65536, 0, 0, 0), 0, 1, NULL, 0), good ? 2 : 20);
+        SAME(chroma_chart_reading(chart, n, first, 3, 1, grey, 9).refusal, good ? 0 : 20);
+    }
+    no_reading(chroma_chart_reading(NULL, 0, first, 3, 1, grey, 9), 20);
+    no_reading(chroma_chart_reading(chart, 12, rectangle_of(65535, 0, 1, 1), 3, 1, NULL, 0), 19);
+    no_reading(chroma_chart_reading(chart, 12, first, 3, 1, grey, 8), 10);
+}
+
 int main(void) {
     test_structs();
     test_fields();
@@ -1211,6 +1283,7 @@ int main(void) {
     test_surplus();
     test_patches();
     test_largest_patch();
+    test_charts();
     printf("%d checks, %d failed\n", checks, failures);
     return failures == 0 ? 0 : 1;
 }

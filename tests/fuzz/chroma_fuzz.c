@@ -239,10 +239,27 @@ static void patch(void) {
     done(rgb, 0);
 }
 
+static void chart(void) {
+    ChromaRectangle r = rectangle();
+    size_t w = number(), h = number();
+    Slice shades = lend(room(3 * (2 + take(1) % 24)), 1);
+    Slice rgb = lend(room(w * h * 3), 1);
+    ChromaChartReading c = chroma_chart_reading(at(shades), shades.bytes, r, w, h, at(rgb), rgb.bytes);
+    ChromaPatch p = chroma_patch(r, w, h, at(rgb), rgb.bytes);
+    check(c.refusal == 20 || c.refusal == p.refusal, "a reading refused otherwise than its patch");
+    check(c.refusal == 20 || c.given == p.given, "a reading without its patch, or a patch without its reading");
+    check(c.pixels == (c.given ? p.pixels : 0) && c.weight <= 16, "a reading of other pixels, or a weight past 16");
+    check(!c.given || (c.nearest < shades.bytes / 3 && c.pair + 1 < shades.bytes / 3), "a shade that the chart doesn't have");
+    check(c.between_off <= c.nearest_off, "a mix that is farther than a shade");
+    check(c.weight > 0 || c.pair == 0, "weight 0 with another pair than the first");
+    done(shades, 0);
+    done(rgb, 0);
+}
+
 int LLVMFuzzerTestOneInput(const uint8_t *data, size_t size) {
     next = data;
     left = size;
-    switch (take(1) % 5) {
+    switch (take(1) % 6) {
     case 0:
         reader();
         break;
@@ -255,6 +272,9 @@ int LLVMFuzzerTestOneInput(const uint8_t *data, size_t size) {
         break;
     case 4:
         patch();
+        break;
+    case 5:
+        chart();
         break;
     default:
         program();

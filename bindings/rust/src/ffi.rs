@@ -6,7 +6,7 @@
 #[path = "raw.rs"]
 mod raw;
 
-use crate::{Layout, Patch, Plane, Rectangle, Refusal};
+use crate::{ChartReading, Layout, Patch, Plane, Rectangle, Refusal};
 
 /// A reader's state.
 #[derive(Clone, Copy, Debug)]
@@ -242,23 +242,59 @@ pub(crate) fn picture(input: &[u8], scratch: &mut [f32], out: &mut [u8]) -> Resu
     Ok(written.len)
 }
 
+impl From<Rectangle> for raw::ChromaRectangle {
+    fn from(r: Rectangle) -> Self {
+        raw::ChromaRectangle {
+            left: r.left,
+            top: r.top,
+            width: r.width,
+            height: r.height,
+        }
+    }
+}
+
 pub(crate) fn patch(
     rectangle: Rectangle,
     w: usize,
     h: usize,
     rgb: &[u8],
 ) -> Result<Option<Patch>, Refusal> {
-    let rectangle = raw::ChromaRectangle {
-        left: rectangle.left,
-        top: rectangle.top,
-        width: rectangle.width,
-        height: rectangle.height,
-    };
     // SAFETY: pointer and length are one slice's, and nothing is written.
-    let read = unsafe { raw::chroma_patch(rectangle, w, h, rgb.as_ptr(), rgb.len()) };
+    let read = unsafe { raw::chroma_patch(rectangle.into(), w, h, rgb.as_ptr(), rgb.len()) };
     Refusal::check(read.refusal)?;
     Ok((read.given != 0).then_some(Patch {
         mean: read.mean,
+        whole: read.whole,
+        pixels: read.pixels,
+    }))
+}
+
+pub(crate) fn chart_reading(
+    chart: &[u8],
+    rectangle: Rectangle,
+    w: usize,
+    h: usize,
+    rgb: &[u8],
+) -> Result<Option<ChartReading>, Refusal> {
+    // SAFETY: each pointer and length are one slice's, and nothing is written.
+    let read = unsafe {
+        raw::chroma_chart_reading(
+            chart.as_ptr(),
+            chart.len(),
+            rectangle.into(),
+            w,
+            h,
+            rgb.as_ptr(),
+            rgb.len(),
+        )
+    };
+    Refusal::check(read.refusal)?;
+    Ok((read.given != 0).then_some(ChartReading {
+        nearest: read.nearest,
+        nearest_off: read.nearest_off,
+        pair: read.pair,
+        weight: read.weight,
+        between_off: read.between_off,
         whole: read.whole,
         pixels: read.pixels,
     }))

@@ -7,7 +7,8 @@
 //! `chroma = { path = "…/bindings/rust" }` among its dependencies and nothing else.
 //!
 //! [`fill`] gives a whole picture as RGB, a [`Reader`] rows of chroma, [`linear_plane`] and the
-//! like one plane of chroma. [`patch`] reads the colour of a rectangle from a picture of RGB rows.
+//! like one plane of chroma. [`patch`] reads the colour of a rectangle from a picture of RGB rows,
+//! and [`chart_reading`] finds that colour on a chart.
 //!
 //! ```
 //! use chroma::{fill, Kernel, Layout, Picture, Plane, Scratch, Upsampling};
@@ -27,6 +28,7 @@
 #![deny(missing_docs)]
 #![deny(unsafe_code)]
 
+mod chart;
 #[allow(unsafe_code)]
 mod ffi;
 mod patch;
@@ -34,6 +36,7 @@ mod picture;
 mod reader;
 mod refusal;
 
+pub use chart::{chart_reading, ChartReading};
 pub use patch::{patch, Patch, Rectangle};
 pub use picture::{Layout, Picture, Plane, Scratch, Siting};
 pub use reader::Reader;

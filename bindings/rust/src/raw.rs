@@ -5,7 +5,7 @@ use std::mem::{offset_of, size_of};
 
 /// CHROMA_VERSION of the header that this file follows.
 #[allow(dead_code)]
-pub(super) const VERSION: u32 = 0x00_04_00;
+pub(super) const VERSION: u32 = 0x00_05_00;
 
 #[repr(C)]
 #[derive(Clone, Copy)]
@@ -94,6 +94,19 @@ pub(super) struct ChromaPatch {
     pub(super) whole: [u8; 3],
 }
 
+#[repr(C)]
+pub(super) struct ChromaChartReading {
+    pub(super) refusal: u32,
+    pub(super) given: u32,
+    pub(super) pixels: usize,
+    pub(super) nearest: usize,
+    pub(super) pair: usize,
+    pub(super) weight: usize,
+    pub(super) nearest_off: u32,
+    pub(super) between_off: u32,
+    pub(super) whole: [u8; 3],
+}
+
 // Where each field stands, as tests/c has it of the header.
 const _: () = {
     assert!(size_of::<ChromaLayout>() == 88);
@@ -168,6 +181,19 @@ const _: () = {
     assert!(offset_of!(ChromaPatch, pixels) == 8);
     assert!(offset_of!(ChromaPatch, mean) == 16);
     assert!(offset_of!(ChromaPatch, whole) == 40);
+};
+
+const _: () = {
+    assert!(size_of::<ChromaChartReading>() == 56);
+    assert!(offset_of!(ChromaChartReading, refusal) == 0);
+    assert!(offset_of!(ChromaChartReading, given) == 4);
+    assert!(offset_of!(ChromaChartReading, pixels) == 8);
+    assert!(offset_of!(ChromaChartReading, nearest) == 16);
+    assert!(offset_of!(ChromaChartReading, pair) == 24);
+    assert!(offset_of!(ChromaChartReading, weight) == 32);
+    assert!(offset_of!(ChromaChartReading, nearest_off) == 40);
+    assert!(offset_of!(ChromaChartReading, between_off) == 44);
+    assert!(offset_of!(ChromaChartReading, whole) == 48);
 };
 
 extern "C" {
@@ -269,4 +295,13 @@ extern "C" {
         rgb: *const u8,
         rgb_len: usize,
     ) -> ChromaPatch;
+    pub(super) fn chroma_chart_reading(
+        chart: *const u8,
+        chart_len: usize,
+        rectangle: ChromaRectangle,
+        w: usize,
+        h: usize,
+        rgb: *const u8,
+        rgb_len: usize,
+    ) -> ChromaChartReading;
 }

@@ -70,13 +70,15 @@ pub enum Refusal {
     NotCentred,
     /// A rectangle whose end passes 65,535.
     BadRectangle,
+    /// A chart that is not 2 to 24 shades of three bytes, or that has bytes over.
+    BadChart,
     /// A number that this crate has no name for, from a library that is newer than the crate. The
     /// library of the crate's own version gives none.
     Unknown(u32),
 }
 
 impl Refusal {
-    const NAMED: [Refusal; 17] = [
+    const NAMED: [Refusal; 18] = [
         Refusal::BadState,
         Refusal::BadSize,
         Refusal::BadRatio,
@@ -94,6 +96,7 @@ impl Refusal {
         Refusal::TooLarge,
         Refusal::NotCentred,
         Refusal::BadRectangle,
+        Refusal::BadChart,
     ];
 
     /// The number of the reason, as docs/REFUSALS.md and include/chroma.h have it.
@@ -116,6 +119,7 @@ impl Refusal {
             Refusal::TooLarge => 15,
             Refusal::NotCentred => 16,
             Refusal::BadRectangle => 19,
+            Refusal::BadChart => 20,
             Refusal::Unknown(number) => number,
         }
     }
@@ -150,6 +154,7 @@ impl fmt::Display for Refusal {
             Refusal::TooLarge => "size limits passed, or rows missing",
             Refusal::NotCentred => "co-sited chroma, which guided and triangular calls don't take",
             Refusal::BadRectangle => "a rectangle whose end passes 65535",
+            Refusal::BadChart => "a chart that is not 2 to 24 shades of three bytes",
             Refusal::Unknown(_) => "a reason that this crate has no name for",
         };
         write!(f, "refused {}: {words}", self.number())
@@ -169,7 +174,7 @@ mod tests {
             let refusal = Refusal::check(number).unwrap_err();
             assert_eq!(refusal.number(), number);
             let unknown = matches!(refusal, Refusal::Unknown(_));
-            let named = (1..=16).chain([19]).any(|known| known == number);
+            let named = (1..=16).chain([19, 20]).any(|known| known == number);
             assert_eq!(unknown, !named, "{number}");
         }
     }

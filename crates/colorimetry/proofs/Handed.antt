@@ -1,15 +1,15 @@
 -- What an accepted `patch_mean` was handed, and its three answers: refused, no pixel shared, a mean.
 -- The loops sum bytes by their places, the promise pixels by row and column: `area-is` says that these are the same bytes.
 use mathlib.Core.Path.{_≡_, refl, sym, ap, _∙_, subst}
-use mathlib.Core.Bool.{Bool, true, false, _&&_}
+use mathlib.Core.Bool.{true, false, _&&_}
 use mathlib.Core.Logic.{inl, inr}
 use mathlib.Core.List.{List, [], _∷_}
-use Prim.Native.Nat.{ℕ, _+_, _-_, _*_, _≤_, _<_, min}
-use native.Mathlib.Nat.{mul-le-mul, eq-zero-or-pos, zero-mul, add-mul}
+use Prim.Native.Nat.{ℕ, _+_, _*_, _≤_, _<_}
+use native.Mathlib.Nat.{mul-le-mul, eq-zero-or-pos, add-mul}
 use native.Mathlib.Omega.{arith}
 use lib.Dec.{ltb}
 use lib.ListN.{length, getD}
-use borrow.Author.Tests.{ltb-false, lt-ltb, le-ltb}
+use borrow.Author.Tests.{ltb-false, lt-ltb}
 use Rattle.laws.specs.declared.answers.Answer.{Answer}
 use Rattle.laws.specs.declared.answers.Answer.the-variants.{Accepted}
 use Rattle.laws.specs.Refusals.{first, accepted}

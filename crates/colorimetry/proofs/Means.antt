@@ -1,7 +1,7 @@
 -- The mean of bytes: rounded once, and within the bytes.
 use mathlib.Core.Path.{_≡_, ap₂, _∙_}
 use mathlib.Core.Bool.{false}
-use Prim.Native.Nat.{ℕ, _+_, _*_, _/_, _≤_, _<_}
+use Prim.Native.Nat.{ℕ, _+_, _*_, _≤_, _<_}
 use native.Mathlib.Nat.{div-lt-iff-lt-mul, le-div-iff-mul-le, mul-one}
 use native.Mathlib.Omega.{arith}
 use lib.Dec.{T}

@@ -1,27 +1,25 @@
 -- The claims of specs/PatchClaims. A sum goes over exactly the shared pixels (`counted`, `all-counted`), so that what is known of each of
 -- these is known of the sum: its bounds by `sum-within`, its value by `sum-same`. The floats are laws of Means.
 use mathlib.Core.Path.{_≡_, refl, sym, ap, _∙_, subst}
-use mathlib.Core.Bool.{Bool, true, false, _&&_, cond}
+use mathlib.Core.Bool.{Bool, true, _&&_}
 use mathlib.Core.Logic.{inl, inr}
 use mathlib.Core.List.{List, [], _∷_}
-use Prim.Native.Nat.{ℕ, zero, suc, _+_, _-_, _*_, _≤_, _<_, min}
-use native.Mathlib.Nat.{mul-assoc, mul-pos, eq-zero-or-pos, add-zero}
+use Prim.Native.Nat.{ℕ, zero, suc, _+_, _-_, _*_, _≤_, _<_}
+use native.Mathlib.Nat.{mul-assoc, mul-pos, eq-zero-or-pos}
 use native.Mathlib.Omega.{arith}
 use lib.Dec.{T, ltb}
-use lib.ListN.{length}
 use lib.Ieee.{Float, binary64}
 use lib.Ieee.Bits.{is-true}
 use borrow.Author.Tests.{lt-ltb}
 use Rattle.laws.specs.declared.answers.Answer.{Answer}
-use Rattle.laws.specs.Refusals.{Test, first, accepted}
+use Rattle.laws.specs.Refusals.{first, accepted}
 use Rattle.laws.proofs.Refusals.{accepted-is}
 use Rattle.laws.proofs.Sums.{sum-same, sum-within}
 use Rattle.laws.proofs.Values.{cast-value}
-use Rattle.colorimetry.specs.declared.patch.Patch.{Patch}
 use Rattle.colorimetry.specs.declared.patch.Patch.the-variants.{Mean, Nothing}
 use Rattle.colorimetry.specs.declared.patch.Patched.{Patched}
-use Rattle.colorimetry.specs.Patches.{PatchCall, channelAt, sharedOf, acrossOf, downOf, countOf, channelSum, channelMean, wholeMean, passesEnd, badSides, patchTests, hasMean, pickPatch, PatchGiven}
-use Rattle.colorimetry.specs.PatchClaims.{Shared, Bytes, CastExact, withRgb, tooShort, PatchClaims}
+use Rattle.colorimetry.specs.Patches.{PatchCall, channelAt, sharedOf, acrossOf, downOf, countOf, channelSum, channelMean, passesEnd, badSides, patchTests, hasMean, pickPatch, PatchGiven}
+use Rattle.colorimetry.specs.PatchClaims.{Shared, Bytes, withRgb, tooShort, PatchClaims}
 use Rattle.colorimetry.proofs.Handed.{PatchHanded, patch-handed, count-most, factor-some}
 use Rattle.colorimetry.proofs.Means.{whole-within, mean-once, mean-within}
 

@@ -1,7 +1,7 @@
 -- Patches computed from the definitions: means to their bits, halves up, one pixel shared, none, and the order of the refusals.
 use mathlib.Core.Path.{_≡_, refl}
 use mathlib.Core.Bool.{true, false}
-use mathlib.Core.List.{List, [], _∷_}
+use mathlib.Core.List.{[], _∷_}
 use Prim.Native.Nat.{ℕ}
 use lib.Ieee.{binary64, ofBits, ofFields, ofInt, div, round, size, span, climb, units, odd}
 use lib.Count.{trailingZeros}

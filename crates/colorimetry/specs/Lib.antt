@@ -1,3 +1,6 @@
 pub mod Patches
 pub mod PatchClaims
+pub mod Mixes
+pub mod Charts
+pub mod ChartClaims
 pub mod Inner

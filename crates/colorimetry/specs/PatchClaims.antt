@@ -6,7 +6,7 @@ use Prim.Native.Nat.{ℕ, _+_, _*_, _≤_, _<_}
 use lib.Dec.{T, ltb}
 use lib.IntN.{pos}
 use lib.ListN.{getD, length}
-use lib.Ieee.{Float, binary64, ofInt, round, le}
+use lib.Ieee.{binary64, ofInt, round, le}
 use lib.Ieee.Exact.{HasValue}
 use Rattle.reconstruction.specs.Refusals.{first, accepted}
 use Rattle.colorimetry.specs.declared.patch.Patch.the-variants.{Nothing}

@@ -1,6 +1,5 @@
 // The mean colour of a rectangle of a picture.
 ghost use mathlib.Core.Path.{_≡_};
-ghost use mathlib.Core.Bool.{_||_};
 ghost use mathlib.Core.List.{[], _∷_};
 ghost use Prim.Native.Nat.{_+_, _*_, _≤_, _<_};
 ghost use Rattle.reconstruction.specs.Refusals.{first};

@@ -20,9 +20,9 @@ use Rattle.ffi.specs.declared.types.ChromaStrides.{ChromaStrides}
 use Rattle.ffi.specs.declared.types.ChromaPhase.{ChromaPhase}
 use Rattle.ffi.specs.declared.types.ChromaReader.{ChromaReader}
 
--- CHROMA_VERSION: 0.4.0 as major, minor and patch, a byte each
+-- CHROMA_VERSION: 0.5.0 as major, minor and patch, a byte each
 abbrev pub version : ℕ
-version = 0x00_0400
+version = 0x00_0500
 
 -- 0 for accepted, else the papers' number
 abbrev pub numberOf : Answer → ℕ

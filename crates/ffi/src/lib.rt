@@ -1,6 +1,7 @@
 // The calls for C and Rust (include/chroma.h): each translates what it is handed, makes the Rattle call and translates what that gives.
 // None has a `requires`: what stands for nothing is answered. What C's structs and numbers stand for is said in specs/Types, what the
 // calls promise in specs/Calls.
+mod charts;
 mod filling;
 mod patches;
 mod pictures;
@@ -11,6 +12,8 @@ mod replies;
 mod types;
 mod version;
 
+pub use charts::ChromaChartReading;
+pub use charts::chroma_chart_reading;
 pub use filling::chroma_fill;
 pub use patches::ChromaPatch;
 pub use patches::ChromaRectangle;

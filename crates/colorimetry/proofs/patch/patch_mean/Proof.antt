@@ -1,7 +1,7 @@
 -- `handed` says what a call was handed that passed its tests; from it follow the bounds, and the three answers are laws of Handed.
 -- The sums are the promise's by `area-is`.
 use mathlib.Core.Path.{_≡_, refl, sym, subst, _∙_}
-use Prim.Native.Nat.{ℕ, _+_, _*_, _≤_, _<_}
+use Prim.Native.Nat.{ℕ, _*_, _≤_, _<_}
 use native.Mathlib.Nat.{mul-le-mul}
 use native.Mathlib.Omega.{arith}
 use borrow.Author.Needs.{needs}

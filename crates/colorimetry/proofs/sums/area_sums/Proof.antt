@@ -5,7 +5,6 @@ use mathlib.Core.List.{List}
 use Prim.Native.Nat.{ℕ, _+_, _-_, _*_, _≤_}
 use native.Mathlib.Omega.{arith}
 use lib.ListN.{length}
-use borrow.Author.Needs.{needs}
 use Rattle.laws.proofs.Sums.{Summed, sum-none, sum-more, sum-end}
 use Rattle.colorimetry.specs.Inner.Sums.{rowSum, areaSum, Inside}
 use Rattle.colorimetry.proofs.sums.area_sums.Statement.{statement}

@@ -1,4 +1,4 @@
-use mathlib.Core.Path.{_≡_, subst}
+use mathlib.Core.Path.{subst}
 use borrow.Author.Needs.{needs}
 use Rattle.image.specs.declared.rectangle.Rectangle.{Rectangle}
 use Rattle.colorimetry.specs.Patches.{patchCall, PatchGiven}
