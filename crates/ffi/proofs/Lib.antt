@@ -1,2 +1,3 @@
 -- Laws that the proofs and other crates cite.
 pub mod RoundTrip
+pub mod Strange

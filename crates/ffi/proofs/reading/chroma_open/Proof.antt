@@ -1,6 +1,6 @@
-use mathlib.Core.Bool.{true≢false}
 use mathlib.Core.Path.{refl, sym, _∙_}
 use borrow.Author.Needs.{needs}
+use Rattle.ffi.proofs.Strange.{checked-strange, checked-plain}
 use Rattle.ffi.proofs.reading.chroma_open.Statement.{statement}
 use Rattle.ffi.proofs.reading.chroma_open.Tie as tie
 
@@ -10,7 +10,7 @@ strange-layout-requires c κs = search needs
 returns : tie.Need-returns
 returns c =
     let e = sym (c .before .strange-layout .ensures) ∙ c .if1 .taken in
-    record { strange = λ _. (refl, tt); plain = λ f. absurd (true≢false (sym e ∙ f)) }
+    checked-strange e tt
 
 to-layout-requires : tie.Need-to-layout-requires
 to-layout-requires c κs = search needs
@@ -32,10 +32,7 @@ returns-2 c =
     let k = c .before in
     let l = k .before .before .before in
     let e = sym (l .before .before .strange-layout .ensures) ∙ l .before .if1 .left in
-    record {
-      strange = λ f. absurd (true≢false (sym f ∙ e));
-      plain = λ _. record { reply = k .«open» .result; given = rw (sym (l .to-layout .ensures), sym (k .before .before .to-strides .ensures), sym (k .before .to-reader .ensures)) (k .«open» .ensures); is = c .reply-to .ensures };
-    }
+    checked-plain e (record { reply = k .«open» .result; given = rw (sym (l .to-layout .ensures), sym (k .before .before .to-strides .ensures), sym (k .before .to-reader .ensures)) (k .«open» .ensures); is = c .reply-to .ensures })
 
 pub chroma-open-spec : {M : Type 1} → statement M
 chroma-open-spec =
