@@ -62,6 +62,7 @@ fn input_by(w: usize, h: usize, (nh, rh): (usize, usize), (nv, rv): (usize, usiz
     let beside = Picture::new(Numbers { w, h, nh, nv, rh, rv, bps: sample_bytes, maxval }, bytes).expect("a picture");
     let layout = ChromaLayout {
         w, h, rh, rv, cw, ch, sample_bytes, maxval, siting_across: 0, siting_down: 0, num_across: nh, num_down: nv,
+        range: 0,
     };
     Input { layout, planes, strides, beside, scratch: vec![0.0; 64 * cw + 8 * w] }
 }
@@ -87,7 +88,7 @@ impl Cell {
             b = b.min(now() - t);
         }
         let ns = 1e9 / pixels as f64;
-        let word = if name.contains("co-sited") { "of another siting" } else if same() { "same" } else { "DIFFERENT" };
+        let word = if name.contains("co-sited") { "of another siting" } else if name.contains("studio") { "of another range" } else if same() { "same" } else { "DIFFERENT" };
         println!("| {name} | {:.2} | {:.2} | {:.2} | {word} |", a * ns, b * ns, b / a);
     }
 
@@ -244,6 +245,13 @@ fn main() {
         let mut i = input(1_024, 1_024, rh, rv, 1, 255);
         (i.layout.siting_across, i.layout.siting_down) = (1, 1);
         cell.fill(&i, true, false, 3, &format!("fill linear exact, 3 bytes, {rh}:{rv}, co-sited, 1024 by 1024"));
+    }
+    // Studio range beside the original's full range, which is less work: the output is another one.
+    for (linear, size) in [(true, 3), (true, 4), (false, 3), (false, 4)] {
+        let mut i = input(1_024, 1_024, 2, 2, 1, 255);
+        i.layout.range = 1;
+        let how = if linear { "linear" } else { "guided" };
+        cell.fill(&i, linear, false, size, &format!("fill {how} exact, {size} bytes, 2:2, studio range, 1024 by 1024"));
     }
     let i = input(8_192, 64, 2, 2, 1, 255);
     cell.fill(&i, false, false, 3, "fill guided exact, 3 bytes, 2:2, 8192 by 64");

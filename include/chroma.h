@@ -46,17 +46,17 @@ extern "C" {
 /* The interface that this header describes, 0xMMmmpp: raised whenever a struct, a number or a call
  * moves. chroma_version gives that of the library that is linked: a program that was compiled
  * against another one should stop. */
-#define CHROMA_VERSION 0x000500
+#define CHROMA_VERSION 0x000600
 uint32_t chroma_version(void);
 
 /* What a call answers: the first number of its list that applies, where lists follow the order
- * of this table, 16 stands between 6 and 7, 19 between 9 and 10, and 20 and 255 before all else;
- * chroma_picture has its own order.
+ * of this table, 18 stands between 4 and 5, 16 between 6 and 7, 19 between 9 and 10, and 20 and
+ * 255 before all else; chroma_picture has its own order.
  * docs/REFUSALS.md has each number's example and definition, and each call's list. */
 enum ChromaRefusal {
     CHROMA_ACCEPTED = 0,
-    CHROMA_BAD_STATE = 1,     /* a state that open, seek or row never leaves; a phase whose left
-                                 is neither 0 nor 1 is one */
+    CHROMA_BAD_STATE = 1,     /* a state that open, seek or row never leaves; one with a range or
+                                 a phase's left that is neither 0 nor 1 is such */
     CHROMA_BAD_SIZE = 2,      /* width or height 0 or over 8192 */
     CHROMA_BAD_RATIO = 3,     /* a ratio outside 1..4, or a numerator that isn't 1; for the linear
                                  calls a numerator outside 1 to its ratio */
@@ -79,9 +79,12 @@ enum ChromaRefusal {
                                  that of the first image, or bytes left over */
     CHROMA_TOO_LARGE = 15,    /* the picture call's size limits passed, or rows missing */
     CHROMA_NOT_CENTRED = 16,  /* co-sited chroma on either axis with a guided or triangular call */
+    CHROMA_BAD_RANGE = 18,    /* studio range with another maxval than 255, or with the fixed
+                                 kernel */
     CHROMA_BAD_RECTANGLE = 19, /* chroma_patch: a rectangle whose end passes 65535 */
     CHROMA_BAD_CHART = 20,    /* a chart that is not 2 to 24 shades of three bytes, no byte over */
-    CHROMA_NO_SUCH_WAY = 255  /* a siting, or a switch of chroma_fill, that is neither 0 nor 1 */
+    CHROMA_NO_SUCH_WAY = 255  /* a siting, a range, or a switch of chroma_fill, that is neither
+                                 0 nor 1 */
 };
 
 /* A picture's numbers: w by h pixels, rh by rv of them to a chroma cell, cw by ch cells, bytes
@@ -90,7 +93,9 @@ enum ChromaRefusal {
  * cell's pixels, as JPEG has it, or 1 for co-sited, on the first of them, as BT.601 has it
  * across: 4:2:2 video is siting_across 1 and siting_down 0. The numerators say how many cells lie to
  * rh pixels across and to rv down: 1 for whole ratios; 2 with rh 3 is two cells to three pixels.
- * Co-sited chroma and numerators other than 1 are for the linear calls. */
+ * Co-sited chroma and numerators other than 1 are for the linear calls. The range is 0 for full,
+ * samples from 0 to maxval, as JPEG has it, or 1 for studio, luma 16 to 235 and chroma 16 to 240,
+ * as BT.601 has it: it is for maxval 255, and colour alone depends on it. */
 typedef struct ChromaLayout {
     size_t w, h;
     size_t rh, rv;
@@ -99,10 +104,11 @@ typedef struct ChromaLayout {
     uint32_t maxval;
     uint32_t siting_across, siting_down;
     size_t num_across, num_down;
+    uint32_t range;
 } ChromaLayout;
 
-/* The layout of a picture of one byte a sample with maxval 255, whole ratios and centred chroma,
- * whose chroma size is the quotient rounded up (0 where a ratio is 0, which every call refuses). */
+/* The layout of a picture of one byte a sample with maxval 255, whole ratios, centred chroma and
+ * full range, whose chroma size is the quotient rounded up (0 where a ratio is 0, which every call refuses). */
 static inline ChromaLayout chroma_layout(size_t w, size_t h, size_t rh, size_t rv) {
     ChromaLayout l;
     l.w = w, l.h = h, l.rh = rh, l.rv = rv;
@@ -111,6 +117,7 @@ static inline ChromaLayout chroma_layout(size_t w, size_t h, size_t rh, size_t r
     l.sample_bytes = 1, l.maxval = 255;
     l.siting_across = 0, l.siting_down = 0;
     l.num_across = 1, l.num_down = 1;
+    l.range = 0;
     return l;
 }
 
@@ -134,6 +141,7 @@ typedef struct ChromaReader {
     ChromaPhase phases[4];
     size_t sample_bytes;
     uint32_t maxval;
+    uint32_t range;
     size_t place;  /* the row that the reader is at */
     size_t h_next; /* the next chroma row to sum across, and the next to finish */
     size_t f_next;
@@ -206,7 +214,7 @@ static inline size_t chroma_scratch_need(size_t cw, size_t w) {
 /* Opens a picture: gives its reader at row 0. `scratch` is the slice that the row calls will
  * be lent; only its length is looked at. `reader` may hold anything, and comes back where the
  * call is refused; `static ChromaReader none;` is one to begin with, in C and in C++.
- * Refusals 255 (a siting that is neither 0 nor 1), then 2, 3, 4, 5, 16, 7, 9. */
+ * Refusals 255 (a siting or the range is neither 0 nor 1), then 2, 3, 4, 18, 5, 16, 7, 9. */
 ChromaReply chroma_open(ChromaLayout layout,
                         const uint8_t *y, size_t y_len,
                         const uint8_t *cb, size_t cb_len,
@@ -236,7 +244,7 @@ ChromaReply chroma_row(ChromaReader reader,
 /* One whole chroma plane, interpolated linearly: w * h values into out, row by row without gaps,
  * rounded halves up and limited to 0..maxval. `plane` is Cb or Cr, by either siting
  * and any numerators.
- * Refusals 255, then 2, 3, 4, 5, 7, 9, 10. */
+ * Refusals 255, then 2, 3, 4, 18, 5, 7, 9, 10. */
 uint32_t chroma_linear_plane(ChromaLayout layout,
                              const uint8_t *plane, size_t plane_len, size_t stride,
                              float *scratch, size_t scratch_len,
@@ -244,7 +252,7 @@ uint32_t chroma_linear_plane(ChromaLayout layout,
 
 /* One whole chroma plane, guided by luma: w * h values into out, laid out, rounded and limited as
  * above.
- * Refusals 255, then 2, 3, 4, 5, 16, 7, 9, 10. */
+ * Refusals 255, then 2, 3, 4, 18, 5, 16, 7, 9, 10. */
 uint32_t chroma_guided_plane(ChromaLayout layout,
                              const uint8_t *y, size_t y_len, size_t y_stride,
                              const uint8_t *plane, size_t plane_len, size_t stride,
@@ -252,18 +260,19 @@ uint32_t chroma_guided_plane(ChromaLayout layout,
                              uint16_t *out, size_t out_len);
 
 /* One whole chroma plane, triangular, in whole numbers: w * h values into out, row by row.
- * Refusals 255, then 2, 3, 4, 5, 6, 16, 7, 10. */
+ * Refusals 255, then 2, 3, 4, 18, 5, 6, 16, 7, 10. */
 uint32_t chroma_triangular_plane(ChromaLayout layout,
                                  const uint8_t *plane, size_t plane_len, size_t stride,
                                  uint16_t *out, size_t out_len);
 
 /* The picture's w * h pixels into out, row by row, `size` bytes each (3 or 4): red, green,
- * blue; a fourth byte keeps what it held. Colour is T.871's (JFIF: BT.601's coefficients, full
- * range), in 8 bits whatever maxval is; chroma is neutral at (maxval + 1) / 2.
+ * blue; a fourth byte keeps what it held. Colour is T.871's (JFIF: BT.601's coefficients), in 8 bits
+ * whatever maxval is; chroma is neutral at (maxval + 1) / 2. In studio range the same equations are
+ * taken on 255 * (Y - 16) / 219 and 255 * (C - 128) / 224.
  * `upsampling`: 0 linear, 1 guided. `kernel`: 0 exact, T.871's equations on chroma in 256ths; 1
- * fixed, 16-bit fixed point on chroma rounded to whole samples (maxval 255).
- * Refusals 255 (either, or a siting, is another number), then 2, 3, 4, 5, 16 (guided), 7, 8, 9,
- * 10 (out shorter than w * h * size). */
+ * fixed, 16-bit fixed point on chroma rounded to whole samples (maxval 255, full range).
+ * Refusals 255 (either, a siting or the range is another number), then 2, 3, 4, 18, 5,
+ * 16 (guided), 7, 8, 9, 10 (out shorter than w * h * size). */
 uint32_t chroma_fill(ChromaLayout layout,
                      const uint8_t *y, size_t y_len,
                      const uint8_t *cb, size_t cb_len,
@@ -275,9 +284,11 @@ uint32_t chroma_fill(ChromaLayout layout,
                      float *scratch, size_t scratch_len,
                      uint8_t *out, size_t out_len);
 
-/* The colour of one pixel by the exact kernel: chroma in 256ths, samples in 0..maxval.
- * Refusal 13. */
-ChromaPixel chroma_exact_pixel(uint32_t y, uint32_t cb256, uint32_t cr256, uint32_t maxval);
+/* The colour of one pixel by the exact kernel: chroma in 256ths, samples in 0..maxval; in studio
+ * range (range 1, maxval 255) as chroma_fill has it.
+ * Refusals 255 (range is neither 0 nor 1), then 18, 13. */
+ChromaPixel chroma_exact_pixel(uint32_t y, uint32_t cb256, uint32_t cr256, uint32_t maxval,
+                               uint32_t range);
 
 /* The colour of one pixel by the fixed kernel, for maxval 255: whole chroma. Refusal 13. */
 ChromaPixel chroma_fixed_pixel(uint32_t y, uint32_t cb, uint32_t cr);

@@ -1,13 +1,14 @@
 //! Random pictures and call lists, the crates' sources beside the original; pairs that aren't whole
-//! beside it too, and co-sited pictures beside sited.rs.
-//! Usage: compare PICTURES LISTS PIXELS FILLS SITED; it ends with status 1 where anything differs.
+//! beside it too, co-sited pictures beside sited.rs, and studio range beside studio.rs.
+//! Usage: compare PICTURES LISTS PIXELS FILLS SITED STUDIO; it ends with status 1 where anything differs.
 mod sited;
+mod studio;
 
 use oracle::{Bytes, Chroma, GuidedReader, Numbers};
 // The one path into what is compared: the public crate, which through-c.rs has under the same name.
 use sources::reconstruction::{
-    self as ours, Answer, Axis, ChromaUpsampling, Geometry, Layout, Phase, Pixel, Reader, Siting,
-    Strides, YcbcrKernel,
+    self as ours, Answer, Axis, ChromaUpsampling, Geometry, Layout, Phase, Pixel, Range, Reader,
+    Siting, Strides, YcbcrKernel,
 };
 
 /// Marsaglia's 64-bit xorshift with the shifts 13, 7, 17.
@@ -72,7 +73,7 @@ fn picture_by(r: &mut Random, t: usize, (nh, rh): (usize, usize), (nv, rv): (usi
     let maxval = if t % 3 == 0 { most } else { 1 + r.below(most) } as u32;
     let (cw, ch) = ((w * nh).div_ceil(rh), (h * nv).div_ceil(rv));
     let [across, down] = [nh, nv].map(|num| Axis { num, ..Axis::PLAIN });
-    let layout = Layout { w, h, rh, rv, cw, ch, across, down, sample_bytes, maxval };
+    let layout = Layout { w, h, rh, rv, cw, ch, across, down, sample_bytes, maxval, range: Range::Full };
     let kind = r.below(3);
     let y = plane(r, kind, w * sample_bytes, h);
     let cb = plane(r, kind, cw * sample_bytes, ch);
@@ -130,7 +131,7 @@ fn planes(p: &Picture, q: &oracle::Picture) -> [usize; 3] {
 
 fn closed() -> Reader {
     let phases = [Phase { left: false, f: 0.0 }; 4];
-    let geometry = Geometry { w: 0, h: 0, rh: 0, rv: 0, cw: 0, ch: 0, phases };
+    let geometry = Geometry { w: 0, h: 0, rh: 0, rv: 0, cw: 0, ch: 0, phases, range: Range::Full };
     Reader { geometry, sample_bytes: 0, maxval: 0, place: 0, h_next: 0, f_next: 0 }
 }
 
@@ -247,9 +248,9 @@ fn pixels(r: &mut Random, n: usize) -> [usize; 3] {
             m => m,
         };
         let plain = oracle::ycbcr_frac_to_rgb8_8bit(y, cb, cr);
-        differ[0] += other(ycbcr_frac_to_rgb8(y, cb, cr, 255), plain);
+        differ[0] += other(ycbcr_frac_to_rgb8(y, cb, cr, 255, Range::Full), plain);
         let any = oracle::ycbcr_frac_to_rgb8(y, cb, cr, maxval);
-        differ[1] += other(ycbcr_frac_to_rgb8(y, cb, cr, maxval), any);
+        differ[1] += other(ycbcr_frac_to_rgb8(y, cb, cr, maxval, Range::Full), any);
         let (cb, cr) = (cb / 256, cr / 256);
         let fixed = oracle::ycbcr_to_rgb8_fixed16(y, cb, cr);
         differ[2] += other(ycbcr_to_rgb8_fixed16(y, cb, cr), fixed);
@@ -369,6 +370,75 @@ fn sited_calls(r: &mut Random, t: usize) -> [usize; 3] {
     [plane, fill, others].map(|same| !same as usize)
 }
 
+/// Every luma of a byte at n pairs of chroma, in studio range, samples of the range and any that are
+/// accepted; how many pixels differ from studio.rs.
+fn studio_pixels(r: &mut Random, n: usize) -> usize {
+    let mut differ = 0;
+    for i in 0..n {
+        let mut chroma = || match i % 4 {
+            0 => 4_096 + r.below(57_345),
+            1 | 2 => r.below(65_537),
+            _ => r.below(16_776_961),
+        } as u32;
+        let (cb, cr) = (chroma(), chroma());
+        for y in 0..256 {
+            let [r, g, b] = studio::colour(y, cb, cr);
+            differ += (ours::ycbcr_frac_to_rgb8(y, cb, cr, 255, Range::Studio) != Pixel::Rgb(r, g, b)) as usize;
+        }
+    }
+    differ
+}
+
+/// One picture filled in studio range, linear of either siting or guided, beside studio.rs on
+/// sited.rs's chroma or on the original's rows; and its guided plane, which is full range's. How many
+/// differ.
+fn studio_calls(r: &mut Random, t: usize) -> [usize; 2] {
+    let mut p = picture(r, t);
+    let linear = r.below(2) == 0;
+    let kind = if linear { r.below(4) } else { 0 };
+    let siting = |bit: usize| if kind & bit != 0 { Siting::CoSited } else { Siting::Centred };
+    (p.layout.across.siting, p.layout.down.siting) = (siting(1), siting(2));
+    (p.layout.maxval, p.layout.range) = (255, Range::Studio);
+    let l = p.layout;
+    let axes = (
+        sited::Axis { co_sited: kind & 1 != 0, num: 1, ratio: l.rh },
+        sited::Axis { co_sited: kind & 2 != 0, num: 1, ratio: l.rv },
+    );
+    let at = |q: &Plane, x, y| sited::chroma(cells(q, l.sample_bytes), (l.cw, l.ch), axes, x, y);
+    let mut beside = GuidedReader::new();
+    beside.open(&original(&p));
+    let size = 3 + r.below(2);
+    let mut rgb: Vec<u8> = (0..l.w * l.h * size + 5).map(|_| r.next() as u8).collect();
+    let mut want = rgb.clone();
+    let luma = cells(&p.y, l.sample_bytes);
+    for y in 0..l.h {
+        let (cb, cr) = match linear {
+            true => ((0..l.w).map(|x| at(&p.cb, x, y)).collect(), (0..l.w).map(|x| at(&p.cr, x, y)).collect()),
+            false => beside.row(y).unwrap_or_else(|_| panic!("a row of the original's")),
+        };
+        for x in 0..l.w {
+            let in_256ths = |v: f32| sited::halves_up(v as f64 * 256.0, 65_536);
+            let colour = studio::colour(luma(y, x) as u32, in_256ths(cb[x]), in_256ths(cr[x]));
+            want[(y * l.w + x) * size..][..3].copy_from_slice(&colour);
+        }
+    }
+    let mut s = vec![f32::NAN; scratch_need(l)];
+    let up = if linear { ChromaUpsampling::Linear } else { ChromaUpsampling::LumaGuided };
+    let mut filled = |l: Layout, kernel, out: &mut [u8]| {
+        ours::fill(l, &p.y.data, &p.cb.data, &p.cr.data, strides(&p), up, kernel, size, &mut s, out)
+    };
+    let mut same = filled(l, YcbcrKernel::Exact, &mut rgb) == Answer::Accepted && rgb == want;
+    same &= filled(l, YcbcrKernel::FixedPoint16, &mut rgb) == Answer::Refused(18) && rgb == want;
+    let deep = Layout { maxval: 1 + r.below(254) as u32, ..l };
+    same &= filled(deep, YcbcrKernel::Exact, &mut rgb) == Answer::Refused(18) && rgb == want;
+    let mut planes = [vec![42_405u16; l.w * l.h], vec![42_405u16; l.w * l.h]];
+    for (out, range) in planes.iter_mut().zip([Range::Full, Range::Studio]) {
+        let l = Layout { range, across: Axis::PLAIN, down: Axis::PLAIN, ..l };
+        ours::guided_plane(l, &p.y.data, p.y.stride, &p.cb.data, p.cb.stride, &mut s, out);
+    }
+    [same, planes[0] == planes[1]].map(|same| !same as usize)
+}
+
 /// The fixed kernel at every pair of whole chroma, at Y 0 and 255.
 fn pairs() -> usize {
     let mut differ = 0;
@@ -412,7 +482,16 @@ fn main() {
     }
     let [planes, filled, refused] = sited;
     println!("{} pictures by any pairs, half of them co-sited; differ: planes {planes}, fills {filled}, refusals {refused}", counts[4]);
+    let differ = studio_pixels(&mut r, counts[5]);
+    println!("{} pairs of chroma in studio range, at Y 0 to 255; pixels that differ: {differ}", counts[5]);
+    let mut studio = [0; 2];
+    for t in 0..counts[5] / 16 {
+        let found = studio_calls(&mut r, t);
+        (0..2).for_each(|i| studio[i] += found[i]);
+    }
+    let [coloured, kept] = studio;
+    println!("{} fills in studio range; differ: {coloured}, guided planes {kept}", counts[5] / 16);
     let all = linear + guided + triangular + lists + exact + other + fixed + every + fills
-        + planes + filled + refused;
+        + planes + filled + refused + differ + coloured + kept;
     std::process::exit((all != 0) as i32);
 }

@@ -94,6 +94,12 @@ def ratio_words(case):
                                          case.get("nums", (1, 1)))]
 
 
+def sample_word(case):
+    """The word sample_bytes of a stored line whose kind is a capital: the range,
+    0 full and 1 studio, is its first digit."""
+    return case["size"] + (case.get("range", 0) << 12)
+
+
 def samples(data, stride, size, columns, rows):
     """The samples of a plane's bytes, a list for each row."""
     return [[int.from_bytes(data[y * stride + size * x:][:size], "little")

@@ -46,6 +46,12 @@ pub mod reconstruction {
     }
 
     #[derive(Clone, Copy, Debug, PartialEq)]
+    pub enum Range {
+        Full = 0,
+        Studio = 1,
+    }
+
+    #[derive(Clone, Copy, Debug, PartialEq)]
     pub struct Axis {
         pub siting: Siting,
         pub num: usize,
@@ -67,6 +73,7 @@ pub mod reconstruction {
         pub down: Axis,
         pub sample_bytes: usize,
         pub maxval: u32,
+        pub range: Range,
     }
 
     #[derive(Clone, Copy, Debug, PartialEq)]
@@ -95,6 +102,7 @@ pub mod reconstruction {
         pub cw: usize,
         pub ch: usize,
         pub phases: [Phase; 4],
+        pub range: Range,
     }
 
     #[derive(Clone, Copy, Debug, PartialEq)]
@@ -138,10 +146,11 @@ pub mod reconstruction {
     }
 
     fn raw_layout(l: Layout) -> ChromaLayout {
-        let Layout { w, h, rh, rv, cw, ch, across, down, sample_bytes, maxval } = l;
+        let Layout { w, h, rh, rv, cw, ch, across, down, sample_bytes, maxval, range } = l;
         let (siting_across, siting_down) = (across.siting as u32, down.siting as u32);
         let (num_across, num_down) = (across.num, down.num);
-        ChromaLayout { w, h, rh, rv, cw, ch, sample_bytes, maxval, siting_across, siting_down, num_across, num_down }
+        let range = range as u32;
+        ChromaLayout { w, h, rh, rv, cw, ch, sample_bytes, maxval, siting_across, siting_down, num_across, num_down, range }
     }
 
     /// The state as C has it.
@@ -157,6 +166,7 @@ pub mod reconstruction {
             phases: g.phases.map(|p| ChromaPhase { left: p.left as u32, f: p.f }),
             sample_bytes: r.sample_bytes,
             maxval: r.maxval,
+            range: g.range as u32,
             place: r.place,
             h_next: r.h_next,
             f_next: r.f_next,
@@ -169,7 +179,9 @@ pub mod reconstruction {
             assert!(p.left < 2, "a phase that is neither");
             Phase { left: p.left == 1, f: p.f }
         });
-        let geometry = Geometry { w: s.w, h: s.h, rh: s.rh, rv: s.rv, cw: s.cw, ch: s.ch, phases };
+        assert!(s.range < 2, "a range that is neither");
+        let range = if s.range == 1 { Range::Studio } else { Range::Full };
+        let geometry = Geometry { w: s.w, h: s.h, rh: s.rh, rv: s.rv, cw: s.cw, ch: s.ch, phases, range };
         let reader = Reader {
             geometry,
             sample_bytes: s.sample_bytes,
@@ -271,9 +283,9 @@ pub mod reconstruction {
         })
     }
 
-    pub fn ycbcr_frac_to_rgb8(y: u32, cb256: u32, cr256: u32, maxval: u32) -> Pixel {
+    pub fn ycbcr_frac_to_rgb8(y: u32, cb256: u32, cr256: u32, maxval: u32, range: Range) -> Pixel {
         // SAFETY: no pointer is passed.
-        pixel(unsafe { chroma_exact_pixel(y, cb256, cr256, maxval) })
+        pixel(unsafe { chroma_exact_pixel(y, cb256, cr256, maxval, range as u32) })
     }
 
     pub fn ycbcr_to_rgb8_fixed16(y: u32, cb: u32, cr: u32) -> Pixel {

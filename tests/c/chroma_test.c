@@ -102,7 +102,7 @@ static ChromaReader garbage(int byte) {
 static int same_state(const ChromaReader *a, const ChromaReader *b) {
     int same = a->w == b->w && a->h == b->h && a->rh == b->rh && a->rv == b->rv
         && a->cw == b->cw && a->ch == b->ch && a->sample_bytes == b->sample_bytes
-        && a->maxval == b->maxval && a->place == b->place && a->h_next == b->h_next
+        && a->maxval == b->maxval && a->range == b->range && a->place == b->place && a->h_next == b->h_next
         && a->f_next == b->f_next;
     for (int k = 0; k < 4; k++)
         same = same && memcmp(&a->phases[k], &b->phases[k], sizeof(ChromaPhase)) == 0;
@@ -114,7 +114,7 @@ static int same_state(const ChromaReader *a, const ChromaReader *b) {
 #define STANDS(type, field, at) CHECK(offsetof(type, field) == (at))
 
 static void test_structs(void) {
-    CHECK(sizeof(ChromaLayout) == 88);
+    CHECK(sizeof(ChromaLayout) == 96);
     STANDS(ChromaLayout, w, 0);
     STANDS(ChromaLayout, h, 8);
     STANDS(ChromaLayout, rh, 16);
@@ -127,6 +127,7 @@ static void test_structs(void) {
     STANDS(ChromaLayout, siting_down, 64);
     STANDS(ChromaLayout, num_across, 72);
     STANDS(ChromaLayout, num_down, 80);
+    STANDS(ChromaLayout, range, 88);
     CHECK(sizeof(ChromaStrides) == 24);
     STANDS(ChromaStrides, y, 0);
     STANDS(ChromaStrides, cb, 8);
@@ -144,6 +145,7 @@ static void test_structs(void) {
     STANDS(ChromaReader, phases, 48);
     STANDS(ChromaReader, sample_bytes, 80);
     STANDS(ChromaReader, maxval, 88);
+    STANDS(ChromaReader, range, 92);
     STANDS(ChromaReader, place, 96);
     STANDS(ChromaReader, h_next, 104);
     STANDS(ChromaReader, f_next, 112);
@@ -244,21 +246,43 @@ static void pixel_is(ChromaPixel p, uint32_t refusal, int r, int g, int b) {
 }
 
 static void test_pixels(void) {
-    pixel_is(chroma_exact_pixel(230, 3 * 256, 128 * 256, 255), 0, 230, 255, 9);
-    pixel_is(chroma_exact_pixel(10, 253 * 256, 128 * 256, 255), 0, 10, 0, 232);
-    pixel_is(chroma_exact_pixel(2048, 2048 * 256, 2048 * 256, 4095), 0, 128, 128, 128);
-    pixel_is(chroma_exact_pixel(0, 32768, 65545, 255), 0, 179, 0, 0);
-    pixel_is(chroma_exact_pixel(65535, 0, 0, 65535), 0, 76, 255, 29);
-    pixel_is(chroma_exact_pixel(65536, 0, 0, 255), 13, 0, 0, 0);
-    pixel_is(chroma_exact_pixel(0, 16776961, 0, 255), 13, 0, 0, 0);
-    pixel_is(chroma_exact_pixel(0, 0, 16776961, 255), 13, 0, 0, 0);
-    pixel_is(chroma_exact_pixel(0, 0, 0, 0), 13, 0, 0, 0);
-    pixel_is(chroma_exact_pixel(0, 0, 0, 65536), 13, 0, 0, 0);
-    pixel_is(chroma_exact_pixel(UINT32_MAX, UINT32_MAX, UINT32_MAX, UINT32_MAX), 13, 0, 0, 0);
+    pixel_is(chroma_exact_pixel(230, 3 * 256, 128 * 256, 255, 0), 0, 230, 255, 9);
+    pixel_is(chroma_exact_pixel(10, 253 * 256, 128 * 256, 255, 0), 0, 10, 0, 232);
+    pixel_is(chroma_exact_pixel(2048, 2048 * 256, 2048 * 256, 4095, 0), 0, 128, 128, 128);
+    pixel_is(chroma_exact_pixel(0, 32768, 65545, 255, 0), 0, 179, 0, 0);
+    pixel_is(chroma_exact_pixel(65535, 0, 0, 65535, 0), 0, 76, 255, 29);
+    pixel_is(chroma_exact_pixel(65536, 0, 0, 255, 0), 13, 0, 0, 0);
+    pixel_is(chroma_exact_pixel(0, 16776961, 0, 255, 0), 13, 0, 0, 0);
+    pixel_is(chroma_exact_pixel(0, 0, 16776961, 255, 0), 13, 0, 0, 0);
+    pixel_is(chroma_exact_pixel(0, 0, 0, 0, 0), 13, 0, 0, 0);
+    pixel_is(chroma_exact_pixel(0, 0, 0, 65536, 0), 13, 0, 0, 0);
+    pixel_is(chroma_exact_pixel(UINT32_MAX, UINT32_MAX, UINT32_MAX, UINT32_MAX, 0), 13, 0, 0, 0);
     pixel_is(chroma_fixed_pixel(230, 3, 128), 0, 230, 255, 8);
     pixel_is(chroma_fixed_pixel(65536, 0, 0), 13, 0, 0, 0);
     pixel_is(chroma_fixed_pixel(0, 65536, 0), 13, 0, 0, 0);
     pixel_is(chroma_fixed_pixel(0, 0, 65536), 13, 0, 0, 0);
+}
+
+/* Studio range: BT.601's ends, a test card's bars and the corners; 18 before 13, 255 before all else. */
+static void test_studio_pixels(void) {
+    static const int wanted[][6] = {
+        {16, 128, 128, 0, 0, 0}, {235, 128, 128, 255, 255, 255}, {126, 128, 128, 128, 128, 128},
+        {81, 90, 240, 254, 0, 0}, {145, 54, 34, 0, 255, 1}, {41, 240, 110, 0, 0, 255},
+        {16, 16, 16, 0, 135, 0}, {235, 240, 240, 255, 120, 255}, {128, 16, 240, 255, 83, 0},
+        {0, 0, 0, 0, 136, 0}, {255, 255, 255, 255, 125, 255}, {65535, 128, 128, 255, 255, 255}};
+    static const uint32_t strange[] = {2, 255, 65536, UINT32_MAX};
+    for (size_t k = 0; k < sizeof wanted / sizeof wanted[0]; k++) {
+        const int *p = wanted[k];
+        pixel_is(chroma_exact_pixel((uint32_t)p[0], (uint32_t)p[1] * 256, (uint32_t)p[2] * 256, 255, 1),
+                 0, p[3], p[4], p[5]);
+    }
+    pixel_is(chroma_exact_pixel(100, 16776960, 65536, 255, 1), 0, 255, 0, 255);
+    pixel_is(chroma_exact_pixel(100, 32769, 32767, 255, 1), 0, 98, 98, 98);
+    pixel_is(chroma_exact_pixel(16, 32768, 32768, 254, 1), CHROMA_BAD_RANGE, 0, 0, 0);
+    pixel_is(chroma_exact_pixel(65536, 32768, 32768, 1000, 1), CHROMA_BAD_RANGE, 0, 0, 0);
+    pixel_is(chroma_exact_pixel(65536, 32768, 32768, 255, 1), 13, 0, 0, 0);
+    for (size_t k = 0; k < 4; k++)
+        pixel_is(chroma_exact_pixel(65536, 0, 0, 0, strange[k]), CHROMA_NO_SUCH_WAY, 0, 0, 0);
 }
 
 /* ---- whole planes */
@@ -408,6 +432,77 @@ static void test_not_centred(void) {
         /* Before all else. */
         l.w = 0, l.sample_bytes = 9;
         sited_calls(l, CHROMA_NO_SUCH_WAY, CHROMA_NO_SUCH_WAY);
+    }
+}
+
+/* 18 where maxval isn't 255, 255 for a range that stands for none; else the planes and rows of full range. */
+static void test_ranges(void) {
+    static const uint32_t strange[] = {2, 255, 65536, UINT32_MAX};
+    for (uint32_t k = 0; k < 4; k++) {
+        ChromaLayout l = chroma_layout(9, 6, 2, 2);
+        l.range = 1, l.maxval = 254 - k;
+        sited_calls(l, CHROMA_BAD_RANGE, CHROMA_BAD_RANGE);
+        /* Right after 4 and before 5. */
+        l.cw = 9;
+        sited_calls(l, CHROMA_BAD_RANGE, CHROMA_BAD_RANGE);
+        l.maxval = 0;
+        sited_calls(l, CHROMA_BAD_SAMPLES, CHROMA_BAD_SAMPLES);
+        l.maxval = 255;
+        sited_calls(l, CHROMA_BAD_CHROMA, CHROMA_BAD_CHROMA);
+        l.range = strange[k], l.w = 0, l.sample_bytes = 9;
+        sited_calls(l, CHROMA_NO_SUCH_WAY, CHROMA_NO_SUCH_WAY);
+    }
+    for (uint32_t range = 0; range < 2; range++) {
+        ChromaLayout l = chroma_layout(9, 6, 2, 2);
+        uint8_t *y = lend_bytes(54), *c = lend_bytes(15), *out = lend_bytes(162);
+        size_t need = chroma_scratch_need(5, 9);
+        float *scratch = lend_floats(need), *cb = lend_floats(9), *cr = lend_floats(9);
+        uint16_t *linear = lend_values(54), *triangular = lend_values(54), *guided = lend_values(54);
+        static uint16_t full[3][54];
+        static float rows[2][9];
+        ChromaStrides s = strides_of(9, 5, 5);
+        ChromaReply p;
+        for (size_t i = 0; i < 54; i++)
+            y[i] = (uint8_t)(16 + 37 * i % 220);
+        for (size_t i = 0; i < 15; i++)
+            c[i] = (uint8_t)(16 + 59 * i % 225);
+        l.range = range;
+        SAME(chroma_linear_plane(l, c, 15, 5, scratch, need, linear, 54), 0);
+        SAME(chroma_triangular_plane(l, c, 15, 5, triangular, 54), 0);
+        SAME(chroma_guided_plane(l, y, 54, 9, c, 15, 5, scratch, need, guided, 54), 0);
+        p = chroma_open(l, y, 54, c, 15, c, 15, s, scratch, need, garbage(0x5A));
+        SAME(p.refusal, 0);
+        SAME(p.reader.range, range);
+        p = chroma_row(p.reader, y, 54, c, 15, c, 15, s, 3, scratch, need, cb, 9, cr, 9);
+        SAME(p.refusal, 0);
+        SAME(p.reader.range, range);
+        p = chroma_seek(p.reader, 1);
+        SAME(p.refusal, 0);
+        SAME(p.reader.range, range);
+        if (range == 0) {
+            memcpy(full[0], linear, sizeof full[0]);
+            memcpy(full[1], triangular, sizeof full[1]);
+            memcpy(full[2], guided, sizeof full[2]);
+            memcpy(rows[0], cb, sizeof rows[0]);
+            memcpy(rows[1], cr, sizeof rows[1]);
+        }
+        CHECK(memcmp(full[0], linear, sizeof full[0]) == 0);
+        CHECK(memcmp(full[1], triangular, sizeof full[1]) == 0);
+        CHECK(memcmp(full[2], guided, sizeof full[2]) == 0);
+        CHECK(memcmp(rows[0], cb, sizeof rows[0]) == 0);
+        CHECK(memcmp(rows[1], cr, sizeof rows[1]) == 0);
+        /* A state with a range that stands for none, and one that open doesn't leave. */
+        for (size_t k = 0; k < 4; k++) {
+            ChromaReader odd = p.reader;
+            odd.range = strange[k];
+            SAME(chroma_seek(odd, 2).refusal, 1);
+            SAME(chroma_row(odd, y, 54, c, 15, c, 15, s, 6, scratch, need, cb, 9, cr, 9).refusal, 1);
+        }
+        p.reader.maxval = 254;
+        SAME(chroma_seek(p.reader, 2).refusal, range);
+        /* The fixed kernel has full range alone. */
+        SAME(chroma_fill(l, y, 54, c, 15, c, 15, s, 0, 1, 3, scratch, need, out, 162), range ? CHROMA_BAD_RANGE : 0);
+        end_slices();
     }
 }
 
@@ -638,6 +733,34 @@ static void test_fill_one(void) {
     end_slices();
 }
 
+/* Video's own: 4:2:2, co-sited across, studio range; wide rows and narrow ones, each pixel by the pixel call. */
+static void test_fill_studio(void) {
+    for (size_t w = 1; w < 40; w++) {
+        ChromaLayout l = chroma_layout(w, 1, 2, 1);
+        size_t need = chroma_scratch_need(l.cw, w), size = 3 + w % 2;
+        uint8_t *y = lend_bytes(w), *cb = lend_bytes(l.cw), *cr = lend_bytes(l.cw);
+        uint8_t *out = lend_bytes(size * w);
+        float *scratch = lend_floats(need);
+        for (size_t i = 0; i < w; i++)
+            y[i] = (uint8_t)(11 * w + 83 * i);
+        for (size_t i = 0; i < l.cw; i++)
+            cb[i] = (uint8_t)(31 * w + 47 * i), cr[i] = (uint8_t)(7 * w + 119 * i);
+        l.siting_across = 1, l.range = 1;
+        SAME(chroma_fill(l, y, w, cb, l.cw, cr, l.cw, strides_of(w, l.cw, l.cw), 0, 0, size, scratch, need, out,
+                         size * w), 0);
+        for (size_t x = 0; x < w; x++) {
+            size_t i = x / 2, j = x % 2 && i + 1 < l.cw ? i + 1 : i;
+            ChromaPixel p = chroma_exact_pixel(y[x], 128u * (uint32_t)(cb[i] + cb[j]), 128u * (uint32_t)(cr[i] + cr[j]), 255, 1);
+            SAME(p.refusal, 0);
+            SAME(out[size * x], p.r);
+            SAME(out[size * x + 1], p.g);
+            SAME(out[size * x + 2], p.b);
+            CHECK(size == 3 || out[size * x + 3] == 0xA5);
+        }
+        end_slices();
+    }
+}
+
 static void test_fill_row(void) {
     static const uint32_t cb_there[] = {0, 25, 75, 100};
     ChromaLayout l = layout_of(4, 1, 2, 1, 2, 1);
@@ -676,7 +799,7 @@ static void test_fill_row(void) {
 
     SAME(FILL(l, 0, 0, 3, need, 12), 0);
     for (size_t x = 0; x < 4; x++) {
-        ChromaPixel p = chroma_exact_pixel(y[x], cb_there[x] * 256, 200 * 256, 255);
+        ChromaPixel p = chroma_exact_pixel(y[x], cb_there[x] * 256, 200 * 256, 255, 0);
         SAME(out[3 * x], p.r);
         SAME(out[3 * x + 1], p.g);
         SAME(out[3 * x + 2], p.b);
@@ -696,7 +819,7 @@ static void test_fill_row(void) {
     SAME(reply.refusal, 0);
     CHECK(row_cb[1] != 25.0f);
     for (size_t x = 0; x < 4; x++) {
-        ChromaPixel p = chroma_exact_pixel(y[x], (uint32_t)(row_cb[x] * 256 + 0.5f), (uint32_t)(row_cr[x] * 256 + 0.5f), 255);
+        ChromaPixel p = chroma_exact_pixel(y[x], (uint32_t)(row_cb[x] * 256 + 0.5f), (uint32_t)(row_cr[x] * 256 + 0.5f), 255, 0);
         SAME(out[3 * x], p.r);
         SAME(out[3 * x + 1], p.g);
         SAME(out[3 * x + 2], p.b);
@@ -1263,14 +1386,17 @@ int main(void) {
     test_structs();
     test_fields();
     test_pixels();
+    test_studio_pixels();
     test_linear_plane();
     test_sitings();
     test_pairs();
     test_not_centred();
+    test_ranges();
     test_triangular_plane();
     test_guided_plane();
     test_reader();
     test_fill_one();
+    test_fill_studio();
     test_fill_row();
     test_picture();
     test_comments();

@@ -97,6 +97,7 @@ static ChromaLayout layout(void) {
     uint8_t sitings = (uint8_t)take(1);
     l.siting_across = sitings < 128 ? 0 : sitings % 3;
     l.siting_down = sitings < 128 ? 0 : sitings / 3 % 3;
+    l.range = (uint32_t)take(1) % 8 % 3;
     return l;
 }
 
@@ -113,7 +114,7 @@ static ChromaReader state(void) {
 static int same(const ChromaReader *a, const ChromaReader *b) {
     return a->w == b->w && a->h == b->h && a->rh == b->rh && a->rv == b->rv && a->cw == b->cw && a->ch == b->ch
         && memcmp(a->phases, b->phases, sizeof a->phases) == 0 && a->sample_bytes == b->sample_bytes
-        && a->maxval == b->maxval && a->place == b->place && a->h_next == b->h_next && a->f_next == b->f_next;
+        && a->maxval == b->maxval && a->range == b->range && a->place == b->place && a->h_next == b->h_next && a->f_next == b->f_next;
 }
 
 static size_t room(size_t need) {
@@ -267,7 +268,7 @@ int LLVMFuzzerTestOneInput(const uint8_t *data, size_t size) {
         whole();
         break;
     case 2:
-        chroma_exact_pixel((uint32_t)take(4), (uint32_t)take(4), (uint32_t)take(4), (uint32_t)take(4));
+        chroma_exact_pixel((uint32_t)take(4), (uint32_t)take(4), (uint32_t)take(4), (uint32_t)take(4), (uint32_t)take(1) % 4);
         chroma_fixed_pixel((uint32_t)take(4), (uint32_t)take(4), (uint32_t)take(4));
         break;
     case 4:

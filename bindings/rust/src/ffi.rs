@@ -6,7 +6,7 @@
 #[path = "raw.rs"]
 mod raw;
 
-use crate::{ChartReading, Layout, Patch, Plane, Rectangle, Refusal};
+use crate::{ChartReading, Layout, Patch, Plane, Range, Rectangle, Refusal};
 
 /// A reader's state.
 #[derive(Clone, Copy, Debug)]
@@ -39,6 +39,7 @@ impl From<Layout> for raw::ChromaLayout {
             siting_down: l.siting_down as u32,
             num_across: l.num_across,
             num_down: l.num_down,
+            range: l.range as u32,
         }
     }
 }
@@ -215,9 +216,15 @@ fn colour(p: raw::ChromaPixel) -> Result<[u8; 3], Refusal> {
     Ok([p.r, p.g, p.b])
 }
 
-pub(crate) fn exact_pixel(y: u32, cb256: u32, cr256: u32, maxval: u32) -> Result<[u8; 3], Refusal> {
+pub(crate) fn exact_pixel(
+    y: u32,
+    cb256: u32,
+    cr256: u32,
+    maxval: u32,
+    range: Range,
+) -> Result<[u8; 3], Refusal> {
     // SAFETY: numbers in, a value out.
-    colour(unsafe { raw::chroma_exact_pixel(y, cb256, cr256, maxval) })
+    colour(unsafe { raw::chroma_exact_pixel(y, cb256, cr256, maxval, range as u32) })
 }
 
 pub(crate) fn fixed_pixel(y: u32, cb: u32, cr: u32) -> Result<[u8; 3], Refusal> {

@@ -38,7 +38,7 @@ mod refusal;
 
 pub use chart::{chart_reading, ChartReading};
 pub use patch::{patch, Patch, Rectangle};
-pub use picture::{Layout, Picture, Plane, Scratch, Siting};
+pub use picture::{Layout, Picture, Plane, Range, Scratch, Siting};
 pub use reader::Reader;
 pub use refusal::Refusal;
 
@@ -61,9 +61,9 @@ pub enum Kernel {
 }
 
 /// The picture's pixels into `out`, row by row, `size` bytes each (3 or 4): red, green, blue; a
-/// fourth byte keeps what it held. Colour is T.871's (JFIF: BT.601's coefficients, full range), in
-/// 8 bits whatever maxval is. Refusals 4 (fixed kernel, maxval not 255), 16 (guided, chroma
-/// co-sited), 8 and 10.
+/// fourth byte keeps what it held. Colour is T.871's (JFIF: BT.601's coefficients), in 8 bits
+/// whatever maxval is, by the layout's range. Refusals 4 (fixed kernel, maxval not 255), 18 (fixed
+/// kernel, studio range), 16 (guided, chroma co-sited), 8 and 10.
 ///
 /// ```
 /// use chroma::{fill, Kernel, Layout, Picture, Plane, Refusal, Scratch, Upsampling};
@@ -104,7 +104,7 @@ pub fn fill(
 }
 
 /// One whole chroma plane (Cb or Cr), interpolated linearly: `w * h` values into `out`, row by row,
-/// rounded halves up and limited to `0..=maxval`, by either siting. Refusals 2, 3, 4, 5, 7 and 10.
+/// rounded halves up and limited to `0..=maxval`, by either siting. Refusals 2, 3, 4, 18, 5, 7 and 10.
 ///
 /// ```
 /// use chroma::{linear_plane, Layout, Plane, Scratch, Siting};
@@ -129,7 +129,8 @@ pub fn linear_plane(
 }
 
 /// One whole chroma plane, guided by the luma plane `y`: `w * h` values into `out`, laid out,
-/// rounded and limited as those of [`linear_plane`]. Refusals 2, 3, 4, 5, 16, 7 and 10.
+/// rounded and limited as those of [`linear_plane`]. Refusals 2, 3, 4, 18, 5, 16, 7 and
+/// 10.
 ///
 /// ```
 /// use chroma::{guided_plane, Layout, Plane, Scratch};
@@ -152,7 +153,7 @@ pub fn guided_plane(
 }
 
 /// One whole chroma plane, triangular, in whole numbers: `w * h` values into `out`, row by row.
-/// Refusals 2, 3, 4, 5, 6, 16, 7 and 10.
+/// Refusals 2, 3, 4, 18, 5, 6, 16, 7 and 10.
 ///
 /// ```
 /// use chroma::{triangular_plane, Layout, Plane, Refusal};
@@ -169,14 +170,23 @@ pub fn triangular_plane(layout: Layout, plane: Plane, out: &mut [u16]) -> Result
     ffi::triangular_plane(layout, plane, out)
 }
 
-/// The colour of one pixel by the exact kernel: chroma in 256ths, samples in `0..=maxval`.
-/// Refusal 13.
+/// The colour of one pixel by the exact kernel: chroma in 256ths, samples in `0..=maxval`, or in
+/// studio range with maxval 255. Refusals 18 and 13.
 ///
 /// ```
-/// assert_eq!(chroma::exact_pixel(230, 3 * 256, 128 * 256, 255), Ok([230, 255, 9]));
+/// use chroma::{exact_pixel, Range};
+///
+/// assert_eq!(exact_pixel(230, 3 * 256, 128 * 256, 255, Range::Full), Ok([230, 255, 9]));
+/// assert_eq!(exact_pixel(235, 128 * 256, 128 * 256, 255, Range::Studio), Ok([255, 255, 255]));
 /// ```
-pub fn exact_pixel(y: u32, cb256: u32, cr256: u32, maxval: u32) -> Result<[u8; 3], Refusal> {
-    ffi::exact_pixel(y, cb256, cr256, maxval)
+pub fn exact_pixel(
+    y: u32,
+    cb256: u32,
+    cr256: u32,
+    maxval: u32,
+    range: Range,
+) -> Result<[u8; 3], Refusal> {
+    ffi::exact_pixel(y, cb256, cr256, maxval, range)
 }
 
 /// The colour of one pixel by the fixed kernel, for maxval 255: whole chroma. Refusal 13.

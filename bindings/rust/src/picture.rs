@@ -13,6 +13,16 @@ pub enum Siting {
     CoSited = 1,
 }
 
+/// What samples span. Colour depends on it; reconstructed chroma doesn't.
+#[derive(Clone, Copy, Debug, PartialEq, Eq)]
+pub enum Range {
+    /// 0 to maxval, as JPEG has it.
+    Full = 0,
+    /// Luma 16 to 235 and chroma 16 to 240, as BT.601 has it. It is for maxval 255 and the exact
+    /// kernel; with others it is refused, by [`Refusal::BadRange`].
+    Studio = 1,
+}
+
 /// A picture's numbers. Any numbers may stand here; the calls look at them. Ratios of 2 by 2 are
 /// 4:2:0, 2 by 1 is 4:2:2, 1 by 1 is 4:4:4.
 #[derive(Clone, Copy, Debug, PartialEq, Eq)]
@@ -42,11 +52,14 @@ pub struct Layout {
     pub num_across: usize,
     /// Chroma cells to `rv` pixels down.
     pub num_down: usize,
+    /// What samples span.
+    pub range: Range,
 }
 
 impl Layout {
     /// `w` by `h` pixels, `rh` by `rv` of them to a cell, the chroma size that belongs to that,
-    /// and samples of one byte with maxval 255, chroma centred. (A ratio of 0 gives no cell, and is refused.)
+    /// and samples of one byte with maxval 255 and full range, chroma centred. (A ratio of 0 gives no
+    /// cell, and is refused.)
     ///
     /// ```
     /// use chroma::Layout;
@@ -58,8 +71,12 @@ impl Layout {
     /// let deep = Layout { sample_bytes: 2, maxval: 4_095, ..l };
     /// assert_eq!(deep.cw, 3);
     ///
-    /// // Video, whose chroma sits on every second pixel of a row:
-    /// let video = Layout { siting_across: chroma::Siting::CoSited, ..Layout::new(720, 576, 2, 1) };
+    /// // Video, whose chroma sits on every second pixel of a row, in studio range:
+    /// let video = Layout {
+    ///     siting_across: chroma::Siting::CoSited,
+    ///     range: chroma::Range::Studio,
+    ///     ..Layout::new(720, 576, 2, 1)
+    /// };
     /// assert_eq!(video.cw, 360);
     /// ```
     pub fn new(w: usize, h: usize, rh: usize, rv: usize) -> Layout {
@@ -77,6 +94,7 @@ impl Layout {
             siting_down: Siting::Centred,
             num_across: 1,
             num_down: 1,
+            range: Range::Full,
         }
     }
 
@@ -175,7 +193,7 @@ pub struct Picture<'a> {
 }
 
 impl<'a> Picture<'a> {
-    /// The picture of these numbers and planes. Refusals 2, 3, 4, 5 and 7.
+    /// The picture of these numbers and planes. Refusals 2, 3, 4, 18, 5 and 7.
     pub fn new(
         layout: Layout,
         y: Plane<'a>,

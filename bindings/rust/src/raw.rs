@@ -5,7 +5,7 @@ use std::mem::{offset_of, size_of};
 
 /// CHROMA_VERSION of the header that this file follows.
 #[allow(dead_code)]
-pub(super) const VERSION: u32 = 0x00_05_00;
+pub(super) const VERSION: u32 = 0x00_06_00;
 
 #[repr(C)]
 #[derive(Clone, Copy)]
@@ -22,6 +22,7 @@ pub(super) struct ChromaLayout {
     pub(super) siting_down: u32,
     pub(super) num_across: usize,
     pub(super) num_down: usize,
+    pub(super) range: u32,
 }
 
 #[repr(C)]
@@ -51,6 +52,7 @@ pub(super) struct ChromaReader {
     pub(super) phases: [ChromaPhase; 4],
     pub(super) sample_bytes: usize,
     pub(super) maxval: u32,
+    pub(super) range: u32,
     pub(super) place: usize,
     pub(super) h_next: usize,
     pub(super) f_next: usize,
@@ -109,7 +111,7 @@ pub(super) struct ChromaChartReading {
 
 // Where each field stands, as tests/c has it of the header.
 const _: () = {
-    assert!(size_of::<ChromaLayout>() == 88);
+    assert!(size_of::<ChromaLayout>() == 96);
     assert!(offset_of!(ChromaLayout, w) == 0);
     assert!(offset_of!(ChromaLayout, h) == 8);
     assert!(offset_of!(ChromaLayout, rh) == 16);
@@ -122,6 +124,7 @@ const _: () = {
     assert!(offset_of!(ChromaLayout, siting_down) == 64);
     assert!(offset_of!(ChromaLayout, num_across) == 72);
     assert!(offset_of!(ChromaLayout, num_down) == 80);
+    assert!(offset_of!(ChromaLayout, range) == 88);
 };
 const _: () = {
     assert!(size_of::<ChromaStrides>() == 24);
@@ -145,6 +148,7 @@ const _: () = {
     assert!(offset_of!(ChromaReader, phases) == 48);
     assert!(offset_of!(ChromaReader, sample_bytes) == 80);
     assert!(offset_of!(ChromaReader, maxval) == 88);
+    assert!(offset_of!(ChromaReader, range) == 92);
     assert!(offset_of!(ChromaReader, place) == 96);
     assert!(offset_of!(ChromaReader, h_next) == 104);
     assert!(offset_of!(ChromaReader, f_next) == 112);
@@ -278,7 +282,7 @@ extern "C" {
         out: *mut u8,
         out_len: usize,
     ) -> u32;
-    pub(super) fn chroma_exact_pixel(y: u32, cb256: u32, cr256: u32, maxval: u32) -> ChromaPixel;
+    pub(super) fn chroma_exact_pixel(y: u32, cb256: u32, cr256: u32, maxval: u32, range: u32) -> ChromaPixel;
     pub(super) fn chroma_fixed_pixel(y: u32, cb: u32, cr: u32) -> ChromaPixel;
     pub(super) fn chroma_picture(
         input: *const u8,

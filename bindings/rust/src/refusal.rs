@@ -7,9 +7,9 @@ use std::fmt;
 /// docs/REFUSALS.md. A call that is turned down has changed nothing.
 ///
 /// ```
-/// use chroma::{exact_pixel, Refusal};
+/// use chroma::{exact_pixel, Range, Refusal};
 ///
-/// let refusal = exact_pixel(65_536, 0, 0, 255).unwrap_err();
+/// let refusal = exact_pixel(65_536, 0, 0, 255, Range::Full).unwrap_err();
 /// assert_eq!(refusal, Refusal::BadPixel);
 /// assert_eq!(refusal.number(), 13);
 /// ```
@@ -68,6 +68,8 @@ pub enum Refusal {
     TooLarge,
     /// Co-sited chroma on either axis with a guided or triangular call.
     NotCentred,
+    /// Studio range with another maxval than 255, or with the fixed kernel.
+    BadRange,
     /// A rectangle whose end passes 65,535.
     BadRectangle,
     /// A chart that is not 2 to 24 shades of three bytes, or that has bytes over.
@@ -78,7 +80,7 @@ pub enum Refusal {
 }
 
 impl Refusal {
-    const NAMED: [Refusal; 18] = [
+    const NAMED: [Refusal; 19] = [
         Refusal::BadState,
         Refusal::BadSize,
         Refusal::BadRatio,
@@ -95,6 +97,7 @@ impl Refusal {
         Refusal::BadHeader,
         Refusal::TooLarge,
         Refusal::NotCentred,
+        Refusal::BadRange,
         Refusal::BadRectangle,
         Refusal::BadChart,
     ];
@@ -118,6 +121,7 @@ impl Refusal {
             Refusal::BadHeader => 14,
             Refusal::TooLarge => 15,
             Refusal::NotCentred => 16,
+            Refusal::BadRange => 18,
             Refusal::BadRectangle => 19,
             Refusal::BadChart => 20,
             Refusal::Unknown(number) => number,
@@ -153,6 +157,7 @@ impl fmt::Display for Refusal {
             Refusal::BadHeader => "header not as it should be, or bytes left over",
             Refusal::TooLarge => "size limits passed, or rows missing",
             Refusal::NotCentred => "co-sited chroma, which guided and triangular calls don't take",
+            Refusal::BadRange => "studio range with another maxval than 255, or the fixed kernel",
             Refusal::BadRectangle => "a rectangle whose end passes 65535",
             Refusal::BadChart => "a chart that is not 2 to 24 shades of three bytes",
             Refusal::Unknown(_) => "a reason that this crate has no name for",
@@ -174,14 +179,14 @@ mod tests {
             let refusal = Refusal::check(number).unwrap_err();
             assert_eq!(refusal.number(), number);
             let unknown = matches!(refusal, Refusal::Unknown(_));
-            let named = (1..=16).chain([19, 20]).any(|known| known == number);
+            let named = (1..=16).chain([18, 19, 20]).any(|known| known == number);
             assert_eq!(unknown, !named, "{number}");
         }
     }
 
     #[test]
     fn an_unknown_number_is_an_answer() {
-        // 255 stands for a switch or a siting that this crate can't pass.
+        // 255 stands for a switch, a siting or a range that this crate can't pass.
         let refusal = Refusal::check(255).unwrap_err();
         assert_eq!(refusal, Refusal::Unknown(255));
         assert_eq!(

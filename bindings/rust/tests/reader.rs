@@ -1,8 +1,8 @@
 //! The reader against the whole planes, over many orders of calls, and over one scratch.
 
 use chroma::{
-    fill, guided_plane, linear_plane, triangular_plane, Kernel, Layout, Picture, Plane, Reader,
-    Refusal, Scratch, Siting, Upsampling,
+    exact_pixel, fill, guided_plane, linear_plane, triangular_plane, Kernel, Layout, Picture,
+    Plane, Range, Reader, Refusal, Scratch, Siting, Upsampling,
 };
 
 /// A plane's bytes, other ones for each seed, with two bytes behind each row.
@@ -228,6 +228,58 @@ fn co_sited_pictures_are_for_linear_calls() {
                 assert_eq!(out[2 * i * 9 + 2 * j], case.planes[1][i * 7 + j] as u16);
             }
         }
+    }
+}
+
+#[test]
+fn studio_range_is_for_maxval_255_and_the_exact_kernel() {
+    let case = Case::new(5, 21, 6, 2, 2);
+    let studio = Layout {
+        range: Range::Studio,
+        ..case.layout
+    };
+    let [y, cb, cr] =
+        [(0, 23), (1, 13), (2, 13)].map(|(k, stride)| Plane::new(&case.planes[k], stride));
+    let [full, ranged] =
+        [case.layout, studio].map(|layout| Picture::new(layout, y, cb, cr).unwrap());
+    let mut scratch = Scratch::new();
+    let mut rgb = vec![7; 21 * 6 * 3];
+    let mut filled = |picture, kernel| {
+        fill(picture, Upsampling::LumaGuided, kernel, 3, &mut scratch, &mut rgb)
+    };
+    assert_eq!(filled(&ranged, Kernel::FixedPoint16), Err(Refusal::BadRange));
+    assert_eq!(filled(&full, Kernel::FixedPoint16), Ok(()));
+    assert_eq!(filled(&ranged, Kernel::Exact), Ok(()));
+    // The rows are those of full range, and each pixel is the pixel call's.
+    let [mut rows, mut others] = [full, ranged].map(|picture| picture.reader().unwrap());
+    let [mut a, mut b, mut c, mut d] = [0; 4].map(|_| vec![0.0; 21]);
+    for row in 0..6 {
+        rows.row(row, &mut a, &mut b).unwrap();
+        others.row(row, &mut c, &mut d).unwrap();
+        assert_eq!((&a, &b), (&c, &d));
+        for x in 0..21 {
+            let in_256ths = |v: f32| (v * 256.0 + 0.5) as u32;
+            let luma = case.planes[0][row * 23 + x] as u32;
+            let colour = exact_pixel(luma, in_256ths(c[x]), in_256ths(d[x]), 255, Range::Studio);
+            assert_eq!(colour.unwrap(), rgb[(row * 21 + x) * 3..][..3]);
+        }
+    }
+    let other = Layout {
+        maxval: 254,
+        ..studio
+    };
+    assert_eq!(
+        Picture::new(other, y, cb, cr).err(),
+        Some(Refusal::BadRange)
+    );
+    let mut out = vec![0; 21 * 6];
+    for refused in [
+        linear_plane(other, cb, &mut scratch, &mut out),
+        guided_plane(other, y, cb, &mut scratch, &mut out),
+        triangular_plane(other, cb, &mut out),
+        exact_pixel(16, 32_768, 32_768, 254, Range::Studio).map(drop),
+    ] {
+        assert_eq!(refused, Err(Refusal::BadRange));
     }
 }
 

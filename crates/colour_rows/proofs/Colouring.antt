@@ -1,5 +1,5 @@
 -- The colour of a pixel, as the kernels are handed its samples.
-use mathlib.Core.Path.{_≡_, refl}
+use mathlib.Core.Path.{_≡_, refl, sym, ap}
 use mathlib.Core.Logic.{_≢_}
 use mathlib.Core.Bool.{false}
 use mathlib.Core.List.{List}
@@ -11,13 +11,17 @@ use lib.Ieee.{Float, nan}
 use borrow.Author.Tests.{ne-eqb}
 use Rattle.laws.specs.Floats.{f32, _⊗_}
 use Rattle.image.specs.declared.layout.Layout.{Layout}
+use Rattle.image.specs.declared.layout.Range.{Range}
+use Rattle.image.specs.declared.layout.Range.the-variants.{Full, Studio}
 use Rattle.image.specs.Samples.{Plane, sampleAt}
 use Rattle.fround.specs.Rounding.{roundClamped}
 use Rattle.image.specs.Scratch.{cellAt}
+use Rattle.kernel_blocks.specs.Stores.{pixels}
 use Rattle.kernels.specs.Kernels.{exact255, exactAt, fixed255}
+use Rattle.kernels.specs.T871.{studio255}
 use Rattle.kernels.specs.Pixels.{exactColour}
-use Rattle.colour_rows.specs.Colours.{limit256, chroma256, wholeChroma, colourBy}
-use Rattle.colour_rows.specs.Inner.Colours.{rowColour}
+use Rattle.colour_rows.specs.Colours.{limit256, chroma256, wholeChroma, colourBy, studioBy, colourIn}
+use Rattle.colour_rows.specs.Inner.Colours.{rowColour, colourRow, studioColour, studioRow, rangedPixel, rangedRow}
 use Rattle.kernels.specs.declared.kernel.YcbcrKernel.{YcbcrKernel}
 use Rattle.kernels.specs.declared.kernel.YcbcrKernel.the-variants.{Exact, FixedPoint16}
 
@@ -37,6 +41,11 @@ module _ (y : ℕ) (b r : Float) {cb cr : ℕ} where
   unfolding colourBy wholeChroma
   fixed-by d p q = rw (p, q) refl
 
+  -- studio range
+  pub studio-by : cb ≡ roundClamped 65536 (b ⊗ f32 256) → cr ≡ roundClamped 65536 (r ⊗ f32 256) → studio255 y cb cr ≡ studioBy y b r
+  unfolding studioBy chroma256 limit256
+  studio-by p q = rw (p, q) refl
+
 -- in a row: luma of the plane, Cb from the row at the front of scratch and Cr from the one at w
 module _ (kernel : YcbcrKernel) (l : Layout) (p : Plane) (row : ℕ) (s : List Float) (x : ℕ) {y : ℕ} (e : y ≡ sampleAt (l .«sample_bytes») p row x) where
   pub in-row : {d : ℕ} → l .maxval ≡ d → colourBy kernel d y (cellAt s 0 x) (cellAt s (l .w) x) ≡ rowColour kernel l p row s x
@@ -45,3 +54,22 @@ module _ (kernel : YcbcrKernel) (l : Layout) (p : Plane) (row : ℕ) (s : List F
 
   pub in-row-read : colourBy kernel (l .maxval) y (getD s x nan) (cellAt s (l .w) x) ≡ rowColour kernel l p row s x
   in-row-read = rw zero-add at (in-row refl)
+
+-- the same in studio range
+module _ (l : Layout) (p : Plane) (row : ℕ) (s : List Float) (x : ℕ) {y : ℕ} (e : y ≡ sampleAt (l .«sample_bytes») p row x) where
+  pub in-studio : studioBy y (cellAt s 0 x) (cellAt s (l .w) x) ≡ studioColour l p row s x
+  unfolding studioColour
+  in-studio = rw e refl
+
+  pub in-studio-read : studioBy y (getD s x nan) (cellAt s (l .w) x) ≡ studioColour l p row s x
+  in-studio-read = rw zero-add at in-studio
+
+-- a row in the layout's range is the row of that range
+module _ (kernel : YcbcrKernel) (l : Layout) (p : Plane) (row : ℕ) (s : List Float) (at size : ℕ) (out : List ℕ) where
+  pub full-row : l .range ≡ Full → colourRow kernel l p row s at size out ≡ rangedRow kernel l p row s at size out
+  unfolding colourRow rowColour rangedRow rangedPixel colourIn
+  full-row e = ap (λ (r : Range). pixels out at size (λ x. colourIn r kernel (l .maxval) (sampleAt (l .«sample_bytes») p row x) (cellAt s 0 x) (cellAt s (l .w) x)) (l .w)) (sym e)
+
+  pub studio-row : l .range ≡ Studio → studioRow l p row s at size out ≡ rangedRow kernel l p row s at size out
+  unfolding studioRow studioColour rangedRow rangedPixel colourIn
+  studio-row e = ap (λ (r : Range). pixels out at size (λ x. colourIn r kernel (l .maxval) (sampleAt (l .«sample_bytes») p row x) (cellAt s 0 x) (cellAt s (l .w) x)) (l .w)) (sym e)

@@ -7,8 +7,8 @@ ghost use lib.ListN.{length};
 ghost use Rattle.laws.specs.Floats.{f32, _⊗_};
 ghost use Rattle.fround.specs.Inner.Rounding.{Rounded};
 ghost use Rattle.kernels.specs.Inner.Forms.{colourOf};
-ghost use Rattle.colour_rows.specs.Colours.{colourBy};
-ghost use Rattle.colour_rows.specs.Inner.Colours.{colourRow};
+ghost use Rattle.colour_rows.specs.Colours.{colourBy, studioBy};
+ghost use Rattle.colour_rows.specs.Inner.Colours.{colourRow, studioRow};
 ghost use Rattle.colour_rows.specs.Inner.Lent.{RowLent};
 ghost use Rattle.kernels.specs.declared.kernel.YcbcrKernel.the-variants.{Exact, FixedPoint16};
 ghost use Rattle.image.specs.Samples.{planeOf};
@@ -25,6 +25,14 @@ fn exact_pixel(y: u32, cb: f32, cr: f32) -> Rgb
     ensures { λ p. ⌜ colourOf p ≡ colourBy Exact 255 y cb cr ⌝ }
 {
     kernels::ycbcr_frac_to_rgb8_8bit(y, chroma_256ths(cb), chroma_256ths(cr))
+}
+
+// A pixel by the exact kernel in studio range.
+fn studio_pixel(y: u32, cb: f32, cr: f32) -> Rgb
+    requires { ⌜ y ≤ 65535 ⌝ }
+    ensures { λ p. ⌜ colourOf p ≡ studioBy y cb cr ⌝ }
+{
+    kernels::ycbcr_frac_to_rgb8_studio(y, chroma_256ths(cb), chroma_256ths(cr))
 }
 
 // Chroma in 256ths at a maxval other than 255, up to 16,776,960 = 65,535 * 256. That is past the limit of rounding by the grid, so that it
@@ -51,7 +59,7 @@ fn fixed_pixel(y: u32, cb: f32, cr: f32) -> Rgb
     kernels::ycbcr_to_rgb8_fixed(y, whole_chroma(cb) as u32, whole_chroma(cr) as u32)
 }
 
-// A pixel by either kernel at any maxval.
+// A pixel by either kernel at any maxval, in full range.
 fn plain_pixel(kernel: YcbcrKernel, y: u32, cb: f32, cr: f32, maxval: u32) -> Rgb
     requires { ⌜ (y ≤ 65535) × (1 ≤ maxval) × (maxval ≤ 65535) ⌝ }
     ensures { λ p. ⌜ colourOf p ≡ colourBy kernel maxval y cb cr ⌝ }
@@ -67,7 +75,7 @@ fn plain_pixel(kernel: YcbcrKernel, y: u32, cb: f32, cr: f32, maxval: u32) -> Rg
     }
 }
 
-// Inner: a row pixel by pixel, of `size` bytes each, to out from `at` on. Cb's finished row lies in scratch at 0, Cr's at w.
+// Inner: a row of full range pixel by pixel, of `size` bytes each, to out from `at` on. Cb's finished row lies in scratch at 0, Cr's at w.
 pub fn plain_row(
     layout: Layout,
     kernel: YcbcrKernel,
@@ -90,6 +98,32 @@ pub fn plain_row(
         let y = luma_at(layout, plane, stride, row, x);
         let p = plain_pixel(kernel, y, s[x], s[w + x], layout.maxval);
         kernel_blocks::put_pixel(out, at + x * size, p.r, p.g, p.b);
+        x += 1;
+    }
+}
+
+// Inner: a row of studio range pixel by pixel. A loop of its own, so that full range has no test in its loop.
+pub fn studio_plain_row(
+    layout: Layout,
+    size: usize,
+    plane: &[u8],
+    stride: usize,
+    row: usize,
+    s: &[f32],
+    out: &mut [u8],
+    at: usize,
+)
+    requires { ⌜ RowLent layout (planeOf (now plane) stride) row (length (now s)) ⌝ }
+    requires { ⌜ (3 ≤ size) × (at + layout .w * size ≤ length (now out)) ⌝ }
+    ensures { λ _. ⌜ now (out .exit) ≡ studioRow
+        layout (planeOf (now (plane .entry)) stride) row (now (s .entry)) at size (now (out .entry)) ⌝ }
+{
+    let w = layout.w;
+    let mut x = 0;
+    while x < w {
+        let y = luma_at(layout, plane, stride, row, x);
+        let rgb = studio_pixel(y, s[x], s[w + x]);
+        kernel_blocks::put_pixel(out, at + x * size, rgb.r, rgb.g, rgb.b);
         x += 1;
     }
 }

@@ -9,6 +9,7 @@ use reconstruction::Answer;
 use reconstruction::Axis;
 use reconstruction::ChromaUpsampling;
 use reconstruction::Layout;
+use reconstruction::Range;
 use reconstruction::Strides;
 use reconstruction::YcbcrKernel;
 use reconstruction::fill;
@@ -17,7 +18,7 @@ use reconstruction::fill;
 pub fn to_rgb(y: &[u8], cb: &[u8], cr: &[u8], scratch: &mut [f32], rgb: &mut [u8]) -> Answer
     ensures { λ r. ⌜ FillGiven
         (fillCall
-        (record { w = 640; h = 480; rh = 2; rv = 2; cw = 320; ch = 240; across = plain; down = plain; «sample_bytes» = 1; maxval = 255 })
+        (record { w = 640; h = 480; rh = 2; rv = 2; cw = 320; ch = 240; across = plain; down = plain; «sample_bytes» = 1; maxval = 255; range = Range.Full })
         (planesOf (now (y .entry)) (now (cb .entry)) (now (cr .entry)) (record { y = 640; cb = 320; cr = 320 }))
         ChromaUpsampling.LumaGuided YcbcrKernel.Exact 3 (now (scratch .entry)) (now (rgb .entry)))
         r (now (scratch .exit)) (now (rgb .exit)) ⌝ }
@@ -33,6 +34,7 @@ pub fn to_rgb(y: &[u8], cb: &[u8], cr: &[u8], scratch: &mut [f32], rgb: &mut [u8
         down: Axis::PLAIN,
         sample_bytes: 1,
         maxval: 255,
+        range: Range::Full,
     };
     let strides = Strides {
         y: 640,

@@ -7,10 +7,12 @@ use native.Mathlib.Omega.{arith}
 use lib.Dec.{eqb, ltb}
 use lib.ListN.{length, getD}
 use lib.Ieee.{nan}
+use Rattle.image.specs.declared.layout.Range.{Range}
+use Rattle.image.specs.declared.layout.Range.the-variants.{Full, Studio}
 use Rattle.taps.specs.declared.phases.Phase.{Phase}
 use Rattle.guided.specs.declared.state.Reader.{Reader}
 use Rattle.guided.specs.Calls.{phaseIn}
-use Rattle.ffi.specs.Types.{asPhase, chromaPhase, strangePhases, asReader, chromaReader}
+use Rattle.ffi.specs.Types.{asRange, chromaRange, asPhase, chromaPhase, strangePhases, strangeReader, asReader, chromaReader}
 
 left-back : (b : Bool) → eqb (cond b 1 0) 1 ≡ b
 left-back true = refl
@@ -19,6 +21,16 @@ left-back false = refl
 left-low : (b : Bool) → ltb 1 (cond b 1 0) ≡ false
 left-low true = refl
 left-low false = refl
+
+range-back : (range : Range) → asRange (chromaRange range) ≡ range
+unfolding asRange chromaRange
+range-back Full = refl
+range-back Studio = refl
+
+range-low : (range : Range) → ltb 1 (chromaRange range) ≡ false
+unfolding chromaRange
+range-low Full = refl
+range-low Studio = refl
 
 phase-back : (p : Phase) → asPhase (chromaPhase p) ≡ p
 unfolding asPhase chromaPhase
@@ -38,7 +50,7 @@ unfolding asReader chromaReader
 reader-back s n =
     let g = s .geometry in
     λ t. record {
-      geometry = record { w = g .w; h = g .h; rh = g .rh; rv = g .rv; cw = g .cw; ch = g .ch; phases = phases-back (g .phases) (λ p. asPhase (chromaPhase p)) phase-back n t };
+      geometry = record { w = g .w; h = g .h; rh = g .rh; rv = g .rv; cw = g .cw; ch = g .ch; phases = phases-back (g .phases) (λ p. asPhase (chromaPhase p)) phase-back n t; range = range-back (g .range) t };
       «sample_bytes» = s .«sample_bytes»;
       maxval = s .maxval;
       place = s .place;
@@ -46,8 +58,8 @@ reader-back s n =
       «f_next» = s .«f_next»;
     }
 
-pub never-strange : (s : Reader) → strangePhases (chromaReader s) ≡ false
-unfolding strangePhases chromaReader chromaPhase
+pub never-strange : (s : Reader) → strangeReader (chromaReader s) ≡ false
+unfolding strangeReader strangePhases chromaReader chromaPhase
 never-strange s =
     let low : (k : ℕ) → ltb 1 (cond (phaseIn (s .geometry) k .left) 1 0) ≡ false = λ k. left-low (phaseIn (s .geometry) k .left) in
-    rw (low 0, low 1, low 2, low 3) refl
+    rw (low 0, low 1, low 2, low 3, range-low (s .geometry .range)) refl

@@ -67,7 +67,7 @@ asUpsampling n = pickUpsampling (eqb n 1) LumaGuided Linear
 unfoldable pub asKernel : ℕ → YcbcrKernel
 asKernel n = pickKernel (eqb n 1) FixedPoint16 Exact
 
--- another number than 0 and 1 stands for no way to fill, and for no siting
+-- another number than 0 and 1 stands for no way to fill, for no siting and for no range
 unfoldable pub noSuchWay : ChromaLayout → ℕ → ℕ → Bool
 noSuchWay l upsampling kernel = (ltb 1 upsampling || ltb 1 kernel) || strangeLayout l
 
@@ -77,6 +77,14 @@ noSuchWay l upsampling kernel = (ltb 1 upsampling || ltb 1 kernel) || strangeLay
 abbrev pub chromaPixel : Pixel → ChromaPixel
 chromaPixel (P.Rgb r g b) = record { refusal = 0; r = r; g = g; b = b }
 chromaPixel (P.Refused n) = record { refusal = n; r = 0; g = 0; b = 0 }
+
+abbrev pub pickPixel : Bool → Pixel → Pixel → Pixel
+pickPixel true a b = a
+pickPixel false a b = b
+
+-- the same of a pixel in a range; 255, before all else, where the range is neither 0 nor 1
+unfoldable pub chromaPixelIn : ℕ → Pixel → ChromaPixel
+chromaPixelIn range p = chromaPixel (pickPixel (ltb 1 range) (P.Refused 255) p)
 
 abbrev pub chromaWritten : Outcome → ChromaWritten
 chromaWritten (Written n) = record { refusal = 0; len = n }

@@ -35,14 +35,14 @@ fn to_kernel(n: u32) -> YcbcrKernel
     YcbcrKernel::Exact
 }
 
-// Whether C's switches or the layout's sitings stand for no way to fill.
+// Whether C's switches, or the layout's sitings or range, stand for no way to fill.
 fn no_such_way(layout: ChromaLayout, upsampling: u32, kernel: u32) -> bool
     ensures { λ r. ⌜ r ≡ noSuchWay layout upsampling kernel ⌝ }
 {
     either(either(1 < upsampling, 1 < kernel), strange_layout(layout))
 }
 
-// `fill`: chroma linear (0) or guided (1), kernel exact (0) or fixed (1); 255 for any other switch or siting, before all else.
+// `fill`: chroma linear (0) or guided (1), kernel exact (0) or fixed (1); 255 for any other switch, siting or range, before all else.
 #[no_mangle]
 pub extern "C" fn chroma_fill(
     layout: ChromaLayout,

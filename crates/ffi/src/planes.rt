@@ -1,4 +1,4 @@
-// A whole chroma plane, for C: linear, guided or triangular. A siting that stands for none is 255, before all else.
+// A whole chroma plane, for C: linear, guided or triangular. A siting or range that stands for none is 255, before all else.
 ghost use mathlib.Core.Path.{_≡_};
 ghost use Rattle.linear.specs.Linear.{LinearGiven};
 ghost use Rattle.upsample.specs.Triangular.{TriangularGiven};

@@ -1,7 +1,7 @@
 // The reader's calls for C: open, seek and row.
 ghost use mathlib.Core.Path.{_≡_};
 ghost use Rattle.guided.specs.Calls.{openCall, seekCall, rowCall, OpenGiven, SeekGiven, RowGiven};
-ghost use Rattle.ffi.specs.Types.{asStrides, asLayout, asReader, strangeLayout, strangePhases};
+ghost use Rattle.ffi.specs.Types.{asStrides, asLayout, asReader, strangeLayout, strangeReader};
 ghost use Rattle.ffi.specs.Calls.{Checked};
 ghost use Rattle.image.specs.Picture.{planesOf};
 use crate::replies::reply_to;
@@ -10,12 +10,12 @@ use crate::types::ChromaReader;
 use crate::types::ChromaReply;
 use crate::types::ChromaStrides;
 use crate::types::strange_layout;
-use crate::types::strange_phases;
+use crate::types::strange_reader;
 use crate::types::to_layout;
 use crate::types::to_reader;
 use crate::types::to_strides;
 
-// `open`: a picture's reader at row 0. The state that it is handed may hold anything. A siting that stands for none is 255, before all else.
+// `open`: a picture's reader at row 0. The state that it is handed may hold anything. A siting or range that stands for none is 255, before all else.
 #[no_mangle]
 pub extern "C" fn chroma_open(
     layout: ChromaLayout,
@@ -53,9 +53,9 @@ pub extern "C" fn chroma_open(
 // `seek`: the reader at row y.
 #[no_mangle]
 pub extern "C" fn chroma_seek(reader: ChromaReader, y: usize) -> ChromaReply
-    ensures { λ r. ⌜ Checked (strangePhases reader) 1 reader Unit (SeekGiven (seekCall y (asReader reader))) r ⌝ }
+    ensures { λ r. ⌜ Checked (strangeReader reader) 1 reader Unit (SeekGiven (seekCall y (asReader reader))) r ⌝ }
 {
-    if strange_phases(reader) {
+    if strange_reader(reader) {
         return ChromaReply { refusal: 1, reader };
     }
     let reply = reader::seek(to_reader(reader), y);
@@ -75,7 +75,7 @@ pub extern "C" fn chroma_row(
     out_cb: &mut [f32],
     out_cr: &mut [f32],
 ) -> ChromaReply
-    ensures { λ r. ⌜ Checked (strangePhases reader) 1 reader
+    ensures { λ r. ⌜ Checked (strangeReader reader) 1 reader
         ((now (s .exit) ≡ now (s .entry))
         × (now («out_cb» .exit) ≡ now («out_cb» .entry))
         × (now («out_cr» .exit) ≡ now («out_cr» .entry)))
@@ -85,7 +85,7 @@ pub extern "C" fn chroma_row(
         p (now (s .exit)) (now («out_cb» .exit)) (now («out_cr» .exit)))
         r ⌝ }
 {
-    if strange_phases(reader) {
+    if strange_reader(reader) {
         return ChromaReply { refusal: 1, reader };
     }
     let reply = reader::row(

@@ -1,10 +1,11 @@
 // What crosses the boundary to C, and its translation: structs with C's layout, whose numbers stand for the Rattle calls' bools and
 // enums.
 ghost use mathlib.Core.Path.{_≡_};
-ghost use Rattle.ffi.specs.Types.{asStrides, asAxis, asLayout, strangeLayout, asPhase, chromaPhase, asReader, chromaReader, strangePhases, numberOf};
+ghost use Rattle.ffi.specs.Types.{asStrides, asAxis, asRange, chromaRange, asLayout, strangeLayout, asPhase, chromaPhase, asReader, chromaReader, strangePhases, strangeReader, numberOf};
 use guided::Geometry;
 use guided::Reader;
 use image::Layout;
+use image::Range;
 use image::Strides;
 use laws::Answer;
 use laws::Axis;
@@ -12,8 +13,8 @@ use laws::Siting;
 use laws::either;
 use taps::Phase;
 
-// A picture's numbers, as `Layout` has them: rh pixels to num_across cells, and rv to num_down. A siting is 0 for centred and 1 for co-sited;
-// another number stands for none.
+// A picture's numbers, as `Layout` has them: rh pixels to num_across cells, and rv to num_down. A siting is 0 for centred and 1 for co-sited,
+// the range 0 for full and 1 for studio; another number stands for none.
 #[repr(C)]
 pub struct ChromaLayout {
     pub w: usize,
@@ -28,6 +29,7 @@ pub struct ChromaLayout {
     pub siting_down: u32,
     pub num_across: usize,
     pub num_down: usize,
+    pub range: u32,
 }
 
 // How many bytes apart the rows of each plane begin.
@@ -57,6 +59,7 @@ pub struct ChromaReader {
     pub phases: [ChromaPhase; 4],
     pub sample_bytes: usize,
     pub maxval: u32,
+    pub range: u32,
     pub place: usize,
     pub h_next: usize,
     pub f_next: usize,
@@ -101,11 +104,31 @@ fn to_axis(siting: u32, num: usize) -> Axis
     }
 }
 
-// Inner: whether a siting is neither 0 nor 1, so that the layout stands for none.
+// Inner: the range that C's number stands for. Another number than 0 and 1 was answered before.
+pub fn to_range(n: u32) -> Range
+    ensures { λ r. ⌜ r ≡ asRange n ⌝ }
+{
+    if n == 1 {
+        return Range::Studio;
+    }
+    Range::Full
+}
+
+// A range in C's form.
+fn from_range(range: Range) -> u32
+    ensures { λ r. ⌜ r ≡ chromaRange range ⌝ }
+{
+    match range {
+        Range::Full => 0,
+        Range::Studio => 1,
+    }
+}
+
+// Inner: whether a siting or the range is neither 0 nor 1, so that the layout stands for none.
 pub fn strange_layout(l: ChromaLayout) -> bool
     ensures { λ r. ⌜ r ≡ strangeLayout l ⌝ }
 {
-    either(1 < l.siting_across, 1 < l.siting_down)
+    either(either(1 < l.siting_across, 1 < l.siting_down), 1 < l.range)
 }
 
 // Inner: the layout that C's stands for.
@@ -123,6 +146,7 @@ pub fn to_layout(l: ChromaLayout) -> Layout
         down: to_axis(l.siting_down, l.num_down),
         sample_bytes: l.sample_bytes,
         maxval: l.maxval,
+        range: to_range(l.range),
     }
 }
 
@@ -157,8 +181,8 @@ fn from_phase(p: Phase) -> ChromaPhase
     ChromaPhase { left: 0, f: p.f }
 }
 
-// Inner: whether a phase's `left` is neither 0 nor 1, so that the state stands for none.
-pub fn strange_phases(reader: ChromaReader) -> bool
+// Whether a phase's `left` is neither 0 nor 1.
+fn strange_phases(reader: ChromaReader) -> bool
     ensures { λ r. ⌜ r ≡ strangePhases reader ⌝ }
 {
     let p = reader.phases;
@@ -166,6 +190,13 @@ pub fn strange_phases(reader: ChromaReader) -> bool
         either(1 < p[0].left, 1 < p[1].left),
         either(1 < p[2].left, 1 < p[3].left),
     )
+}
+
+// Inner: whether a phase's `left` or the range is neither 0 nor 1, so that the state stands for none.
+pub fn strange_reader(reader: ChromaReader) -> bool
+    ensures { λ r. ⌜ r ≡ strangeReader reader ⌝ }
+{
+    either(strange_phases(reader), 1 < reader.range)
 }
 
 // Inner: the state that C's stands for.
@@ -187,6 +218,7 @@ pub fn to_reader(r: ChromaReader) -> Reader
         cw: r.cw,
         ch: r.ch,
         phases,
+        range: to_range(r.range),
     };
     Reader {
         geometry,
@@ -204,6 +236,7 @@ pub fn from_reader(r: Reader) -> ChromaReader
 {
     let g = r.geometry;
     let p = g.phases;
+    let range = g.range;
     let phases = [
         from_phase(p[0]),
         from_phase(p[1]),
@@ -220,6 +253,7 @@ pub fn from_reader(r: Reader) -> ChromaReader
         phases,
         sample_bytes: r.sample_bytes,
         maxval: r.maxval,
+        range: from_range(range),
         place: r.place,
         h_next: r.h_next,
         f_next: r.f_next,

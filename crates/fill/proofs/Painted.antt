@@ -21,7 +21,7 @@ use Rattle.kernels.specs.Kernels.{Colour}
 use Rattle.kernel_blocks.specs.Stores.{pixels}
 use Rattle.kernel_blocks.proofs.Puts.{length-pixels, pixels-same}
 use Rattle.kernels.specs.declared.kernel.YcbcrKernel.{YcbcrKernel}
-use Rattle.colour_rows.specs.Inner.Colours.{rowColour, colourRow}
+use Rattle.colour_rows.specs.Inner.Colours.{rangedPixel, rangedRow}
 use Rattle.fill.specs.declared.options.ChromaUpsampling.{ChromaUpsampling}
 use Rattle.fill.specs.Fill.{fillColour, pixelRows}
 use Rattle.fill.specs.Inner.Steps.{fillStep, ChromaLent, FillLent}
@@ -66,12 +66,12 @@ module _ {w size : ℕ} {f : ℕ → ℕ → Colour} {a n : ℕ} {before after :
 -- ---- the row that is made of a step's chroma
 
 module _ (up : ChromaUpsampling) (kernel : YcbcrKernel) (l : Layout) (ps : Planes) (o : ChromaLent up l ps) (a n : ℕ) (before after : List Float) (w : Scratched up l ps a n before after) (L : scratchNeed l ≤ length before) (Y : a + n < l .h) where
-  pixel-is : (x : ℕ) → x < l .w → rowColour kernel l (ps .y) (a + n) (fillStep up l ps a n after) x ≡ fillColour up kernel (pictureOf l ps) (a + n) x
-  unfolding rowColour fillColour finishedAt pictureOf
+  pixel-is : (x : ℕ) → x < l .w → rangedPixel kernel l (ps .y) (a + n) (fillStep up l ps a n after) x ≡ fillColour up kernel (pictureOf l ps) (a + n) x
+  unfolding rangedPixel fillColour finishedAt pictureOf
   pixel-is x X =
       let chroma = chroma-is up l ps o a n before after w L Y in
       rw (chroma Cb x X, chroma Cr x X, inside-is (l .w) (l .h) (sampleAt (l .«sample_bytes») (ps .y)) x (a + n) X Y) refl
 
-  pub row-is : (at size : ℕ) (out : List ℕ) → colourRow kernel l (ps .y) (a + n) (fillStep up l ps a n after) at size out ≡ pixels out at size (fillColour up kernel (pictureOf l ps) (a + n)) (l .w)
-  unfolding colourRow
+  pub row-is : (at size : ℕ) (out : List ℕ) → rangedRow kernel l (ps .y) (a + n) (fillStep up l ps a n after) at size out ≡ pixels out at size (fillColour up kernel (pictureOf l ps) (a + n)) (l .w)
+  unfolding rangedRow
   row-is at size out = pixels-same out at size _ _ (l .w) pixel-is

@@ -16,7 +16,7 @@ use Rattle.guided_rows.specs.CatchingUp.{guidedRows}
 use Rattle.kernels.specs.Kernels.{Colour}
 use Rattle.kernel_blocks.specs.Stores.{pixels}
 use Rattle.kernels.specs.declared.kernel.YcbcrKernel.{YcbcrKernel}
-use Rattle.colour_rows.specs.Colours.{colourBy}
+use Rattle.colour_rows.specs.Colours.{colourIn}
 use Rattle.fill.specs.Tests.{FillCall, fillTests}
 use Rattle.fill.specs.declared.options.ChromaUpsampling.{ChromaUpsampling}
 use Rattle.fill.specs.declared.options.ChromaUpsampling.the-variants.{Linear, LumaGuided}
@@ -28,7 +28,7 @@ chromaBy LumaGuided p k y x = guidedSample p k y x
 
 -- the colour of column x of row y, from the picture alone
 unfoldable pub fillColour : ChromaUpsampling → YcbcrKernel → Picture → ℕ → ℕ → Colour
-fillColour up kernel p y x = colourBy kernel (p .layout .maxval) (p .luma y x) (chromaBy up p Cb y x) (chromaBy up p Cr y x)
+fillColour up kernel p y x = colourIn (p .layout .range) kernel (p .layout .maxval) (p .luma y x) (chromaBy up p Cb y x) (chromaBy up p Cr y x)
 
 -- out after rows a, .. a + n - 1 were stored, w pixels of `size` bytes each: row y begins at y·(w·size), and nothing else is touched
 unfoldable pub pixelRows : ℕ → ℕ → (ℕ → ℕ → Colour) → ℕ → ℕ → List ℕ → List ℕ

@@ -39,7 +39,7 @@ abbrev pub isGuided : ChromaUpsampling → Bool
 isGuided Linear = false
 isGuided LumaGuided = true
 
--- 2, 3, where "Guided and triangular stay with numerator 1", 4, 5, then 16: "Co-sited on either axis with guided", "looked at right after 6", 7, 8: "pixel size not 3 or 4", 9 and 10: "output too short"
+-- 2, 3, where "Guided and triangular stay with numerator 1", 4, 18, 5, then 16: "Co-sited on either axis with guided", "looked at right after 6", 7, 8: "pixel size not 3 or 4", 9 and 10: "output too short"
 unfoldable pub fillTests : FillCall → List Test
 fillTests c =
     let l = c .layout in

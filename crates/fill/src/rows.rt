@@ -7,7 +7,7 @@ ghost use Rattle.image.specs.Picture.{pictureOf, planesOf};
 ghost use Rattle.linear.specs.Linear.{linearRow};
 ghost use Rattle.linear.specs.Inner.Linear.{Ready};
 ghost use Rattle.image.specs.Scratch.{scratchNeed};
-ghost use Rattle.colour_rows.specs.Inner.Colours.{colourRow};
+ghost use Rattle.colour_rows.specs.Inner.Colours.{rangedRow};
 ghost use Rattle.colour_rows.specs.Inner.Lent.{TablesFor};
 ghost use Rattle.fill.specs.Fill.{fillColour, pixelRows, fillScratch};
 ghost use Rattle.fill.specs.Inner.Steps.{fillStep, ChromaLent, FillLent};
@@ -81,7 +81,7 @@ fn fill_row(
     ensures { λ _. ⌜ now (s .exit) ≡ fillStep upsampling layout
         (planesOf (now (y .entry)) (now (cb .entry)) (now (cr .entry)) strides)
         first n (now (s .entry)) ⌝ }
-    ensures { λ _. ⌜ now (out .exit) ≡ colourRow kernel layout
+    ensures { λ _. ⌜ now (out .exit) ≡ rangedRow kernel layout
         (planeOf (now (y .entry)) (strides .y)) (first + n)
         (fillStep upsampling layout (planesOf (now (y .entry)) (now (cb .entry)) (now (cr .entry)) strides) first n (now (s .entry)))
         ((first + n) * (layout .w * size)) size (now (out .entry)) ⌝ }

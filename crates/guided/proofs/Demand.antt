@@ -17,7 +17,7 @@ use Rattle.laws.proofs.Lists.{table-at}
 use Rattle.image.specs.declared.layout.Layout.{Layout}
 use Rattle.image.specs.Samples.{sampleAt, sampleOf, place}
 use Rattle.image.specs.declared.chroma.Chroma.{Chroma}
-use Rattle.image.specs.Picture.{chromaPlane, inside, pictureOf, badPlanes}
+use Rattle.image.specs.Picture.{chromaPlane, inside, pictureOf, ranged, SameButRange, badPlanes}
 use Rattle.image.proofs.Pictures.{sample-small}
 use Rattle.image.specs.Scratch.{scratchNeed}
 use Rattle.guided.specs.Guided.{guidedSample, guidedRow}
@@ -59,7 +59,7 @@ module _ (o : OpenCall) (e : RowEvent) (es : List Event) (run : Run o e es) wher
   sample-local u k x X a = guided-local (pictureBy o) (pictureBy u) k (e .call .y) x (fact .sound) X (fact .inside) a
 
 same-width : (o u : OpenCall) (i j : ℕ) → AlikeNear (pictureBy o) (pictureBy u) j i → o .layout .w ≡ u .layout .w
-unfolding pictureOf
+unfolding pictureOf SameButRange ranged
 same-width o u i j a = ap (λ (l : Layout). l .w) (a .layout)
 
 -- demand 3

@@ -60,7 +60,7 @@ phases-pass l = rw (same-self (phaseAt (l .rh) 0), same-self (phaseAt (l .rh) 1)
 
 -- a layout with plain axes in the place of its own
 abbrev flat : Layout → Layout
-flat l = record { w = l .w; h = l .h; rh = l .rh; rv = l .rv; cw = l .cw; ch = l .ch; across = plain; down = plain; «sample_bytes» = l .«sample_bytes»; maxval = l .maxval }
+flat l = record { w = l .w; h = l .h; rh = l .rh; rv = l .rv; cw = l .cw; ch = l .ch; across = plain; down = plain; «sample_bytes» = l .«sample_bytes»; maxval = l .maxval; range = l .range }
 
 -- where 3 and 16 do not apply that is the layout itself, so that a reader fresh from an accepted open has the layout that open was given
 pub plain-back : (l : Layout) → Failed (layoutTests false l) → badSiting l ≡ false → readerLayout (afterOpen l) ≡ l
@@ -68,7 +68,7 @@ unfolding afterOpen readerAt readerLayout geometryOf
 plain-back l f e = let p = plain-axes (sound false l f) e in flat-is (p .0) (p .1)
   where
     flat-is : l .across ≡ plain → l .down ≡ plain → flat l ≡ l
-    flat-is a d = λ i. record { w = l .w; h = l .h; rh = l .rh; rv = l .rv; cw = l .cw; ch = l .ch; across = sym a i; down = sym d i; «sample_bytes» = l .«sample_bytes»; maxval = l .maxval }
+    flat-is a d = λ i. record { w = l .w; h = l .h; rh = l .rh; rv = l .rv; cw = l .cw; ch = l .ch; across = sym a i; down = sym d i; «sample_bytes» = l .«sample_bytes»; maxval = l .maxval; range = l .range }
 
 -- what open leaves, what seek leaves and what row leaves
 pub after-open-passes : (l : Layout) → Failed (layoutTests false l) → badSiting l ≡ false → badState (afterOpen l) ≡ false
@@ -164,7 +164,7 @@ unfolding geometryOf readerLayout phasesOf
 geometry-is s t e =
     let g = s .geometry in
     let q : g .phases ≡ phasesOf (g .rh) = four-is (g .phases) _ (phaseAt (g .rh)) (t .four) (phases-are g (state-tests s e .1) (t .floats)) in
-    λ i. record { w = g .w; h = g .h; rh = g .rh; rv = g .rv; cw = g .cw; ch = g .ch; phases = q i }
+    λ i. record { w = g .w; h = g .h; rh = g .rh; rv = g .rv; cw = g .cw; ch = g .ch; phases = q i; range = g .range }
 
 -- a state that passes is the one that seek, or row, leaves at its place in a reader fresh from open
 pub left-states : (s : Reader) → Typed s → badState s ≡ false → (s ≡ afterSeek (afterOpen (readerLayout s)) (s .place)) ⊎ (s ≡ afterRow (afterOpen (readerLayout s)) (s .place))

@@ -9,11 +9,14 @@ use lib.Ieee.{Float}
 use Rattle.laws.specs.Floats.{f32, _⊕_, _⊗_}
 use Rattle.laws.specs.Sums.{sumTo}
 use Rattle.laws.proofs.Sums.{sum-same}
+use Rattle.image.specs.declared.layout.Layout.{Layout}
+use Rattle.image.specs.declared.layout.Range.{Range}
+use Rattle.image.specs.declared.layout.Range.the-variants.{Full}
 use Rattle.image.specs.Inner.Tests.{Sound}
 use Rattle.image.specs.declared.chroma.Chroma.{Chroma}
-use Rattle.image.specs.Picture.{Picture}
+use Rattle.image.specs.Picture.{Picture, ranged, pictureIn, SameButRange}
 use Rattle.fround.specs.Rounding.{fmin, fmax}
-use Rattle.guided.specs.Guided.{three, Across, Luma, LumaSum, SquareSum, Cell, CellSum, ProductSum, lumaOf, extremeOf, cellLuma, cellOf, acrossVal, extreme, slope, downTo, guidedSample}
+use Rattle.guided.specs.Guided.{three, Across, Luma, LumaSum, SquareSum, Cell, CellSum, ProductSum, lumaOf, extremeOf, cellLuma, cellOf, acrossVal, extreme, epsilon, mean, slopeOf, slope, downTo, acrossTo, detailOf, valueOf, guidedSample}
 use Rattle.guided.specs.Events.{Near, AlikeNear}
 use Rattle.guided.proofs.Taken.{taken, own-row, own-column}
 use Rattle.guided.proofs.Congruence.{Beside, three-cong, slope-cong, down-cong, detail-cong, value-cong}
@@ -89,11 +92,16 @@ module _ (p : Picture) (luma : ℕ → ℕ → ℕ) (chroma : Chroma → ℕ →
       (λ i b. down-cong l s y Y (acrossVal p Luma) (acrossVal m Luma) i (λ j u v. across-local Luma j i (omega (arith, t .inside)) (omega arith) (omega (arith, t .near, t .above, t .below))))
       (ap f32 (eL x y X Y (omega arith) (omega arith))))
 
-alike-is : (p q : Picture) (i j : ℕ) → AlikeNear p q j i → q ≡ like p (q .luma) (q .chroma)
-alike-is p q i j e = λ t. record { layout = sym (e .layout) t; luma = q .luma; chroma = q .chroma }
+-- "Reconstructed samples don't depend on the range": no step of a guided sample looks at it
+pub range-free : (range : Range) (p : Picture) (k : Chroma) (y x : ℕ) → guidedSample (pictureIn range p) k y x ≡ guidedSample p k y x
+unfolding pictureIn ranged guidedSample valueOf detailOf acrossTo downTo extreme extremeOf slope slopeOf mean epsilon acrossVal cellOf cellLuma lumaOf
+range-free range p k y x = refl
 
--- pictures alike but for what is more than two cells away have the same sample there
+-- pictures alike but for the range and what is more than two cells away have the same sample there
 pub guided-local : (p q : Picture) (k : Chroma) (y x : ℕ) → Sound (p .layout) → x < p .layout .w → y < p .layout .h → AlikeNear p q (y / p .layout .rv) (x / p .layout .rh) → guidedSample p k y x ≡ guidedSample q k y x
+unfolding SameButRange pictureIn
 guided-local p q k y x s X Y e =
     sample-local p (q .luma) (q .chroma) (x / p .layout .rh) (y / p .layout .rv) (e .luma) (e .chroma) s k y x X Y refl refl
-    ∙ ap (λ (z : Picture). guidedSample z k y x) (sym (alike-is p q (x / p .layout .rh) (y / p .layout .rv) e))
+    ∙ sym (range-free Full (like p (q .luma) (q .chroma)) k y x)
+    ∙ ap (λ (l : Layout). guidedSample (record { layout = l; luma = q .luma; chroma = q .chroma }) k y x) (e .layout)
+    ∙ range-free Full q k y x

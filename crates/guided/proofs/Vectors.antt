@@ -7,6 +7,7 @@ use lib.Count.{trailingZeros}
 use Rattle.laws.specs.Axes.{plain}
 use Rattle.laws.specs.Lists.{table}
 use Rattle.laws.specs.Sums.{sumTo}
+use Rattle.image.specs.declared.layout.Range.the-variants.{Full}
 use Rattle.image.specs.Samples.{sampleOf, sampleAt}
 use Rattle.image.specs.declared.chroma.Chroma.the-variants.{Cb}
 use Rattle.image.specs.Picture.{Picture, inside, pictureOf}
@@ -16,7 +17,7 @@ use Rattle.guided.specs.Guided.{three, lumaOf, extremeOf, cellLuma, cell
 -- a picture of so many bytes a sample at ratios rh and rv, of cw by ch cells whose chroma is c twice
 abbrev pictureV : ℕ → ℕ → ℕ → ℕ → ℕ → ℕ → ℕ → ℕ → List ℕ → List ℕ → Picture
 pictureV bytes w h rh rv cw ch maxval y c =
-    pictureOf (record { w = w; h = h; rh = rh; rv = rv; cw = cw; ch = ch; across = plain; down = plain; «sample_bytes» = bytes; maxval = maxval })
+    pictureOf (record { w = w; h = h; rh = rh; rv = rv; cw = cw; ch = ch; across = plain; down = plain; «sample_bytes» = bytes; maxval = maxval; range = Full })
     (record { y = record { bytes = y; stride = bytes * w }; cb = record { bytes = c; stride = bytes * cw }; cr = record { bytes = c; stride = bytes * cw } })
 
 -- 3 by 3 at ratio 2, maxval 1,023, row 1

@@ -1,4 +1,5 @@
--- A list that meets the premise, with refused calls among accepted ones and a second picture over the first one's scratch.
+-- A list that meets the premise, with refused calls among accepted ones and a second picture, in studio range, over the first one's scratch;
+-- and a list of its own with that picture in full range, whose row is the same.
 -- Each answer is computed from its tests; what a call leaves passes by LeftStates. The long computations are the guided rows of both pictures,
 -- whose numbers come from the original; their slopes are computed first, since each sample takes its slope several times.
 use mathlib.Core.Path.{_≡_, refl, _∙_}
@@ -17,16 +18,18 @@ use Rattle.laws.specs.Sums.{sumTo}
 use Rattle.laws.specs.Refusals.{first, accepted}
 use Rattle.laws.proofs.Refusals.{Failed, failed-accepted}
 use Rattle.image.specs.declared.layout.Layout.{Layout}
-use Rattle.image.specs.Tests.{badSize, badRatio, badSamples, divCeil, badChroma, badSiting, layoutTests, badPlane, testsFor}
+use Rattle.image.specs.declared.layout.Range.the-variants.{Full, Studio}
+use Rattle.image.specs.Tests.{badSize, badRatio, badSamples, badRange, divCeil, badChroma, badSiting, layoutTests, badPlane, testsFor}
 use Rattle.image.specs.Samples.{sampleOf, sampleAt}
+use Rattle.image.specs.declared.chroma.Chroma.{Chroma}
 use Rattle.image.specs.declared.chroma.Chroma.the-variants.{Cb, Cr}
-use Rattle.image.specs.Picture.{Planes, chromaPlane, inside, pictureOf, shortPlane, badPlanes}
+use Rattle.image.specs.Picture.{Planes, chromaPlane, inside, pictureOf, ranged, SameButRange, shortPlane, badPlanes}
 use Rattle.taps.specs.Taps.{spotAt, sitedAt, spotOf, tapBy, phaseOf}
 use Rattle.image.specs.Scratch.{scratchNeed}
 use Rattle.guided.specs.declared.state.Reader.{Reader}
 use Rattle.guided.specs.Guided.{three, lumaOf, extremeOf, cellLuma, cellOf, acrossVal, extreme, epsilon, mean, slopeOf, downTo, acrossTo, detailOf, valueOf, slope, guidedSample, guidedRow}
 use Rattle.guided.specs.Calls.{geometryOf, readerLayout, readerAt, afterOpen, afterSeek, afterRow, badState, OpenCall, SeekCall, RowCall, openTests, seekTests, rowTests, rowScratch, rowOut, Bytes}
-use Rattle.guided.specs.Events.{RowEvent, Event, Opened, Sought, Rowed, Ran, AllRan, done, Start, pictureBy, moved, next, Handed, Premise, Gives, here, later, given}
+use Rattle.guided.specs.Events.{RowEvent, Event, Opened, Sought, Rowed, Ran, AllRan, done, Start, pictureBy, moved, next, Handed, Premise, Gives, here, later, given, Run}
 use Rattle.guided.proofs.FinishedRows.{length-row}
 use Rattle.guided.proofs.LeftStates.{after-open-passes, after-seek-passes, after-row-passes}
 use Rattle.guided.proofs.Runs.{shows-own}
@@ -54,18 +57,18 @@ rowEvent c =
 -- ---- the calls
 
 abbrev junk : Reader
-junk = record { geometry = record { w = 9; h = 9; rh = 0; rv = 7; cw = 1; ch = 1; phases = [] }; «sample_bytes» = 3; maxval = 0; place = 7; «h_next» = 7; «f_next» = 7 }
+junk = record { geometry = record { w = 9; h = 9; rh = 0; rv = 7; cw = 1; ch = 1; phases = []; range = Full }; «sample_bytes» = 3; maxval = 0; place = 7; «h_next» = 7; «f_next» = 7 }
 
 -- 2 by 2, ratio 2 across and 1 down, luma at a stride of 3 and Cr at one of 2
 abbrev layoutA : Layout
-layoutA = record { w = 2; h = 2; rh = 2; rv = 1; cw = 1; ch = 2; across = plain; down = plain; «sample_bytes» = 1; maxval = 255 }
+layoutA = record { w = 2; h = 2; rh = 2; rv = 1; cw = 1; ch = 2; across = plain; down = plain; «sample_bytes» = 1; maxval = 255; range = Full }
 
 abbrev planesA : Planes
 planesA = record { y = record { bytes = 10 ∷ 20 ∷ 99 ∷ 30 ∷ 40 ∷ []; stride = 3 }; cb = record { bytes = 100 ∷ 60 ∷ []; stride = 1 }; cr = record { bytes = 200 ∷ 9 ∷ 77 ∷ []; stride = 2 } }
 
--- 1 by 1
+-- 1 by 1, in studio range
 abbrev layoutB : Layout
-layoutB = record { w = 1; h = 1; rh = 1; rv = 1; cw = 1; ch = 1; across = plain; down = plain; «sample_bytes» = 1; maxval = 255 }
+layoutB = record { w = 1; h = 1; rh = 1; rv = 1; cw = 1; ch = 1; across = plain; down = plain; «sample_bytes» = 1; maxval = 255; range = Studio }
 
 abbrev planesB : Planes
 planesB = record { y = record { bytes = 230 ∷ []; stride = 1 }; cb = record { bytes = 3 ∷ []; stride = 1 }; cr = record { bytes = 128 ∷ []; stride = 1 } }
@@ -75,7 +78,7 @@ openA = record { layout = layoutA; planes = planesA; scratch = replicate 80 nan;
 
 -- refused as 2, over any state and scratch
 abbrev badOpen : OpenCall
-badOpen = record { layout = record { w = 0; h = 2; rh = 2; rv = 2; cw = 1; ch = 1; across = plain; down = plain; «sample_bytes» = 1; maxval = 255 }; planes = planesB; scratch = []; reader = junk }
+badOpen = record { layout = record { w = 0; h = 2; rh = 2; rv = 2; cw = 1; ch = 1; across = plain; down = plain; «sample_bytes» = 1; maxval = 255; range = Full }; planes = planesB; scratch = []; reader = junk }
 
 -- refused as 1
 abbrev badRow : RowCall
@@ -106,7 +109,7 @@ unfolding rowScratch
 length-scratch c = length-row _ _ _ _ _ _ (c .scratch)
 
 openA-answer : first (openTests openA) ≡ Accepted
-unfolding openTests first testsFor badSize badRatio badSamples divCeil badChroma badSiting badPlane shortPlane badPlanes scratchNeed
+unfolding openTests first testsFor badSize badRatio badSamples badRange divCeil badChroma badSiting badPlane shortPlane badPlanes scratchNeed
 openA-answer = refl
 
 badOpen-answer : first (openTests badOpen) ≡ Refused 2
@@ -114,16 +117,16 @@ unfolding openTests first testsFor badSize
 badOpen-answer = refl
 
 badRow-answer : first (rowTests badRow) ≡ Refused 1
-unfolding rowTests first badState readerLayout testsFor badSize badRatio badSamples
+unfolding rowTests first badState readerLayout testsFor badSize badRatio badSamples badRange
 badRow-answer = refl
 
 layoutA-sound : Failed (layoutTests false layoutA)
-unfolding testsFor badSize badRatio badSamples divCeil badChroma
-layoutA-sound = (refl, (refl, (refl, (refl, tt))))
+unfolding testsFor badSize badRatio badSamples badRange divCeil badChroma
+layoutA-sound = (refl, (refl, (refl, (refl, (refl, tt)))))
 
 layoutB-sound : Failed (layoutTests false layoutB)
-unfolding testsFor badSize badRatio badSamples divCeil badChroma
-layoutB-sound = (refl, (refl, (refl, (refl, tt))))
+unfolding testsFor badSize badRatio badSamples badRange divCeil badChroma
+layoutB-sound = (refl, (refl, (refl, (refl, (refl, tt)))))
 
 state0 : badState (afterOpen layoutA) ≡ false
 unfolding badSiting
@@ -156,8 +159,8 @@ unfolding rowTests afterOpen afterRow afterSeek readerAt geometryOf readerLayout
 row1-answer = failed-accepted (rowTests row1) (state2, (refl, (rw scratch0 refl, (refl, (refl, (refl, tt))))))
 
 openB-answer : first (openTests openB) ≡ Accepted
-unfolding openTests testsFor badSize badRatio badSamples divCeil badChroma badSiting badPlane shortPlane badPlanes scratchNeed
-openB-answer = failed-accepted (openTests openB) (refl, (refl, (refl, (refl, (refl, (refl, (rw scratch1 refl, tt)))))))
+unfolding openTests testsFor badSize badRatio badSamples badRange divCeil badChroma badSiting badPlane shortPlane badPlanes scratchNeed
+openB-answer = failed-accepted (openTests openB) (refl, (refl, (refl, (refl, (refl, (refl, (refl, (rw scratch1 refl, tt))))))))
 
 row2-answer : first (rowTests row2) ≡ Accepted
 unfolding rowTests afterOpen readerAt geometryOf readerLayout badPlane shortPlane badPlanes scratchNeed badSiting
@@ -269,3 +272,47 @@ worked-1 = let rows = demand-3 .guided openA (rowEvent row1) events (record { ra
 
 pub worked-2 : (given openB (rowEvent row2) Cb ≡ f32 3 ∷ []) × (given openB (rowEvent row2) Cr ≡ f32 128 ∷ [])
 worked-2 = let rows = demand-3 .guided openB (rowEvent row2) events (record { ran = all-ran; premise = premise; gives = gives-2 }) in (rows Cb ∙ computed-2 .0, rows Cr ∙ computed-2 .1)
+
+-- ---- the second picture in full range, read by itself, gives the same row
+
+abbrev layoutF : Layout
+layoutF = record { w = 1; h = 1; rh = 1; rv = 1; cw = 1; ch = 1; across = plain; down = plain; «sample_bytes» = 1; maxval = 255; range = Full }
+
+abbrev openF : OpenCall
+openF = record { layout = layoutF; planes = planesB; scratch = replicate 80 nan; reader = junk }
+
+abbrev rowF : RowCall
+rowF = record { y = 0; planes = planesB; reader = afterOpen layoutF; scratch = replicate 80 nan; outCb = nan ∷ []; outCr = nan ∷ [] }
+
+abbrev eventsF : List Event
+eventsF = openEvent openF ∷ Rowed (rowEvent rowF) ∷ []
+
+openF-answer : first (openTests openF) ≡ Accepted
+unfolding openTests first testsFor badSize badRatio badSamples badRange divCeil badChroma badSiting badPlane shortPlane badPlanes scratchNeed
+openF-answer = refl
+
+layoutF-sound : Failed (layoutTests false layoutF)
+unfolding testsFor badSize badRatio badSamples badRange divCeil badChroma
+layoutF-sound = (refl, (refl, (refl, (refl, (refl, tt)))))
+
+rowF-answer : first (rowTests rowF) ≡ Accepted
+unfolding rowTests afterOpen readerAt geometryOf readerLayout badPlane shortPlane badPlanes scratchNeed badSiting
+rowF-answer = failed-accepted (rowTests rowF) (after-open-passes layoutF layoutF-sound refl, (refl, (refl, (refl, (refl, (refl, tt))))))
+
+ranF : AllRan eventsF
+unfolding AllRan
+ranF = (open-ran openF (bytesB openF refl), (row-ran rowF, tt))
+
+premiseF : Premise Start eventsF
+unfolding Premise next moved Handed done
+premiseF = rw (openF-answer, rowF-answer) ((λ _. tt), ((λ _. (shows-own openF, refl, refl)), tt))
+
+gives-F : Gives openF (rowEvent rowF) Start eventsF
+unfolding next moved done
+gives-F = rw (openF-answer, rowF-answer) (later (here tt refl))
+
+pub worked-range : (k : Chroma) → getD (given openB (rowEvent row2) k) 0 (f32 0) ≡ getD (given openF (rowEvent rowF) k) 0 (f32 0)
+unfolding pictureOf SameButRange ranged
+worked-range k =
+    demand-3 .local openB openF (rowEvent row2) (rowEvent rowF) events eventsF (record { ran = all-ran; premise = premise; gives = gives-2 }) (record { ran = ranF; premise = premiseF; gives = gives-F }) refl k 0 (lit< tt)
+    (record { layout = refl; luma = λ x y X Y I J. refl; chroma = λ c x y X Y I J. refl })

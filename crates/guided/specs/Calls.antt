@@ -28,13 +28,13 @@ use Rattle.guided.specs.Scratch.{rowSteps, finishedAt}
 
 -- ---- states
 
--- the geometry that open keeps of a layout
+-- the geometry that open keeps of a layout: "The geometry record .. gain[s] a range"
 unfoldable pub geometryOf : Layout → Geometry
-geometryOf l = record { w = l .w; h = l .h; rh = l .rh; rv = l .rv; cw = l .cw; ch = l .ch; phases = phasesOf (l .rh) }
+geometryOf l = record { w = l .w; h = l .h; rh = l .rh; rv = l .rv; cw = l .cw; ch = l .ch; phases = phasesOf (l .rh); range = l .range }
 
 -- the layout that a reader's picture was opened with: an accepted open's axes are plain
 unfoldable pub readerLayout : Reader → Layout
-readerLayout s = record { w = s .geometry .w; h = s .geometry .h; rh = s .geometry .rh; rv = s .geometry .rv; cw = s .geometry .cw; ch = s .geometry .ch; across = plain; down = plain; «sample_bytes» = s .«sample_bytes»; maxval = s .maxval }
+readerLayout s = record { w = s .geometry .w; h = s .geometry .h; rh = s .geometry .rh; rv = s .geometry .rv; cw = s .geometry .cw; ch = s .geometry .ch; across = plain; down = plain; «sample_bytes» = s .«sample_bytes»; maxval = s .maxval; range = s .geometry .range }
 
 -- the first and the last chroma row that picture row y takes from
 unfoldable pub topOf : Layout → ℕ → ℕ
@@ -126,7 +126,7 @@ seekCall y reader = record { y = y; reader = reader }
 abbrev pub rowCall : ℕ → Planes → Reader → List Float → List Float → List Float → RowCall
 rowCall y planes reader scratch outCb outCr = record { y = y; planes = planes; reader = reader; scratch = scratch; outCb = outCb; outCr = outCr }
 
--- "Co-sited on either axis with guided (open included)" is 16, "looked at right after 6"
+-- 2, 3, 4, 18 "in open and plane calls too, right after 4", 5; "Co-sited on either axis with guided (open included)" is 16, "looked at right after 6"
 unfoldable pub openTests : OpenCall → List Test
 openTests o = layoutTests false (o .layout) ++ ((badSiting (o .layout), 16) ∷ (badPlanes (o .layout) (o .planes), 7) ∷ (ltb (length (o .scratch)) (scratchNeed (o .layout)), 9) ∷ [])
 

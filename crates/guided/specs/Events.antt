@@ -12,7 +12,7 @@ use Rattle.image.specs.declared.layout.Layout.{Layout}
 use Rattle.image.specs.Samples.{sampleAt}
 use Rattle.image.specs.declared.chroma.Chroma.{Chroma}
 use Rattle.image.specs.declared.chroma.Chroma.the-variants.{Cb, Cr}
-use Rattle.image.specs.Picture.{Picture, Planes, chromaPlane, pictureOf}
+use Rattle.image.specs.Picture.{Picture, Planes, chromaPlane, pictureOf, SameButRange}
 use Rattle.guided.specs.declared.state.Reader.{Reader}
 use Rattle.guided.specs.declared.state.Reply.{Reply}
 use Rattle.guided.specs.Guided.{guidedRow}
@@ -126,9 +126,9 @@ Within p k j i v = T (le (f32 (nine min p k j i)) v) × T (le v (f32 (nine max p
 abbrev pub Near : ℕ → ℕ → Type 0
 Near a b = (a ≤ b + 2) × (b ≤ a + 2)
 
--- pictures alike but for what is more than two cells from cell i of chroma row j: "Luma counts with its pixel's cell"
+-- pictures alike but for what is more than two cells from cell i of chroma row j: "Luma counts with its pixel's cell"; "Reconstructed samples don't depend on the range", so that it may differ too
 pub record AlikeNear (p q : Picture) (j i : ℕ) : Type 0 where
-  pub layout : p .layout ≡ q .layout
+  pub layout : SameButRange (p .layout) (q .layout)
   pub luma : (x y : ℕ) → x < p .layout .w → y < p .layout .h → Near (x / p .layout .rh) i → Near (y / p .layout .rv) j → p .luma y x ≡ q .luma y x
   pub chroma : (k : Chroma) (x y : ℕ) → x < p .layout .cw → y < p .layout .ch → Near x i → Near y j → p .chroma k y x ≡ q .chroma k y x
 

@@ -30,7 +30,7 @@ pictureWith l y c = pictureOf l (planesWith y c)
 unfoldable pub shortPair : Layout → Plane → Plane → Bool
 shortPair l y c = shortPlane l (l .w) (l .h) y || shortPlane l (l .cw) (l .ch) c
 
--- "refusals 2, 3, 4, 5, 7, 9, 10", and 16, "looked at right after 6"; `space` and `room` are how many values scratch and output hold
+-- "refusals 2, 3, 4, 5, 7, 9, 10", 18 "right after 4", and 16, "looked at right after 6"; `space` and `room` are how many values scratch and output hold
 unfoldable pub guidedTests : Layout → Plane → Plane → ℕ → ℕ → List Test
 guidedTests l y c space room = layoutTests false l ++ ((badSiting l, 16) ∷ (shortPair l y c, 7) ∷ (ltb space (scratchNeed l), 9) ∷ (ltb room (l .w * l .h), 10) ∷ [])
 

@@ -105,7 +105,7 @@ fn plane_rows(
     }
 }
 
-// One whole chroma plane, guided by luma: w by h values, rounded and limited to 0..=maxval, into out. Refusals 2, 3, 4, 5, 16, 7,
+// One whole chroma plane, guided by luma: w by h values, rounded and limited to 0..=maxval, into out. Refusals 2, 3, 4, 18, 5, 16, 7,
 // 9 and 10. Scratch afterwards is `guidedRows` of guided_rows' specs/CatchingUp.
 pub fn guided_plane(
     layout: Layout,

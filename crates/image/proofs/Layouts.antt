@@ -84,7 +84,7 @@ shaped whole fixed l f =
     let s = size-passed l (f .0) in
     let r = ratio-passed whole l (f .1 .0) in
     let b = samples-passed fixed l (f .1 .1 .0) in
-    let c = chroma-passed l (f .1 .1 .1 .0) in
+    let c = chroma-passed l (f .1 .1 .1 .1 .0) in
     let cw = c .0 in
     let ch = c .1 in
     let x = pair-most whole (l .across) (l .rh) (r .0) in
@@ -239,4 +239,4 @@ begins l o j i h k =
 -- the tests of a layout stand in the table's order
 pub layout-ascends : (whole fixed : Bool) (l : Layout) → Ascending 0 (testsFor whole fixed l)
 unfolding placeOf Ascending testsFor
-layout-ascends whole fixed l = (omega arith, (omega arith, (omega arith, (omega arith, tt))))
+layout-ascends whole fixed l = (omega arith, (omega arith, (omega arith, (omega arith, (omega arith, tt)))))

@@ -3,4 +3,5 @@ pub mod Layouts
 pub mod Pictures
 pub mod Planes
 pub mod Quotients
+pub mod Ranges
 pub mod Surplus

@@ -1,10 +1,13 @@
 -- The picture of document 01: "sizes, ratios, sample bytes, maxval and the samples inside its planes, without padding or surplus". Definitions only.
+use mathlib.Core.Path.{_≡_}
 use mathlib.Core.Bool.{Bool, _&&_, _||_, cond}
 use mathlib.Core.List.{List}
 use Prim.Native.Nat.{ℕ}
 use lib.Dec.{ltb}
 use lib.ListN.{length}
 use Rattle.image.specs.declared.layout.Layout.{Layout}
+use Rattle.image.specs.declared.layout.Range.{Range}
+use Rattle.image.specs.declared.layout.Range.the-variants.{Full}
 use Rattle.image.specs.declared.chroma.Chroma.{Chroma}
 use Rattle.image.specs.declared.chroma.Chroma.the-variants.{Cb, Cr}
 use Rattle.image.specs.Tests.{badPlane}
@@ -41,6 +44,17 @@ pictureOf l ps = record {
   luma = inside (l .w) (l .h) (sampleAt (l .«sample_bytes») (ps .y));
   chroma = λ k. inside (l .cw) (l .ch) (sampleAt (l .«sample_bytes») (chromaPlane ps k));
 }
+
+-- a layout with another range, and a picture with its samples as they are; "Reconstructed samples don't depend on the range" is said of these two
+unfoldable pub ranged : Range → Layout → Layout
+ranged range l = record { w = l .w; h = l .h; rh = l .rh; rv = l .rv; cw = l .cw; ch = l .ch; across = l .across; down = l .down; «sample_bytes» = l .«sample_bytes»; maxval = l .maxval; range = range }
+
+unfoldable pub pictureIn : Range → Picture → Picture
+pictureIn range p = record { layout = ranged range (p .layout); luma = p .luma; chroma = p .chroma }
+
+-- layouts that are equal but for the range
+unfoldable pub SameButRange : Layout → Layout → Type 0
+SameButRange l m = ranged Full l ≡ ranged Full m
 
 -- 7 for one plane of w columns and h rows
 unfoldable pub shortPlane : Layout → ℕ → ℕ → Plane → Bool

@@ -1,5 +1,5 @@
--- The tests behind refusals 2, 3, 4, 5, 16 and 7, in the order and words of document 01's table and of document 02's requests W2 (16) and W11 (ratios that
--- aren't whole). Definitions only.
+-- The tests behind refusals 2, 3, 4, 18, 5, 16 and 7, in the order and words of document 01's table and of document 02's requests W2 (16), W7 (18) and W11
+-- (ratios that aren't whole). Definitions only.
 use mathlib.Core.Bool.{Bool, true, false, _&&_, _||_, not, cond}
 use mathlib.Core.List.{List, [], _∷_}
 use Prim.Native.Nat.{ℕ, _+_, _-_, _*_, _/_}
@@ -10,6 +10,8 @@ use Rattle.laws.specs.declared.axes.Siting.{Siting}
 use Rattle.laws.specs.declared.axes.Siting.the-variants.{Centred, CoSited}
 use Rattle.laws.specs.declared.axes.Axis.{Axis}
 use Rattle.image.specs.declared.layout.Layout.{Layout}
+use Rattle.image.specs.declared.layout.Range.{Range}
+use Rattle.image.specs.declared.layout.Range.the-variants.{Full, Studio}
 
 -- 2: "width or height 0 or over 8,192"
 unfoldable pub badSize : Layout → Bool
@@ -31,6 +33,11 @@ mostOf bytes = cond (eqb bytes 1) 255 65535
 unfoldable pub badSamples : Bool → Layout → Bool
 badSamples fixed l = (outsideOf 1 2 (l .«sample_bytes») || outsideOf 1 (mostOf (l .«sample_bytes»)) (l .maxval)) || (fixed && not (eqb (l .maxval) 255))
 
+-- 18: "Studio range with another maxval or the fixed kernel"; `fixed` as in 4
+unfoldable pub badRange : Bool → Range → ℕ → Bool
+badRange fixed Full d = false
+badRange fixed Studio d = fixed || not (eqb d 255)
+
 -- "the rounded-up quotient" n / r
 unfoldable pub divCeil : ℕ → ℕ → ℕ
 divCeil n r = (n + (r - 1)) / r
@@ -39,9 +46,9 @@ divCeil n r = (n + (r - 1)) / r
 unfoldable pub badChroma : Layout → Bool
 badChroma l = not (eqb (l .cw) (divCeil (l .w * l .across .num) (l .rh))) || not (eqb (l .ch) (divCeil (l .h * l .down .num) (l .rv)))
 
--- the tests that open, the planes and fill begin with: `whole` for guided and triangular, which "stay with numerator 1", and not for linear
+-- the tests that open, the planes and fill begin with, 18 "right after 4": `whole` for guided and triangular, which "stay with numerator 1", and not for linear
 unfoldable pub testsFor : Bool → Bool → Layout → List Test
-testsFor whole fixed l = (badSize l, 2) ∷ (badRatio whole l, 3) ∷ (badSamples fixed l, 4) ∷ (badChroma l, 5) ∷ []
+testsFor whole fixed l = (badSize l, 2) ∷ (badRatio whole l, 3) ∷ (badSamples fixed l, 4) ∷ (badRange fixed (l .range) (l .maxval), 18) ∷ (badChroma l, 5) ∷ []
 
 -- those of guided and triangular
 abbrev pub layoutTests : Bool → Layout → List Test

@@ -1,9 +1,9 @@
-// Sizes, ratios, axes, sample bytes and maxval, and the tests on them. Each test but 5's answers for every number, so that any may be asked first.
+// Sizes, ratios, axes, sample bytes, maxval and range, and the tests on them. Each test but 5's answers for every number, so that any may be asked first.
 ghost use mathlib.Core.Path.{_≡_};
 ghost use mathlib.Core.Bool.{cond};
 ghost use Prim.Native.Nat.{_*_, _≤_};
 ghost use Rattle.laws.specs.Refusals.{first};
-ghost use Rattle.image.specs.Tests.{mostOf, divCeil, badSize, badPair, badRatio, badSamples, badChroma, coSited, badSiting, testsFor, layoutTests};
+ghost use Rattle.image.specs.Tests.{mostOf, divCeil, badSize, badPair, badRatio, badSamples, badRange, badChroma, coSited, badSiting, testsFor, layoutTests};
 use laws::Answer;
 use laws::Axis;
 use laws::Siting;
@@ -12,8 +12,14 @@ use laws::either;
 use laws::outside;
 use laws::then;
 
+// What samples span: 0 to maxval, or luma 16 to 235 and chroma 16 to 240, as ITU-R BT.601 has it.
+pub enum Range {
+    Full,
+    Studio,
+}
+
 // The numbers of a picture: w by h pixels, rh by rv of them to as many cells as the axes' numerators say, cw by ch cells, where a sample sits in
-// its cell across and down, and how it is stored.
+// its cell across and down, how it is stored and what it spans.
 pub struct Layout {
     pub w: usize,
     pub h: usize,
@@ -25,6 +31,7 @@ pub struct Layout {
     pub down: Axis,
     pub sample_bytes: usize,
     pub maxval: u32,
+    pub range: Range,
 }
 
 impl Layout {
@@ -80,6 +87,16 @@ fn cells_to(n: usize, axis: Axis, r: usize) -> usize
     div_ceil(n * axis.num, r)
 }
 
+// Inner: refusal 18's test, of a layout and of a pixel by itself. `fixed` says that the fixed kernel fills, which is for full range only.
+pub fn bad_range(range: Range, fixed: bool, maxval: u32) -> bool
+    ensures { λ r. ⌜ r ≡ badRange fixed range maxval ⌝ }
+{
+    match range {
+        Range::Full => false,
+        Range::Studio => either(fixed, maxval != 255),
+    }
+}
+
 // Whether an axis is sampled over the first output of each cell.
 fn co_sited(axis: Axis) -> bool
     ensures { λ r. ⌜ r ≡ coSited (axis .siting) ⌝ }
@@ -118,8 +135,8 @@ impl Layout {
         ensures { λ r. ⌜ r ≡ badSamples fixed self ⌝ }
     {
         let bytes = outside(1, 2, self.sample_bytes);
-        let range = outside(1, most(self.sample_bytes), self.maxval as usize);
-        either(either(bytes, range), both(fixed, self.maxval != 255))
+        let greatest = outside(1, most(self.sample_bytes), self.maxval as usize);
+        either(either(bytes, greatest), both(fixed, self.maxval != 255))
     }
 
     // Inner: refusal 5's test, whether the chroma size is other than the rounded-up quotient of size times numerator and ratio. It is asked once 2
@@ -141,7 +158,7 @@ impl Layout {
         either(co_sited(self.across), co_sited(self.down))
     }
 
-    // Inner: the lowest of refusals 2 to 5 that applies, with which open, the calls for planes and fill begin. `whole` says that the call takes
+    // Inner: the first of refusals 2, 3, 4, 18 and 5 that applies, with which open, the calls for planes and fill begin. `whole` says that the call takes
     // numerator 1 alone, `fixed` that the fixed kernel fills.
     pub fn answer_for(self, whole: bool, fixed: bool) -> Answer
         ensures { λ r. ⌜ r ≡ first (testsFor whole fixed self) ⌝ }
@@ -152,7 +169,9 @@ impl Layout {
         if self.bad_ratio(whole) {
             return Answer::Refused(3);
         }
+        let range = self.range;
         let answer = then(Answer::Accepted, self.bad_samples(fixed), 4);
+        let answer = then(answer, bad_range(range, fixed, self.maxval), 18);
         then(answer, self.bad_chroma(), 5)
     }
 

@@ -15,9 +15,9 @@ use Rattle.laws.specs.Floats.{f32, _⊕_, _⊗_, over, under}
 use Rattle.laws.specs.Inner.Floats.{Close, NearFraction}
 use Rattle.laws.proofs.Values.{whole-value, value-no-nan}
 use Rattle.laws.proofs.Operators.{add-up, add-down, sub-up, sub-down, mul-by}
-use Rattle.laws.proofs.Nearness.{mild-step}
 use Rattle.laws.proofs.Grids.{grid-bits}
 use Rattle.kernel_blocks.specs.Inner.Floating.{Centred}
+use Rattle.kernel_blocks.proofs.Wide.{ample-step}
 
 record Value (x : Float) (c : ℕ) : Type 0 where
   s : Bool
@@ -53,13 +53,13 @@ centred-value {x} {c} h = go (ltb c 32768) (ltb→lt c 32768) (nltb→le c 32768
           at = omega arith;
         }
 
--- times F / G, at most 2
-pub scaled : (k x : Float) (F G c : ℕ) → HasValue k false F G → 0 < G → F ≤ 2 * G → Centred x c → NearFraction (k ⊗ x) (F * c) (F * 32768) G 1
+-- times F / G, at most 3
+pub scaled : (k x : Float) (F G c : ℕ) → HasValue k false F G → 0 < G → F ≤ 3 * G → Centred x c → NearFraction (k ⊗ x) (F * c) (F * 32768) G 1
 scaled k x F G c v z l h =
     let w = centred-value h in
     let m : F * c ≤ F * 65536 = mul-le-mul-left F (h .most) in
     subst (λ (y : Float). NearFraction y (F * c) (F * 32768) G 1) (sym (mul-by binary32 k x (w .s) F G (w .M) 1 z (zero-lt-suc 0) v (w .is)))
-    (mild-step (F * c) (F * 32768) G 0 (record { some = z; top = omega arith; bottom = omega arith; few = omega arith }) (w .s) (F * w .M) (G * 1) (mul-pos z (zero-lt-suc 0)) (exact (w .s) (w .M) (w .at)))
+    (ample-step (F * c) (F * 32768) G 0 (record { some = z; top = omega arith; bottom = omega arith; few = omega arith }) (w .s) (F * w .M) (G * 1) (mul-pos z (zero-lt-suc 0)) (exact (w .s) (w .M) (w .at)))
   where
     exact : (s : Bool) (M : ℕ) → over s M + 32768 ≡ under s M + c → Close (over s (F * M)) (under s (F * M)) (G * 1) (F * c) (F * 32768) G 0
     exact false M e = omega (arith, ap (λ (y : ℕ). y * F * G) e)

@@ -5,9 +5,13 @@ pub mod FixedRows
 pub mod GreenQuotient
 pub mod Greens
 pub mod GridBits
+pub mod Levels
 pub mod Lumas
 pub mod Packed
 pub mod Puts
 pub mod RedAndBlue
+pub mod Shades
 pub mod Signed
 pub mod Stored
+pub mod StudioBlocks
+pub mod Wide

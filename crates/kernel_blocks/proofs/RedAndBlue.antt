@@ -75,7 +75,7 @@ right k tie m s bias c = judge (edge m s c) (bits k tie c) (wanted m s bias c)
 record Numbers (k tie : Float) (F G m t s bias steps : ℕ) : Type 0 where
   value : HasValue k false F G
   some : 0 < G
-  twice : F ≤ 2 * G
+  thrice : F ≤ 3 * G
   tie-near : NearFraction tie t 0 128000 0
   close : (c : ℕ) → c ≤ 65536 → Close (F * c) (F * 32768) G (128 * (m * c)) (128 * (m * 32768)) 128000 1
   low : t ≤ 375
@@ -96,7 +96,7 @@ module _ {k tie : Float} {F G m t s bias steps : ℕ} (n : Numbers k tie F G m t
       let o = most in
       add-near (k ⊗ x) tie (128 * (m * c)) (128 * (m * 32768)) t 0 128000 2 0 3
       (mild-step (128 * (m * c) + t) (128 * (m * 32768) + 0) 128000 2 (record { some = lit< tt; top = omega arith; bottom = omega arith; few = omega arith }))
-      (near-chain (k ⊗ x) (F * c) (F * 32768) G (128 * (m * c)) (128 * (m * 32768)) 128000 1 1 (n .some) (scaled k x F G c (n .value) (n .some) (n .twice) h) (n .close c (h .most)))
+      (near-chain (k ⊗ x) (F * c) (F * 32768) G (128 * (m * c)) (128 * (m * 32768)) 128000 1 1 (n .some) (scaled k x F G c (n .value) (n .some) (n .thrice) h) (n .close c (h .most)))
       (n .tie-near)
 
   chroma-offset-bits : Bits (middle ⊕ (k ⊗ x ⊕ tie)) (128 * (m * c) + t) (128 * (m * 32768) + 0) 128000 3
@@ -146,7 +146,7 @@ red-numbers =
     record {
       value = (refl, refl);
       some = lit< tt;
-      twice = omega arith;
+      thrice = omega arith;
       tie-near = value-near noTie true 0 128000 (refl, refl);
       close = λ c l. omega arith;
       low = omega arith;
@@ -163,7 +163,7 @@ blue-numbers =
     record {
       value = (refl, refl);
       some = lit< tt;
-      twice = omega arith;
+      thrice = omega arith;
       tie-near = value-near blueTie false 375 128000 (refl, refl);
       close = λ c l. omega arith;
       low = omega arith;

@@ -1,4 +1,5 @@
 pub mod Blocks
 pub mod Floating
+pub mod Studio
 pub mod Words
 pub mod Stores

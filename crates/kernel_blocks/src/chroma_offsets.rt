@@ -49,10 +49,10 @@ pub fn green_doubt(cb: f32, cr: f32) -> u32
     green_near(cb, cr, Grid::MARGIN) ^ green_near(cb, cr, -Grid::MARGIN)
 }
 
-// Chroma in 256ths, back as a whole number. With 2^23 and the centre added its bits count from those of 2^23.
+// Inner: chroma in 256ths, back as a whole number. With 2^23 and the centre added its bits count from those of 2^23.
 //
 // 8,421,376 is 2^23 + 32,768, with fround's `Rounding::GRID` as 2^23, and 1,258,291,200 is 150 * 2^23, the bits of 2^23.
-fn in_256ths(x: f32) -> u32
+pub fn in_256ths(x: f32) -> u32
     requires { ⌜ Chroma x ⌝ }
     ensures { λ r. ⌜ (r ≤ 65536) × ((c : ℕ) → Centred x c → r ≡ c) ⌝ }
 {

@@ -27,8 +27,8 @@ impl Multipliers {
     const BLUE_TIE: f32 = 0.002_929_687_5;
 }
 
-// Luma less the grid's bits, which an offset carries: their sum is then luma and the offset.
-fn lower(y: u32) -> i32
+// Inner: luma less the grid's bits, which an offset carries: their sum is then luma and the offset.
+pub fn lower(y: u32) -> i32
     requires { ⌜ y ≤ 65535 ⌝ }
     ensures { λ r. ⌜ Lowered r y ⌝ }
 {

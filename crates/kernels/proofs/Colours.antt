@@ -10,11 +10,12 @@ use borrow.Author.Tests.{ltb-false}
 use Rattle.laws.specs.declared.answers.Answer.the-variants.{Accepted}
 use Rattle.laws.specs.Refusals.{first}
 use Rattle.laws.proofs.Refusals.{accepted-failed}
+use Rattle.image.specs.declared.layout.Range.{Range}
 use Rattle.laws.specs.Numbers.{outsideOf}
 use Rattle.image.proofs.Layouts.{neither, within}
 use Rattle.kernels.specs.Kernels.{redOffset, blueOffset, exact255, exactAt, fixedRed, fixedBlue, fixed255}
 use Rattle.kernels.specs.Inner.Kernels.{rgb}
-use Rattle.kernels.specs.Pixels.{exactTests, fixedTests}
+use Rattle.kernels.specs.Pixels.{badExact, exactTests, fixedTests}
 use Rattle.kernels.specs.Inner.Forms.{Suits, chromaOffset, plusChroma, chromaAt, fixedOffset, plusFixed}
 use Rattle.kernels.proofs.Channels.{centred-limited, red-suits, blue-suits, plus-chroma, green-255, chroma-at, green-at}
 
@@ -36,10 +37,10 @@ module _ (y cb cr : ℕ) {r g b : ℕ} where
 
 -- ---- refusal 13
 
-pub exact-passed : (d y cb cr : ℕ) → first (exactTests d y cb cr) ≡ Accepted → (y ≤ 65535) × (cb ≤ 16776960) × (cr ≤ 16776960) × (1 ≤ d) × (d ≤ 65535)
-unfolding exactTests
-exact-passed d y cb cr e =
-    let n = accepted-failed (exactTests d y cb cr) e .0 in
+pub exact-passed : (range : Range) (d y cb cr : ℕ) → first (exactTests range d y cb cr) ≡ Accepted → (y ≤ 65535) × (cb ≤ 16776960) × (cr ≤ 16776960) × (1 ≤ d) × (d ≤ 65535)
+unfolding exactTests badExact
+exact-passed range d y cb cr e =
+    let n = accepted-failed (exactTests range d y cb cr) e .1 .0 in
     let p = neither (ltb 65535 y) (ltb 16776960 cb || (ltb 16776960 cr || outsideOf 1 65535 d)) n in
     let q = neither (ltb 16776960 cb) (ltb 16776960 cr || outsideOf 1 65535 d) (p .1) in
     let r = neither (ltb 16776960 cr) (outsideOf 1 65535 d) (q .1) in

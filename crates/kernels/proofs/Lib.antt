@@ -4,5 +4,6 @@ pub mod Channels
 pub mod Colours
 pub mod FixedPoint
 pub mod Lowest
+pub mod Studios
 pub mod T871
 pub mod TableRules

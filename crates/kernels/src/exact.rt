@@ -10,16 +10,16 @@ use crate::offsets::Bias;
 use crate::offsets::raised;
 
 // What red and blue multiply chroma by, in thousandths.
-struct Multiplier;
+pub struct Multiplier;
 
 impl Multiplier {
-    const RED: u32 = 1_402;
+    pub const RED: u32 = 1_402;
 
-    const BLUE: u32 = 1_772;
+    pub const BLUE: u32 = 1_772;
 }
 
-// Chroma in 256ths limited to 65,536, so that it lies within 32,768 of its centre.
-fn limit_chroma(c: u32) -> u32
+// Inner: chroma in 256ths limited to 65,536, so that it lies within 32,768 of its centre.
+pub fn limit_chroma(c: u32) -> u32
     ensures { λ r. ⌜ r ≡ min c 65536 ⌝ }
 {
     if c <= 65_536 { c } else { 65_536 }

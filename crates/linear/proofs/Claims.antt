@@ -1,6 +1,6 @@
--- What is claimed of linear floats: within a sixteenth of the exact value at every layout that no call refuses, equal to it at denominators 1, 2 and 4, and between its
--- cells.
-use mathlib.Core.Path.{_≡_}
+-- What is claimed of linear floats: within a sixteenth of the exact value at every layout that no call refuses, equal to it at denominators 1, 2 and 4, between its
+-- cells, and the same in either range.
+use mathlib.Core.Path.{_≡_, refl}
 use mathlib.Core.Bool.{false}
 use Prim.Native.Nat.{ℕ, _≤_, _<_}
 use native.Mathlib.Nat.{mul-pos}
@@ -11,6 +11,7 @@ use Rattle.laws.proofs.Refusals.{accepted-failed}
 use Rattle.laws.proofs.Nearness.{near-is}
 use Rattle.image.specs.declared.layout.Layout.{Layout}
 use Rattle.image.specs.Tests.{testsFor}
+use Rattle.image.specs.Picture.{ranged}
 use Rattle.image.specs.Inner.Tests.{Shaped}
 use Rattle.image.proofs.Layouts.{shaped}
 use Rattle.taps.specs.Taps.{tapBy}
@@ -44,7 +45,7 @@ module _ (l : Layout) (a : first (testsFor false false l) ≡ Accepted) (c : ℕ
   den-some = mul-pos (placed-some (l .down .siting) (l .down .num) (l .rv) (l .ch) y (o .rv-some)) (placed-some (l .across .siting) (l .across .num) (l .rh) (l .cw) x (o .rh-some))
 
 pub claims : LinearClaims
-unfolding linearSample linearDown tapBy
+unfolding linearSample linearDown tapBy ranged
 claims =
     record {
       within = λ l a c b y x Y X. sixteenth (linearSample l c y x) (exactNum c (rowPosition l y) (columnPosition l x)) (exactDen (rowPosition l y) (columnPosition l x)) (within-16 l a c b y x Y X);
@@ -54,4 +55,5 @@ claims =
           let den = exactDen (rowPosition l y) (columnPosition l x) in
           rounded-exact (linearSample l c y x) num den (l .maxval) (den-some l a c b y x Y X) (near-is (linearSample l c y x) num 0 den (within-0 l a c b y x Y X v h));
       spanned = λ l c h v y x lo hi t s. bilinear-between c (rowSpot l y) (columnSpot l x) (spot-valid (l .down .siting) (l .down .num) (l .rv) (l .ch) y v) (spot-valid (l .across .siting) (l .across .num) (l .rh) (l .cw) x h) lo hi t s;
+      range-free = λ range l c y x. refl;
     }

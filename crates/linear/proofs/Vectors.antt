@@ -9,6 +9,7 @@ use lib.Ieee.{binary32, add, sub, sum, neg, mul, div, round, size, span, climb, 
 use lib.Count.{trailingZeros}
 use Rattle.laws.specs.Lists.{table}
 use Rattle.fround.specs.Rounding.{roundClamped}
+use Rattle.image.specs.declared.layout.Range.the-variants.{Full}
 use Rattle.image.specs.declared.layout.Layout.{Layout}
 use Rattle.image.specs.Samples.{Plane, sampleOf, sampleAt}
 use Rattle.laws.specs.Axes.{plain}
@@ -19,7 +20,7 @@ use Rattle.linear.specs.Linear.{linearDown, linearSample}
 
 -- 7 by 5 pixels, 3 by 2 cells
 abbrev layoutV : Layout
-layoutV = record { w = 7; h = 5; rh = 3; rv = 3; cw = 3; ch = 2; across = plain; down = plain; «sample_bytes» = 2; maxval = 65535 }
+layoutV = record { w = 7; h = 5; rh = 3; rv = 3; cw = 3; ch = 2; across = plain; down = plain; «sample_bytes» = 2; maxval = 65535; range = Full }
 
 -- 32,105, 54,193 and 539; below them 59,496, 52,242 and 19,688
 abbrev planeV : Plane
@@ -34,7 +35,7 @@ vector-3 = refl
 -- the row of w samples over one row of cells, num of them to r outputs across by the siting
 abbrev rowOf : Siting → ℕ → ℕ → List ℕ → ℕ → List ℕ
 rowOf siting num r cells w =
-    table w (λ x. roundClamped 255 (linearSample (record { w = w; h = 1; rh = r; rv = 1; cw = length cells; ch = 1; across = record { siting = siting; num = num }; down = plain; «sample_bytes» = 1; maxval = 255 }) (λ j i. getD cells i 0) 0 x))
+    table w (λ x. roundClamped 255 (linearSample (record { w = w; h = 1; rh = r; rv = 1; cw = length cells; ch = 1; across = record { siting = siting; num = num }; down = plain; «sample_bytes» = 1; maxval = 255; range = Full }) (λ j i. getD cells i 0) 0 x))
 
 -- co-sited over the two cells 0 and 100
 pub record CoSitedRows : Type 0 where

@@ -13,7 +13,9 @@ use Rattle.laws.specs.Floats.{f32, over, under}
 use Rattle.laws.specs.Refusals.{first}
 use Rattle.laws.specs.Rounding.{halfUp}
 use Rattle.image.specs.declared.layout.Layout.{Layout}
+use Rattle.image.specs.declared.layout.Range.{Range}
 use Rattle.image.specs.Tests.{testsFor}
+use Rattle.image.specs.Picture.{ranged}
 use Rattle.fround.specs.Rounding.{roundClamped}
 use Rattle.taps.specs.Taps.{Spot, spotOf}
 use Rattle.linear.specs.Linear.{linearSample}
@@ -111,3 +113,5 @@ pub record LinearClaims : Type 0 where
   -- the float lies between any two whole numbers that its four cells lie between, denominators 1 to 4
   pub spanned : (l : Layout) (c : ℕ → ℕ → ℕ) → (0 < l .rh) × (l .rh ≤ 4) → (0 < l .rv) × (l .rv ≤ 4) → (y x lo hi : ℕ) → hi ≤ 65535
       → Spanned c (rowSpot l y) (columnSpot l x) lo hi → T (le (f32 lo) (linearSample l c y x)) × T (le (linearSample l c y x) (f32 hi))
+  -- "Reconstructed samples don't depend on the range"
+  pub range-free : (range : Range) (l : Layout) (c : ℕ → ℕ → ℕ) (y x : ℕ) → linearSample (ranged range l) c y x ≡ linearSample l c y x

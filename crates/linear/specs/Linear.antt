@@ -36,7 +36,7 @@ acrossBy t g = lerpOf (g (t .i0)) (g (t .i1)) (t .f)
 unfoldable pub linearSample : Layout → (ℕ → ℕ → ℕ) → ℕ → ℕ → Float
 linearSample l c y x = acrossBy (tapBy (l .across) (l .rh) (l .cw) x) (linearDown l c y)
 
--- "refusals 2, 3, 4, 5, 7, 9, 10", ratios that aren't whole among those taken; `space` and `room` are how many values scratch and output hold
+-- "refusals 2, 3, 4, 5, 7, 9, 10", 18 "right after 4", ratios that aren't whole among those taken; `space` and `room` are how many values scratch and output hold
 unfoldable pub linearTests : Layout → Plane → ℕ → ℕ → List Test
 linearTests l p space room = testsFor false false l ++ ((shortPlane l (l .cw) (l .ch) p, 7) ∷ (ltb space (scratchNeed l), 9) ∷ (ltb room (l .w * l .h), 10) ∷ [])
 

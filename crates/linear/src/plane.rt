@@ -68,7 +68,7 @@ fn linear_rows(layout: Layout, plane: &[u8], stride: usize, s: &mut [f32], out: 
     }
 }
 
-// One whole chroma plane by linear interpolation: w by h values, rounded and limited to 0..=maxval, into out. It answers refusals 2, 3, 4,
+// One whole chroma plane by linear interpolation: w by h values, rounded and limited to 0..=maxval, into out. It answers refusals 2, 3, 4, 18,
 // 5, 7, 9 and 10. What scratch holds after an accepted call is `linearScratch` of specs/Linear.
 pub fn linear_plane(
     layout: Layout,

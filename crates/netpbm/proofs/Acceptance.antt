@@ -16,7 +16,7 @@ use Rattle.laws.specs.Refusals.{first}
 use Rattle.laws.specs.Numbers.{outsideOf}
 use Rattle.laws.proofs.Refusals.{Failed, accepted-failed, failed-accepted, failed-both}
 use Rattle.image.specs.declared.layout.Layout.{Layout}
-use Rattle.image.specs.Tests.{divCeil, badSize, badRatio, mostOf, badSamples, badChroma, badSiting, layoutTests, testsFor}
+use Rattle.image.specs.Tests.{divCeil, badSize, badRatio, mostOf, badSamples, badRange, badChroma, badSiting, layoutTests, testsFor}
 use Rattle.image.proofs.Layouts.{neither}
 use Rattle.netpbm.specs.declared.reading.Reading.the-variants.{Read}
 use Rattle.netpbm.specs.Bytes.{bigOf}
@@ -60,7 +60,7 @@ module _ (s : List ℕ) (a : first (readingTests s) ≡ Accepted) where
   unfolding inputLayout
   down = ratio-fits (heightOf s 0) (heightOf s (cbAt s)) (heightOf s (crAt s)) (ratios .1)
 
-  -- refusals 3, 4 and 5 don't apply to the layout
+  -- refusals 3, 4, 18 and 5 don't apply to the layout
   ratio-passed : badRatio true (inputLayout s) ≡ false
   unfolding badRatio inputLayout
   ratio-passed =
@@ -83,6 +83,10 @@ module _ (s : List ℕ) (a : first (readingTests s) ≡ Accepted) where
       go true f = rw (le-ltb m 1 (three .0 .maxval-some), le-ltb 65535 m (three .0 .maxval-most)) refl
       go false f = rw (le-ltb m 1 (three .0 .maxval-some), le-ltb 255 m (f refl)) refl
 
+  range-passed : badRange false (inputLayout s .range) (inputLayout s .maxval) ≡ false
+  unfolding badRange inputLayout
+  range-passed = refl
+
   chroma-passed : badChroma (inputLayout s) ≡ false
   unfolding badChroma inputLayout
   chroma-passed =
@@ -92,7 +96,7 @@ module _ (s : List ℕ) (a : first (readingTests s) ≡ Accepted) where
 
   passed : first (layoutTests false (inputLayout s)) ≡ Accepted
   unfolding testsFor
-  passed = failed-accepted (layoutTests false (inputLayout s)) (size-passed, (ratio-passed, (samples-passed, (chroma-passed, tt))))
+  passed = failed-accepted (layoutTests false (inputLayout s)) (size-passed, (ratio-passed, (samples-passed, (range-passed, (chroma-passed, tt)))))
 
   width-is : inputLayout s .w ≤ 128
   unfolding inputLayout

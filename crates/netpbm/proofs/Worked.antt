@@ -5,6 +5,7 @@ use mathlib.Core.Logic.{inl, inr}
 use mathlib.Core.List.{List, [], _∷_, _++_}
 use Prim.Native.Nat.{ℕ}
 use native.Mathlib.Omega.{arith}
+use Rattle.image.specs.declared.layout.Range.the-variants.{Full}
 use Rattle.laws.specs.Axes.{plain}
 use Rattle.laws.specs.Refusals.{first}
 use Rattle.image.specs.Tests.{divCeil, badSize}
@@ -31,7 +32,7 @@ deepInput = deepHeader ++ (8 ∷ 0 ∷ deepHeader) ++ (8 ∷ 0 ∷ deepHeader) +
 -- what the whole input comes to
 pub record Inputs : Type 0 where
   -- "three 1 by 1 images holding 230, 3, 128"
-  pub one-by-one : readingOf (header ++ (230 ∷ header) ++ (3 ∷ header) ++ (128 ∷ [])) ≡ Read (record { w = 1; h = 1; rh = 1; rv = 1; cw = 1; ch = 1; across = plain; down = plain; «sample_bytes» = 1; maxval = 255 }) 11 23 35
+  pub one-by-one : readingOf (header ++ (230 ∷ header) ++ (3 ∷ header) ++ (128 ∷ [])) ≡ Read (record { w = 1; h = 1; rh = 1; rv = 1; cw = 1; ch = 1; across = plain; down = plain; «sample_bytes» = 1; maxval = 255; range = Full }) 11 23 35
   -- a byte left over
   pub one-more : readingOf (header ++ (230 ∷ header) ++ (3 ∷ header) ++ (128 ∷ 10 ∷ [])) ≡ Refused 14
   -- two whitespace bytes behind the maxval: the second is the row, and no magic stands behind it
@@ -45,7 +46,7 @@ pub record Inputs : Type 0 where
   -- a width of 128 goes on, and the height is missing
   pub width-128 : readingOf (80 ∷ 53 ∷ 32 ∷ 49 ∷ 50 ∷ 56 ∷ []) ≡ Refused 14
   -- `P5#c`, newline, `1 1 255`, newline, in the second image: a comment in the place of whitespace
-  pub comment : readingOf (header ++ (230 ∷ 80 ∷ 53 ∷ 35 ∷ 99 ∷ 10 ∷ 49 ∷ 32 ∷ 49 ∷ 32 ∷ 50 ∷ 53 ∷ 53 ∷ 10 ∷ 3 ∷ header) ++ (128 ∷ [])) ≡ Read (record { w = 1; h = 1; rh = 1; rv = 1; cw = 1; ch = 1; across = plain; down = plain; «sample_bytes» = 1; maxval = 255 }) 11 25 37
+  pub comment : readingOf (header ++ (230 ∷ 80 ∷ 53 ∷ 35 ∷ 99 ∷ 10 ∷ 49 ∷ 32 ∷ 49 ∷ 32 ∷ 50 ∷ 53 ∷ 53 ∷ 10 ∷ 3 ∷ header) ++ (128 ∷ [])) ≡ Read (record { w = 1; h = 1; rh = 1; rv = 1; cw = 1; ch = 1; across = plain; down = plain; «sample_bytes» = 1; maxval = 255; range = Full }) 11 25 37
   -- `P5 1 1 255#`, CR, and the row: "the byte just after the maxval is still single"
   pub comment-behind : readingOf ((80 ∷ 53 ∷ 32 ∷ 49 ∷ 32 ∷ 49 ∷ 32 ∷ 50 ∷ 53 ∷ 53 ∷ 35 ∷ 13 ∷ 230 ∷ header) ++ (3 ∷ header) ++ (128 ∷ [])) ≡ Refused 14
   -- `P5 #1 1 255`: "a comment that never ends is a bad header"
@@ -53,7 +54,7 @@ pub record Inputs : Type 0 where
   -- `P5 129#`: the width is met before the comment
   pub wide-before : readingOf (80 ∷ 53 ∷ 32 ∷ 49 ∷ 50 ∷ 57 ∷ 35 ∷ []) ≡ Refused 15
   -- a maxval of 4,095 in all three: two bytes a sample
-  pub deep : readingOf deepInput ≡ Read (record { w = 1; h = 1; rh = 1; rv = 1; cw = 1; ch = 1; across = plain; down = plain; «sample_bytes» = 2; maxval = 4095 }) 12 26 40
+  pub deep : readingOf deepInput ≡ Read (record { w = 1; h = 1; rh = 1; rv = 1; cw = 1; ch = 1; across = plain; down = plain; «sample_bytes» = 2; maxval = 4095; range = Full }) 12 26 40
   -- "the high byte first": 8 and 0 are 2,048
   pub deep-sample : imageSample deepInput 0 0 0 ≡ 2048
   -- the second byte of the last sample is missing

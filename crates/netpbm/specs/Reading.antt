@@ -7,6 +7,7 @@ use lib.ListN.{length}
 use Rattle.laws.specs.Axes.{plain}
 use Rattle.laws.specs.Refusals.{Test}
 use Rattle.image.specs.declared.layout.Layout.{Layout}
+use Rattle.image.specs.declared.layout.Range.the-variants.{Full}
 use Rattle.image.specs.Tests.{divCeil, badSize}
 use Rattle.netpbm.specs.Images.{widthOf, heightOf, maxvalOf, sampleBytes, imageEnd, imageTests}
 
@@ -32,7 +33,7 @@ smallest p r (suc k) = cond (p r) r (smallest p (suc r) k)
 unfoldable pub ratioFor : ℕ → ℕ → ℕ → ℕ
 ratioFor n a b = smallest (fitsBoth n a b) 1 4
 
--- the layout that the input's three images make: centred, as the program's guided fill takes it. The maxval is "the same in all three", so that it is the first's
+-- the layout that the input's three images make: centred and of full range, as the program's guided fill takes it. The maxval is "the same in all three", so that it is the first's
 unfoldable pub inputLayout : List ℕ → Layout
 inputLayout s = record {
   w = widthOf s 0;
@@ -45,6 +46,7 @@ inputLayout s = record {
   down = plain;
   «sample_bytes» = sampleBytes (maxvalOf s 0);
   maxval = maxvalOf s 0;
+  range = Full;
 }
 
 -- "where none fits both chroma images"; a chroma side of 0 fits none, since a Y image with a side of 0 was answered by 2 before

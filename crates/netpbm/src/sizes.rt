@@ -6,6 +6,7 @@ ghost use Rattle.netpbm.specs.Inner.HeldInput.{layoutHeld};
 use crate::pgm::Image;
 use crate::pgm::sample_bytes;
 use image::Layout;
+use image::Range;
 use laws::Axis;
 
 // Whether ratio r fits both chroma images along a side of n pixels: each has as many cells, a and b, as n pixels make at that ratio.
@@ -49,6 +50,7 @@ pub fn layout_of(y: Image, cb: Image, cr: Image) -> Layout
         down: Axis::PLAIN,
         sample_bytes: sample_bytes(y.maxval),
         maxval: y.maxval as u32,
+        range: Range::Full,
     }
 }
 

@@ -39,7 +39,7 @@ fn open_answer(
     laws::then(answer, image::short_scratch(layout, s.len()), 9)
 }
 
-// Opens a picture: its reader is at row 0, and nothing of an earlier picture is left in it. Refusals 2, 3, 4, 5, 16, 7 and 9.
+// Opens a picture: its reader is at row 0, and nothing of an earlier picture is left in it. Refusals 2, 3, 4, 18, 5, 16, 7 and 9.
 // `s` is the scratch that the row calls will be lent. `reader` comes back where the picture is refused.
 pub fn open(
     layout: Layout,

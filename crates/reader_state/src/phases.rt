@@ -13,6 +13,7 @@ pub fn geometry_of(layout: Layout) -> Geometry
     ensures { λ g. ⌜ g ≡ geometryOf layout ⌝ }
 {
     let phases = taps::phases_of(layout.rh);
+    let range = layout.range;
     Geometry {
         w: layout.w,
         h: layout.h,
@@ -21,6 +22,7 @@ pub fn geometry_of(layout: Layout) -> Geometry
         cw: layout.cw,
         ch: layout.ch,
         phases,
+        range,
     }
 }
 

@@ -16,6 +16,7 @@ pub fn reader_layout(reader: Reader) -> Layout
     ensures { λ l. ⌜ l ≡ readerLayout reader ⌝ }
 {
     let g = reader.geometry;
+    let range = g.range;
     Layout {
         w: g.w,
         h: g.h,
@@ -27,6 +28,7 @@ pub fn reader_layout(reader: Reader) -> Layout
         down: Axis::PLAIN,
         sample_bytes: reader.sample_bytes,
         maxval: reader.maxval,
+        range,
     }
 }
 

@@ -2,6 +2,8 @@
 
 -- "The fill first rounds chroma to a whole number in 0..255", or to 256ths
 pub use Rattle.colour_rows.specs.Colours.{colourBy}
+-- W7: in studio range
+pub use Rattle.colour_rows.specs.Colours.{studioBy, colourIn}
 -- "A pixel has 3 or 4 bytes. The fourth keeps what it held."
 pub use Rattle.kernel_blocks.specs.Stores.{pixels}
 -- each pixel's colour, and the promise

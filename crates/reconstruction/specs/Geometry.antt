@@ -3,6 +3,8 @@
 -- the picture: "sizes, ratios, sample bytes, maxval and the samples inside its planes, without padding or surplus"
 pub use Rattle.image.specs.Samples.{Plane, planeOf, sampleOf, sampleAt}
 pub use Rattle.image.specs.Picture.{Picture, Planes, planesOf, chromaPlane, pictureOf}
+-- W7: "Reconstructed samples don't depend on the range"
+pub use Rattle.image.specs.Picture.{ranged, pictureIn, SameButRange}
 -- part of a picture, for the calls of crates above
 pub use Rattle.image.specs.declared.rectangle.Rectangle.{Rectangle}
 -- "A tap is two indices and a fraction."

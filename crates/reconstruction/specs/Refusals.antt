@@ -3,10 +3,10 @@
 -- "The lowest number that applies is given, and only then"
 pub use Rattle.laws.specs.Refusals.{Test, accepted, first, placeOf, Ascending, Applies, Lowest}
 -- the rows of the table, and the lists of the calls
-pub use Rattle.image.specs.Tests.{badSize, badPair, badRatio, badSamples, badChroma, badSiting, badPlane, testsFor, layoutTests}
+pub use Rattle.image.specs.Tests.{badSize, badPair, badRatio, badSamples, badRange, badChroma, badSiting, badPlane, testsFor, layoutTests}
 pub use Rattle.guided.specs.Calls.{badState, openTests, seekTests, rowTests}
 pub use Rattle.linear.specs.Linear.{linearTests}
 pub use Rattle.guided_plane.specs.Plane.{guidedTests}
 pub use Rattle.upsample.specs.Triangular.{badTriangular, triangularTests}
 pub use Rattle.fill.specs.Tests.{fillTests}
-pub use Rattle.kernels.specs.Pixels.{exactTests, fixedTests}
+pub use Rattle.kernels.specs.Pixels.{badExact, exactTests, fixedTests}

@@ -7,6 +7,7 @@ pub use guided::Reader;
 pub use guided::Reply;
 pub use guided_plane::guided_plane;
 pub use image::Layout;
+pub use image::Range;
 pub use image::Rectangle;
 pub use image::Strides;
 pub use kernels::Pixel;

@@ -9,6 +9,7 @@ use Rattle.laws.specs.Axes.{plain}
 use Rattle.laws.specs.Floats.{f32}
 use Rattle.laws.specs.Lists.{table}
 use Rattle.image.specs.declared.layout.Layout.{Layout}
+use Rattle.image.specs.declared.layout.Range.the-variants.{Full}
 use Rattle.fround.specs.Rounding.{roundClamped}
 use Rattle.upsample.specs.Triangular.{triangularSample}
 use Rattle.taps.specs.declared.phases.Phase.{Phase}
@@ -44,7 +45,7 @@ Holds (Phases r ps) = phasesOf r ≡ ps
 
 -- a layout of one-byte samples, centred
 abbrev sizes : ℕ → ℕ → ℕ → ℕ → ℕ → ℕ → Layout
-sizes w h rh rv cw ch = record { w = w; h = h; rh = rh; rv = rv; cw = cw; ch = ch; across = plain; down = plain; «sample_bytes» = 1; maxval = 255 }
+sizes w h rh rv cw ch = record { w = w; h = h; rh = rh; rv = rv; cw = cw; ch = ch; across = plain; down = plain; «sample_bytes» = 1; maxval = 255; range = Full }
 
 abbrev rgb : ℕ → ℕ → ℕ → Colour
 rgb r g b = record { red = r; green = g; blue = b }

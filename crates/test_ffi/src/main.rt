@@ -7,7 +7,7 @@
 // 0 upsampling(2) kernel(2) room size
 // 0 0 0 0 0 room 0.
 // The plane of l, g and t is Cb's, and a picture's input is Y's bytes. A pixel, e by the exact kernel and x by the fixed one, has
-// y(2) cb(2) cr(2) maxval(2), twenty of 0.
+// y(2) cb(2) cr(2) maxval(2) range(2), eighteen of 0.
 // A line of kind b is no call: it spells the bytes that planes of shape 3 have in the calls behind it.
 ghost use Prim.Native.Nat.{_<_};
 use ffi::ChromaLayout;
@@ -61,6 +61,7 @@ fn layout(text: &[u8]) -> ChromaLayout {
         siting_down: test_support::siting(text, 3),
         num_across: test_support::numerator(text, 2),
         num_down: test_support::numerator(text, 3),
+        range: test_support::range(text),
     }
 }
 
@@ -86,8 +87,8 @@ fn phase_number(p: ChromaPhase) -> usize {
     p.left as usize * 4_294_967_296 + test_support::bits(p.f) as usize
 }
 
-// A state as sixteen numbers, of which a line can name one to change by its index: place, h_next, f_next, maxval, sample_bytes,
-// w h rh rv cw ch and the four phases. The first is 0, since a line says by index 0 that nothing is changed.
+// A state as sixteen numbers, of which a line can name one to change by its index: place, h_next, f_next, maxval and above its 32 bits
+// the range, sample_bytes, w h rh rv cw ch and the four phases. The first is 0, since a line says by index 0 that nothing is changed.
 fn numbers(r: ChromaReader) -> [usize; 16] {
     let p = r.phases;
     [
@@ -95,7 +96,7 @@ fn numbers(r: ChromaReader) -> [usize; 16] {
         r.place,
         r.h_next,
         r.f_next,
-        r.maxval as usize,
+        r.range as usize * 4_294_967_296 + r.maxval as usize,
         r.sample_bytes,
         r.w,
         r.h,
@@ -131,6 +132,7 @@ fn reader_of(n: [usize; 16]) -> ChromaReader {
         phases,
         sample_bytes: n[5],
         maxval: test_support::low(n[4]),
+        range: test_support::low(n[4] / 4_294_967_296),
         place: n[1],
         h_next: n[2],
         f_next: n[3],
@@ -291,7 +293,7 @@ fn pixel(text: &[u8]) -> Left {
     let cb = number(text, 2);
     let cr = number(text, 4);
     if test_support::kind(text) == b'e' {
-        return coloured(ffi::chroma_exact_pixel(y, cb, cr, number(text, 6)));
+        return coloured(ffi::chroma_exact_pixel(y, cb, cr, number(text, 6), number(text, 8)));
     }
     coloured(ffi::chroma_fixed_pixel(y, cb, cr))
 }

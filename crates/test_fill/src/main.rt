@@ -2,8 +2,9 @@
 // oracle/fill-cases made the list and what must be written for it: a line of 122 bytes for each call, a kind and 24 words of four hex
 // digits. A fill's:
 // w h rh rv cw ch sample_bytes maxval(2) y_stride cb_stride cr_stride y_len cb_len cr_len seed y_shape cb_shape cr_shape
-// kernel size space(2) room. A pixel's: y(2) cb(2) cr(2) maxval(2), sixteen of 0. A line that is no call spells the bytes that planes of
-// shape 3 have in the calls behind it. Where a fill's kind is a capital, the words rh and rv have the axis' siting as their first digit, and its numerator less 1 as their second.
+// kernel size space(2) room. A pixel's: y(2) cb(2) cr(2) maxval(2) range, fifteen of 0. A line that is no call spells the bytes that planes of
+// shape 3 have in the calls behind it. Where a fill's kind is a capital, the words rh and rv have the axis' siting as their first digit, and its numerator less 1 as their
+// second, and the word sample_bytes has the range as its first digit.
 ghost use Prim.Native.Nat.{_<_};
 use fill::ChromaUpsampling;
 use kernels::Pixel;
@@ -46,6 +47,7 @@ fn exact(text: &[u8]) {
         number(text, 2),
         number(text, 4),
         number(text, 6),
+        test_support::range_of(test_support::word(text, 8) as u32),
     ));
 }
 

@@ -3,7 +3,7 @@
 // four hex digits:
 // w h rh rv cw ch sample_bytes maxval(2) stride plane_len space(2) room seed.
 // The plane of a line is chroma; in a guided call of kind `y` it is luma. Where the kind is a capital, the words rh and rv have the axis'
-// siting as their first digit, and its numerator less 1 as their second.
+// siting as their first digit, and its numerator less 1 as their second, and the word sample_bytes has the range as its first digit.
 use laws::Answer;
 use libc::STDIN_FILENO;
 

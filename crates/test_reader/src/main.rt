@@ -5,9 +5,11 @@
 // w h rh rv cw ch sample_bytes maxval(2) y_stride cb_stride cr_stride y_len cb_len cr_len seed y_shape cb_shape cr_shape
 // space(2) room_cb room_cr row change value(3).
 // A line that is no call spells the bytes that planes of shape 3 have in the calls behind it.
+ghost use Prim.Native.Nat.{_≤_};
 use guided::Geometry;
 use guided::Reader;
 use guided::Reply;
+use image::Range;
 use libc::STDIN_FILENO;
 use taps::Phase;
 
@@ -42,17 +44,28 @@ fn phase_number(p: Phase) -> usize {
     test_support::bits(p.f) as usize
 }
 
-// A reader as sixteen numbers, of which a line can name one to change by its index: place, h_next, f_next, maxval, sample_bytes,
-// w h rh rv cw ch and the four phases. The first is 0, since a line says by index 0 that nothing is changed.
+// A range as C has it.
+fn range_number(range: Range) -> usize
+    ensures { λ r. ⌜ r ≤ 1 ⌝ }
+{
+    match range {
+        Range::Full => 0,
+        Range::Studio => 1,
+    }
+}
+
+// A reader as sixteen numbers, of which a line can name one to change by its index: place, h_next, f_next, maxval and above its 32 bits
+// the range, sample_bytes, w h rh rv cw ch and the four phases. The first is 0, since a line says by index 0 that nothing is changed.
 fn numbers(r: Reader) -> [usize; 16] {
     let g = r.geometry;
     let p = g.phases;
+    let range = g.range;
     [
         0,
         r.place,
         r.h_next,
         r.f_next,
-        r.maxval as usize,
+        range_number(range) * 4_294_967_296 + r.maxval as usize,
         r.sample_bytes,
         g.w,
         g.h,
@@ -86,6 +99,7 @@ fn reader_of(n: [usize; 16]) -> Reader {
         cw: n[10],
         ch: n[11],
         phases,
+        range: test_support::range_of(test_support::low(n[4] / 4_294_967_296)),
     };
     Reader {
         geometry,

@@ -26,6 +26,8 @@ pub use floats::float;
 pub use lines::kind;
 pub use lines::layout;
 pub use lines::numerator;
+pub use lines::range;
+pub use lines::range_of;
 pub use lines::scratch_part;
 pub use lines::siting;
 pub use lines::strides;

@@ -5,11 +5,12 @@ use crate::words::long;
 use crate::words::size;
 use crate::words::word;
 use image::Layout;
+use image::Range;
 use image::Strides;
 use laws::Axis;
 use laws::Siting;
 
-// Whether a line's kind is a capital, which says that the words of its ratios hold more than these.
+// Whether a line's kind is a capital, which says that the words of its ratios and of its sample bytes hold more than these.
 fn capital(text: &[u8]) -> bool {
     let kind = byte(text, 0);
     laws::both(b'A' <= kind, kind <= b'Z')
@@ -71,6 +72,32 @@ fn axis(text: &[u8], k: usize) -> Axis
     }
 }
 
+// The sample bytes of a line's layout, which stand in word 6.
+fn sample_bytes(text: &[u8]) -> usize {
+    if capital(text) {
+        word(text, 6) % 256
+    } else {
+        size(text, 6)
+    }
+}
+
+// Inner: the range of a line's layout, as C has it: the first digit of the sample bytes' word where the kind is a capital, and else 0.
+pub fn range(text: &[u8]) -> u32 {
+    if capital(text) {
+        (word(text, 6) / 4_096) as u32
+    } else {
+        0
+    }
+}
+
+// Inner: the range that a number stands for: 1 is studio.
+pub fn range_of(n: u32) -> Range {
+    if n == 1 {
+        return Range::Studio;
+    }
+    Range::Full
+}
+
 // Inner: the layout that a line begins with. It takes nine words, the maxval two of them.
 pub fn layout(text: &[u8]) -> Layout {
     Layout {
@@ -82,8 +109,9 @@ pub fn layout(text: &[u8]) -> Layout {
         ch: size(text, 5),
         across: axis(text, 2),
         down: axis(text, 3),
-        sample_bytes: size(text, 6),
+        sample_bytes: sample_bytes(text),
         maxval: long(text, 7) as u32,
+        range: range_of(range(text)),
     }
 }
 

@@ -33,7 +33,7 @@ ratios l rh rv = eqb (l .rh) rh && eqb (l .rv) rv
 unfoldable pub badTriangular : Layout → Bool
 badTriangular l = not (ratios l 2 1 || (ratios l 1 2 || ratios l 2 2)) || (eqb (l .rh) 2 && leb (l .cw) 2)
 
--- "Refusals 2, 3, 4, 5, 6, 7, 10, lowest first", and 16, "looked at right after 6"; `room` is how many values the output holds
+-- "Refusals 2, 3, 4, 5, 6, 7, 10, lowest first", 18 "right after 4" and 16 "looked at right after 6"; `room` is how many values the output holds
 unfoldable pub triangularTests : Layout → Plane → ℕ → List Test
 triangularTests l p room = layoutTests false l ++ ((badTriangular l, 6) ∷ (badSiting l, 16) ∷ (shortPlane l (l .cw) (l .ch) p, 7) ∷ (ltb room (l .w * l .h), 10) ∷ [])
 

@@ -7,6 +7,7 @@ use Rattle.laws.specs.Differences.{floorDiv, limit}
 use Rattle.kernels.specs.declared.bytes.Rgb.{Rgb}
 use Rattle.kernels.specs.HalvesUp.{rnd}
 use Rattle.kernels.specs.Kernels.{Colour, centred, offCentre, less128}
+use Rattle.kernels.specs.T871.{less16}
 
 -- three bytes as a colour
 abbrev pub colourOf : Rgb → Colour
@@ -42,6 +43,11 @@ raised k bias c256 = k * c256 + (256000 * bias + 128000 - 32768 * k)
 
 unfoldable pub chromaAt : ℕ → ℕ → ℕ → ℕ → ℕ
 chromaAt k d y c256 = limit 255 (rnd (pos 255 *ℤ (pos (256000 * y) +ℤ pos k *ℤ offCentre d c256)) (256000 * d))
+
+-- ---- studio range: red or blue of a pixel, over 219 · 224 · 256,000
+
+unfoldable pub studioChroma : ℕ → ℕ → ℕ → ℕ
+studioChroma k y c256 = limit 255 (rnd (pos 255 *ℤ (pos (224 * 256000) *ℤ less16 y +ℤ pos (219 * k) *ℤ centred c256)) (219 * 224 * 256000))
 
 -- ---- fixed kernel: `fixedRed` is `fixedOffset 91881`, `fixedBlue` is `fixedOffset 116130`
 

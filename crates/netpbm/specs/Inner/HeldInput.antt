@@ -5,6 +5,7 @@ use Rattle.laws.specs.declared.answers.Answer.{Answer}
 use Rattle.laws.specs.Axes.{plain}
 use Rattle.laws.specs.Inner.Refusals.{folded}
 use Rattle.image.specs.declared.layout.Layout.{Layout}
+use Rattle.image.specs.declared.layout.Range.the-variants.{Full}
 use Rattle.image.specs.Tests.{badSize}
 use Rattle.netpbm.specs.declared.pgm.Image.{Image}
 use Rattle.netpbm.specs.Images.{sampleBytes}
@@ -23,6 +24,7 @@ layoutHeld y cb cr = record {
   down = plain;
   «sample_bytes» = sampleBytes (y .maxval);
   maxval = y .maxval;
+  range = Full;
 }
 
 -- the answer to the whole input: the images' own, then the tests for bytes left over, for the sides and for the ratios

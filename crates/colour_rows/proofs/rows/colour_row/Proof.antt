@@ -1,36 +1,43 @@
+-- Each branch knows the range, so that its callee's row is the row of the layout's range.
+use mathlib.Core.Path.{_∙_}
 use borrow.Author.Needs.{needs}
+use Rattle.colour_rows.proofs.Colouring.{full-row, studio-row}
 use Rattle.colour_rows.proofs.rows.colour_row.Statement.{statement}
 use Rattle.colour_rows.proofs.rows.colour_row.Tie as tie
 
-by-blocks-requires : tie.Need-by-blocks-requires
-by-blocks-requires c κs = search needs
+enum-told : tie.Need-enum-told
+enum-told c = search needs
 
-block-row-requires : tie.Need-block-row-requires
-block-row-requires c κs = let s = c .before .before .before .before .before .before in (s .pre .0, (c .before .before .by-blocks .ensures (c .before .if1 .taken), s .pre .1 .0, s .pre .1 .1, s .pre .1 .2, s .pre .1 .3))
+full-range-row-requires : tie.Need-full-range-row-requires
+full-range-row-requires c κs = search needs
+
+enum-told-2 : tie.Need-enum-told-2
+enum-told-2 c = search needs
+
+studio-range-row-requires : tie.Need-studio-range-row-requires
+studio-range-row-requires c κs = search needs
 
 same-length : tie.Need-same-length
 same-length c = search needs
 
 returns : tie.Need-returns
-returns c = search needs
-
-plain-row-requires : tie.Need-plain-row-requires
-plain-row-requires c κs = search needs
+returns c = c .before .before .full-range-row .ensures ∙ full-row _ _ _ _ _ _ _ _ (c .before .before .before .before .enum-told .given .1)
 
 same-length-2 : tie.Need-same-length-2
 same-length-2 c = search needs
 
 returns-2 : tie.Need-returns-2
-returns-2 c = search needs
+returns-2 c = c .before .before .studio-range-row .ensures ∙ studio-row _ _ _ _ _ _ _ _ (c .before .before .before .before .enum-told2 .given .1)
 
 pub colour-row-spec : {M : Type 1} → statement M
 colour-row-spec =
     tie.close
     (tie.spec
-    by-blocks-requires
-    block-row-requires
+    enum-told
+    full-range-row-requires
+    enum-told-2
+    studio-range-row-requires
     same-length
     returns
-    plain-row-requires
     same-length-2
     returns-2)

@@ -4,12 +4,12 @@ use Rattle.ffi.proofs.Strange.{checked-strange, checked-plain}
 use Rattle.ffi.proofs.reading.chroma_row.Statement.{statement}
 use Rattle.ffi.proofs.reading.chroma_row.Tie as tie
 
-strange-phases-requires : tie.Need-strange-phases-requires
-strange-phases-requires c κs = search needs
+strange-reader-requires : tie.Need-strange-reader-requires
+strange-reader-requires c κs = search needs
 
 returns : tie.Need-returns
 returns c =
-    let e = sym (c .before .strange-phases .ensures) ∙ c .if1 .taken in
+    let e = sym (c .before .strange-reader .ensures) ∙ c .if1 .taken in
     checked-strange e (refl, refl, refl)
 
 to-reader-requires : tie.Need-to-reader-requires
@@ -38,14 +38,14 @@ returns-2 c =
     let k = c .before .before .before .before .before .before .before in
     let u = k .before .before .before .before in
     let t = u .before in
-    let e = sym (t .before .before .strange-phases .ensures) ∙ t .before .if1 .left in
+    let e = sym (t .before .before .strange-reader .ensures) ∙ t .before .if1 .left in
     checked-plain e (record { reply = k .row .result; given = rw (sym (t .to-reader .ensures), sym (u .to-strides .ensures)) (k .row .ensures); is = c .reply-to .ensures })
 
 pub chroma-row-spec : {M : Type 1} → statement M
 chroma-row-spec =
     tie.close
     (tie.spec
-    strange-phases-requires
+    strange-reader-requires
     returns
     to-reader-requires
     to-strides-requires

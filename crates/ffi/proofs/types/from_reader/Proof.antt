@@ -28,9 +28,12 @@ array-copy-out-from-phase-4 c = search needs
 from-phase-requires-4 : tie.Need-from-phase-requires-4
 from-phase-requires-4 c κs = search needs
 
+from-range-requires : tie.Need-from-range-requires
+from-range-requires c κs = search needs
+
 returns : tie.Need-returns
 unfolding chromaReader
-returns c = rw (c .from-phase4 .ensures, c .before .before .from-phase3 .ensures, c .before .before .before .before .from-phase2 .ensures, c .before .before .before .before .before .before .from-phase .ensures) refl
+returns c = let p = c .before in rw (c .from-range .ensures, p .from-phase4 .ensures, p .before .before .from-phase3 .ensures, p .before .before .before .before .from-phase2 .ensures, p .before .before .before .before .before .before .from-phase .ensures) refl
 
 pub from-reader-spec : {M : Type 1} → statement M
 from-reader-spec =
@@ -44,4 +47,5 @@ from-reader-spec =
     from-phase-requires-3
     array-copy-out-from-phase-4
     from-phase-requires-4
+    from-range-requires
     returns)

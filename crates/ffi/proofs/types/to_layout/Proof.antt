@@ -10,9 +10,12 @@ to-axis-requires c κs = search needs
 to-axis-requires-2 : tie.Need-to-axis-requires-2
 to-axis-requires-2 c κs = search needs
 
+to-range-requires : tie.Need-to-range-requires
+to-range-requires c κs = search needs
+
 returns : tie.Need-returns
 unfolding asLayout
-returns c = rw (c .to-axis2 .ensures, c .before .to-axis .ensures) refl
+returns c = rw (c .to-range .ensures, c .before .to-axis2 .ensures, c .before .before .to-axis .ensures) refl
 
 pub to-layout-spec : {M : Type 1} → statement M
-to-layout-spec = tie.close (tie.spec to-axis-requires to-axis-requires-2 returns)
+to-layout-spec = tie.close (tie.spec to-axis-requires to-axis-requires-2 to-range-requires returns)

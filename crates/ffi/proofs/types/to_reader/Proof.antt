@@ -28,9 +28,12 @@ array-copy-out-to-phase-4 c = search needs
 to-phase-requires-4 : tie.Need-to-phase-requires-4
 to-phase-requires-4 c κs = search needs
 
+to-range-requires : tie.Need-to-range-requires
+to-range-requires c κs = search needs
+
 returns : tie.Need-returns
 unfolding asReader
-returns c = rw (c .to-phase4 .ensures, c .before .before .to-phase3 .ensures, c .before .before .before .before .to-phase2 .ensures, c .before .before .before .before .before .before .to-phase .ensures) refl
+returns c = let p = c .before in rw (c .to-range .ensures, p .to-phase4 .ensures, p .before .before .to-phase3 .ensures, p .before .before .before .before .to-phase2 .ensures, p .before .before .before .before .before .before .to-phase .ensures) refl
 
 pub to-reader-spec : {M : Type 1} → statement M
 to-reader-spec =
@@ -44,4 +47,5 @@ to-reader-spec =
     to-phase-requires-3
     array-copy-out-to-phase-4
     to-phase-requires-4
+    to-range-requires
     returns)

@@ -8,7 +8,7 @@ use lib.Ieee.{Float}
 use lib.ListN.{length}
 use borrow.Author.Needs.{needs}
 use Rattle.guided.proofs.Places.{front-fits}
-use Rattle.colour_rows.specs.Inner.Colours.{colourRow}
+use Rattle.colour_rows.specs.Inner.Colours.{rangedRow}
 use Rattle.fill.proofs.Chroma.{length-fill}
 use Rattle.fill.proofs.Painted.{row-bytes, row-begins, row-room}
 use Rattle.fill.proofs.rows.fill_row.Statement.{statement}
@@ -48,7 +48,7 @@ returns : tie.Need-returns
 returns c =
     let a = c .before .before .before .before .before .before .before .before .before .before .before .before .before .before .before .args in
     let e = c .before .before .before .before .before .before .before .chroma-row .ensures in
-    (e, c .before .before .colour-row .ensures ∙ ap (λ (z : List Float). colourRow (a .kernel) (a .layout) (planeOf (a .y .now) (a .strides .y)) (a .first + a .n) z ((a .first + a .n) * (a .layout .w * a .size)) (a .size) (a .out .now)) e)
+    (e, c .before .before .colour-row .ensures ∙ ap (λ (z : List Float). rangedRow (a .kernel) (a .layout) (planeOf (a .y .now) (a .strides .y)) (a .first + a .n) z ((a .first + a .n) * (a .layout .w * a .size)) (a .size) (a .out .now)) e)
 
 pub fill-row-spec : {M : Type 1} → statement M
 fill-row-spec =

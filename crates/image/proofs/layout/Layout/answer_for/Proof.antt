@@ -1,4 +1,4 @@
--- The first two tests return by themselves, and what their failing says bounds the products of the fourth; the last two are folded as a list.
+-- The first two tests return by themselves, and what their failing says bounds the products of the last; the last three are folded as a list.
 use mathlib.Core.Path.{_≡_, sym, _∙_}
 use mathlib.Core.Bool.{false}
 use native.Mathlib.Nat.{le-trans}
@@ -35,9 +35,15 @@ bad-samples-requires c κs = search needs
 then-requires : tie.Need-then-requires
 then-requires c κs = search needs
 
+bad-range-requires : tie.Need-bad-range-requires
+bad-range-requires c κs = search needs
+
+then-requires-2 : tie.Need-then-requires-2
+then-requires-2 c κs = search needs
+
 bad-chroma-requires : tie.Need-bad-chroma-requires
 bad-chroma-requires c κs =
-    let e = c .before .before in
+    let e = c .before .before .before .before in
     let a = e .before .before .before .before .args in
     let s = P.size-passed (a .self) (size-passed (e .before .before)) in
     let r = P.ratio-passed (a .whole) (a .self) (ratio-passed e) in
@@ -45,13 +51,13 @@ bad-chroma-requires c κs =
     let y = P.pair-most (a .whole) (a .self .down) (a .self .rv) (r .1) in
     (s .0 .1, s .1 .1, le-trans x (r .0 .r-most), le-trans y (r .1 .r-most))
 
-then-requires-2 : tie.Need-then-requires-2
-then-requires-2 c κs = search needs
+then-requires-3 : tie.Need-then-requires-3
+then-requires-3 c κs = search needs
 
 returns-3 : tie.Need-returns-3
 unfolding testsFor
 returns-3 c =
-    let e = c .before .before .before .before in
+    let e = c .before .before .before .before .before .before in
     sym (passed-over _ 2 _ (size-passed (e .before .before)) ∙ passed-over _ 3 _ (ratio-passed e) ∙ rw first-folded (cc))
 
 pub answer-for-spec : {M : Type 1} → statement M
@@ -64,6 +70,8 @@ answer-for-spec =
     returns-2
     bad-samples-requires
     then-requires
-    bad-chroma-requires
+    bad-range-requires
     then-requires-2
+    bad-chroma-requires
+    then-requires-3
     returns-3)
