@@ -88,7 +88,7 @@ impl Cell {
             b = b.min(now() - t);
         }
         let ns = 1e9 / pixels as f64;
-        let word = if name.contains("co-sited") { "of another siting" } else if name.contains("studio") { "of another range" } else if same() { "same" } else { "DIFFERENT" };
+        let word = if name.contains("co-sited") { "of another siting" } else if name.contains("studio") { "of another range" } else if name.starts_with("open") { "not a fill" } else if same() { "same" } else { "DIFFERENT" };
         println!("| {name} | {:.2} | {:.2} | {:.2} | {word} |", a * ns, b * ns, b / a);
     }
 
@@ -166,6 +166,30 @@ impl Cell {
         );
     }
 
+    /// Open, whose time is that of looking at every sample, beside the original's guided fill of the
+    /// same picture.
+    fn open(&self, i: &Input, name: &str) {
+        let l = i.layout;
+        let [y, cb, cr] = &i.planes;
+        let s = i.scratch.clone();
+        let mut want = vec![7u8; l.w * l.h * 3];
+        self.run(
+            name, l.w * l.h,
+            || {
+                // SAFETY: each pointer and length are one slice's.
+                let at = unsafe {
+                    raw::chroma_open(
+                        l, y.as_ptr(), y.len(), cb.as_ptr(), cb.len(), cr.as_ptr(), cr.len(), i.strides,
+                        s.as_ptr(), s.len(), ChromaReader::default(),
+                    )
+                };
+                assert!(at.refusal == 0);
+            },
+            || oracle::fill(&i.beside, 3, Upsampling::Guided, Kernel::Exact, &mut want).expect("a fill"),
+            || true,
+        );
+    }
+
     fn plane(&self, i: &Input, kind: usize, name: &str) {
         let l = i.layout;
         let [y, cb, _] = &i.planes;
@@ -227,6 +251,12 @@ fn main() {
     let i = input(1_024, 1_024, 2, 2, 2, 4_095);
     cell.fill(&i, false, false, 3, "fill guided exact, 3 bytes, 2:2, two-byte samples, maxval 4095");
     cell.fill(&i, true, false, 3, "fill linear exact, 3 bytes, 2:2, two-byte samples, maxval 4095");
+    // Samples are looked at where maxval isn't the most that a sample holds.
+    cell.open(&i, "open, 2:2, two-byte samples, maxval 4095");
+    let i = input(1_024, 1_024, 2, 2, 1, 254);
+    cell.open(&i, "open, 2:2, maxval 254");
+    cell.fill(&i, false, false, 3, "fill guided exact, 3 bytes, 2:2, maxval 254");
+    cell.fill(&i, true, false, 3, "fill linear exact, 3 bytes, 2:2, maxval 254");
     let i = input(1_024, 1_024, 2, 2, 1, 255);
     let down: Vec<usize> = (0..1_024).collect();
     cell.rows(&i, &down, "rows, Cb and Cr, top to bottom, 2:2");

@@ -27,8 +27,10 @@
  *     left it. Other states, scratch and planes are safe too; the rows are then not those of the
  *     opened picture.
  *
- * A slice may be longer than needed, but for a chart; its surplus is untouched. Samples above maxval are taken
- * as they are.
+ * A slice may be longer than needed, but for a chart; its surplus is untouched. chroma_open,
+ * chroma_fill, the calls for a plane and chroma_picture look at every sample inside the planes that
+ * they are lent, and turn a picture down by 17 if one exceeds maxval; padding and surplus are not
+ * looked at. chroma_row doesn't look again: it takes samples as they are.
  *
  * A not-a-number has one form in the logic of the proofs. So for a lent float 'unchanged' and
  * 'untouched' mean its value; that a payload stays too is tested (tests/c), not proved.
@@ -46,12 +48,13 @@ extern "C" {
 /* The interface that this header describes, 0xMMmmpp: raised whenever a struct, a number or a call
  * moves. chroma_version gives that of the library that is linked: a program that was compiled
  * against another one should stop. */
-#define CHROMA_VERSION 0x000600
+#define CHROMA_VERSION 0x000700
 uint32_t chroma_version(void);
 
 /* What a call answers: the first number of its list that applies, where lists follow the order
- * of this table, 18 stands between 4 and 5, 16 between 6 and 7, 19 between 9 and 10, and 20 and
- * 255 before all else; chroma_picture has its own order.
+ * of this table, 18 stands between 4 and 5, 16 between 6 and 7, 17 between 7 and 8, 19 between 9 and 10, and 20 and
+ * 255
+ * before all else; chroma_picture has its own order.
  * docs/REFUSALS.md has each number's example and definition, and each call's list. */
 enum ChromaRefusal {
     CHROMA_ACCEPTED = 0,
@@ -79,6 +82,7 @@ enum ChromaRefusal {
                                  that of the first image, or bytes left over */
     CHROMA_TOO_LARGE = 15,    /* the picture call's size limits passed, or rows missing */
     CHROMA_NOT_CENTRED = 16,  /* co-sited chroma on either axis with a guided or triangular call */
+    CHROMA_ABOVE_MAXVAL = 17, /* a sample inside a plane that exceeds maxval */
     CHROMA_BAD_RANGE = 18,    /* studio range with another maxval than 255, or with the fixed
                                  kernel */
     CHROMA_BAD_RECTANGLE = 19, /* chroma_patch: a rectangle whose end passes 65535 */
@@ -214,7 +218,7 @@ static inline size_t chroma_scratch_need(size_t cw, size_t w) {
 /* Opens a picture: gives its reader at row 0. `scratch` is the slice that the row calls will
  * be lent; only its length is looked at. `reader` may hold anything, and comes back where the
  * call is refused; `static ChromaReader none;` is one to begin with, in C and in C++.
- * Refusals 255 (a siting or the range is neither 0 nor 1), then 2, 3, 4, 18, 5, 16, 7, 9. */
+ * Refusals 255 (a siting or the range is neither 0 nor 1), then 2, 3, 4, 18, 5, 16, 7, 17, 9. */
 ChromaReply chroma_open(ChromaLayout layout,
                         const uint8_t *y, size_t y_len,
                         const uint8_t *cb, size_t cb_len,
@@ -244,7 +248,7 @@ ChromaReply chroma_row(ChromaReader reader,
 /* One whole chroma plane, interpolated linearly: w * h values into out, row by row without gaps,
  * rounded halves up and limited to 0..maxval. `plane` is Cb or Cr, by either siting
  * and any numerators.
- * Refusals 255, then 2, 3, 4, 18, 5, 7, 9, 10. */
+ * Refusals 255, then 2, 3, 4, 18, 5, 7, 17, 9, 10. */
 uint32_t chroma_linear_plane(ChromaLayout layout,
                              const uint8_t *plane, size_t plane_len, size_t stride,
                              float *scratch, size_t scratch_len,
@@ -252,7 +256,7 @@ uint32_t chroma_linear_plane(ChromaLayout layout,
 
 /* One whole chroma plane, guided by luma: w * h values into out, laid out, rounded and limited as
  * above.
- * Refusals 255, then 2, 3, 4, 18, 5, 16, 7, 9, 10. */
+ * Refusals 255, then 2, 3, 4, 18, 5, 16, 7, 17 (of luma or the plane), 9, 10. */
 uint32_t chroma_guided_plane(ChromaLayout layout,
                              const uint8_t *y, size_t y_len, size_t y_stride,
                              const uint8_t *plane, size_t plane_len, size_t stride,
@@ -260,7 +264,7 @@ uint32_t chroma_guided_plane(ChromaLayout layout,
                              uint16_t *out, size_t out_len);
 
 /* One whole chroma plane, triangular, in whole numbers: w * h values into out, row by row.
- * Refusals 255, then 2, 3, 4, 18, 5, 6, 16, 7, 10. */
+ * Refusals 255, then 2, 3, 4, 18, 5, 6, 16, 7, 17, 10. */
 uint32_t chroma_triangular_plane(ChromaLayout layout,
                                  const uint8_t *plane, size_t plane_len, size_t stride,
                                  uint16_t *out, size_t out_len);
@@ -272,7 +276,7 @@ uint32_t chroma_triangular_plane(ChromaLayout layout,
  * `upsampling`: 0 linear, 1 guided. `kernel`: 0 exact, T.871's equations on chroma in 256ths; 1
  * fixed, 16-bit fixed point on chroma rounded to whole samples (maxval 255, full range).
  * Refusals 255 (either, a siting or the range is another number), then 2, 3, 4, 18, 5,
- * 16 (guided), 7, 8, 9, 10 (out shorter than w * h * size). */
+ * 16 (guided), 7, 17, 8, 9, 10 (out shorter than w * h * size). */
 uint32_t chroma_fill(ChromaLayout layout,
                      const uint8_t *y, size_t y_len,
                      const uint8_t *cb, size_t cb_len,
@@ -298,7 +302,7 @@ ChromaPixel chroma_fixed_pixel(uint32_t y, uint32_t cb, uint32_t cr);
  * 1 to 65535, the same in all three; above 255 a sample is two bytes, the high byte first (in
  * planes it is the low one). Between `P5` and the maxval a comment, from `#` through the next CR
  * or LF, counts as whitespace.
- * Refusals 14 and 15 as they are met, then 2, 5, 9 and 10, in this order. */
+ * Refusals 14 and 15 as they are met, then 2, 5, 17, 9 and 10, in this order. */
 ChromaWritten chroma_picture(const uint8_t *input, size_t input_len,
                              float *scratch, size_t scratch_len,
                              uint8_t *out, size_t out_len);

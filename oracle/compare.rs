@@ -1,5 +1,6 @@
 //! Random pictures and call lists, the crates' sources beside the original; pairs that aren't whole
-//! beside it too, co-sited pictures beside sited.rs, and studio range beside studio.rs.
+//! beside it too, co-sited pictures beside sited.rs, and studio range beside studio.rs. No sample of theirs exceeds its maxval, and
+//! one does in pictures of their own, which must be turned down.
 //! Usage: compare PICTURES LISTS PIXELS FILLS SITED STUDIO; it ends with status 1 where anything differs.
 mod sited;
 mod studio;
@@ -56,6 +57,30 @@ fn plane(r: &mut Random, kind: usize, row: usize, h: usize) -> Plane {
     Plane { data: (0..len).map(byte).collect(), stride }
 }
 
+/// Bytes `at` and on as a sample.
+fn sample(data: &[u8], at: usize, bytes: usize) -> u32 {
+    (0..bytes).rev().fold(0, |v, k| v * 256 + data[at + k] as u32)
+}
+
+fn put_sample(data: &mut [u8], at: usize, bytes: usize, v: u32) {
+    (0..bytes).for_each(|k| data[at + k] = (v >> (8 * k)) as u8);
+}
+
+/// Brings the samples inside the planes to at most the maxval, one in eight of those above to the
+/// maxval itself; padding and surplus are left.
+fn hold(r: &mut Random, p: &mut Picture) {
+    let (l, bytes) = (p.layout, p.layout.sample_bytes);
+    for (plane, w, h) in [(&mut p.y, l.w, l.h), (&mut p.cb, l.cw, l.ch), (&mut p.cr, l.cw, l.ch)] {
+        for at in (0..h).flat_map(|y| (0..w).map(move |x| (x, y))).map(|(x, y)| y * plane.stride + x * bytes) {
+            let v = sample(&plane.data, at, bytes);
+            if v > l.maxval {
+                let held = if r.below(8) == 0 { l.maxval } else { v % (l.maxval + 1) };
+                put_sample(&mut plane.data, at, bytes, held);
+            }
+        }
+    }
+}
+
 /// Picture t: the ratio pairs in turn, sides to 40 by 30, at times 1 by 1.
 fn picture(r: &mut Random, t: usize) -> Picture {
     picture_by(r, t, (1, 1 + t % 4), (1, 1 + t / 4 % 4))
@@ -78,7 +103,9 @@ fn picture_by(r: &mut Random, t: usize, (nh, rh): (usize, usize), (nv, rv): (usi
     let y = plane(r, kind, w * sample_bytes, h);
     let cb = plane(r, kind, cw * sample_bytes, ch);
     let cr = plane(r, kind, cw * sample_bytes, ch);
-    Picture { layout, y, cb, cr }
+    let mut p = Picture { layout, y, cb, cr };
+    hold(r, &mut p);
+    p
 }
 
 fn original(p: &Picture) -> oracle::Picture {
@@ -264,6 +291,7 @@ fn fill(r: &mut Random, t: usize) -> usize {
     // Maxval 255, half the time, has both kernels.
     if r.below(2) == 0 {
         p.layout.maxval = 255;
+        hold(r, &mut p);
     }
     let l = p.layout;
     let size = 3 + r.below(2);
@@ -305,6 +333,7 @@ fn sited_calls(r: &mut Random, t: usize) -> [usize; 3] {
     let mut p = picture_by(r, t, PAIRS[t / 2 % 10], PAIRS[t / 20 % 10]);
     if r.below(2) == 0 {
         p.layout.maxval = 255;
+        hold(r, &mut p);
     }
     let kind = if t % 2 == 0 { 0 } else { 1 + r.below(3) };
     let siting = |bit: usize| if kind & bit != 0 { Siting::CoSited } else { Siting::Centred };
@@ -439,6 +468,78 @@ fn studio_calls(r: &mut Random, t: usize) -> [usize; 2] {
     [same, planes[0] == planes[1]].map(|same| !same as usize)
 }
 
+/// Picture t with one sample above the maxval, in one of its planes or in the padding or surplus of
+/// one: each call that is lent it inside a plane turns it down by 17 and changes nothing, all others
+/// take it. A row call takes it wherever it is, and gives the original's rows of it.
+fn above(r: &mut Random, t: usize) -> [usize; 2] {
+    let mut p = picture(r, t);
+    let most = if p.layout.sample_bytes == 1 { 255 } else { 65_535 };
+    p.layout.maxval = p.layout.maxval.min(most - 1);
+    hold(r, &mut p);
+    let (l, bytes) = (p.layout, p.layout.sample_bytes);
+    let mut s = vec![f32::NAN; scratch_need(l)];
+    let opened = ours::open(l, &p.y.data, &p.cb.data, &p.cr.data, strides(&p), &s, closed());
+    let k = r.below(3);
+    let (plane, w, h) = match k {
+        0 => (&mut p.y, l.w, l.h),
+        1 => (&mut p.cb, l.cw, l.ch),
+        _ => (&mut p.cr, l.cw, l.ch),
+    };
+    let v = l.maxval + 1 + r.below((most - l.maxval) as usize) as u32;
+    let at = r.below(plane.data.len() + 1 - bytes);
+    // A sample inside the plane, or bytes that no sample of it has.
+    let inside = at / plane.stride < h && at % plane.stride < w * bytes;
+    let next = (at + bytes - 1) / plane.stride < h && (at + bytes - 1) % plane.stride < w * bytes;
+    if inside || next {
+        put_sample(&mut plane.data, r.below(h) * plane.stride + r.below(w) * bytes, bytes, v);
+    } else {
+        put_sample(&mut plane.data, at, bytes, v);
+    }
+    let turned_down = |lent: &[usize]| (inside || next) && lent.contains(&k);
+    let want = |lent: &[usize]| if turned_down(lent) { Answer::Refused(17) } else { Answer::Accepted };
+
+    let reply = ours::open(l, &p.y.data, &p.cb.data, &p.cr.data, strides(&p), &s, opened.reader);
+    let mut same = opened.answer == Answer::Accepted && reply.answer == want(&[0, 1, 2]);
+    same &= reply.reader == opened.reader;
+    let mut out = vec![42_405u16; l.w * l.h];
+    let untouched = |a: Answer, lent: &[usize], out: &mut Vec<u16>| {
+        let kept = out.iter().all(|v| *v == 42_405);
+        out.fill(42_405);
+        let other = lent == [1] && a == Answer::Refused(6);
+        (a == want(lent) || other) && (kept || a == Answer::Accepted)
+    };
+    let a = ours::linear_plane(l, &p.cb.data, p.cb.stride, &mut s, &mut out);
+    same &= untouched(a, &[1], &mut out);
+    let a = ours::triangular_plane(l, &p.cb.data, p.cb.stride, &mut out);
+    same &= untouched(a, &[1], &mut out);
+    let a = ours::guided_plane(l, &p.y.data, p.y.stride, &p.cb.data, p.cb.stride, &mut s, &mut out);
+    same &= untouched(a, &[0, 1], &mut out);
+    for up in [ChromaUpsampling::Linear, ChromaUpsampling::LumaGuided] {
+        // 8, 9 and 10 come behind 17.
+        let (size, room, space) = [(3, l.w * l.h * 3, s.len()), (5, 0, 0), (3, 0, s.len()), (4, 0, 0)][t % 4];
+        let mut rgb = vec![160u8; room];
+        let a = ours::fill(
+            l, &p.y.data, &p.cb.data, &p.cr.data, strides(&p),
+            up, YcbcrKernel::Exact, size, &mut s[..space], &mut rgb,
+        );
+        let other = [Answer::Accepted, Answer::Refused(8), Answer::Refused(10), Answer::Refused(9)][t % 4];
+        let answer = if turned_down(&[0, 1, 2]) { Answer::Refused(17) } else { other };
+        same &= a == answer && (a == Answer::Accepted || rgb.iter().all(|v| *v == 160));
+    }
+
+    let mut beside = GuidedReader::new();
+    beside.open(&original(&p));
+    let (mut cb, mut cr) = (vec![0f32; l.w], vec![0f32; l.w]);
+    let y = r.below(l.h);
+    let a = ours::row(
+        opened.reader, &p.y.data, &p.cb.data, &p.cr.data, strides(&p), y, &mut s, &mut cb, &mut cr,
+    );
+    let Ok(rows) = beside.row(y) else { panic!("a row of the original's") };
+    let bits = |v: &[f32]| v.iter().map(|x| x.to_bits()).collect::<Vec<u32>>();
+    let row = a.answer == Answer::Accepted && bits(&cb) == bits(&rows.0) && bits(&cr) == bits(&rows.1);
+    [same, row].map(|same| !same as usize)
+}
+
 /// The fixed kernel at every pair of whole chroma, at Y 0 and 255.
 fn pairs() -> usize {
     let mut differ = 0;
@@ -491,7 +592,14 @@ fn main() {
     }
     let [coloured, kept] = studio;
     println!("{} fills in studio range; differ: {coloured}, guided planes {kept}", counts[5] / 16);
+    let mut lent = [0; 2];
+    for t in 0..counts[4] {
+        let found = above(&mut r, t);
+        (0..2).for_each(|i| lent[i] += found[i]);
+    }
+    let [calls, lone_rows] = lent;
+    println!("{} pictures with a sample above the maxval, in a plane or beside it; differ: calls {calls}, rows {lone_rows}", counts[4]);
     let all = linear + guided + triangular + lists + exact + other + fixed + every + fills
-        + planes + filled + refused + differ + coloured + kept;
+        + planes + filled + refused + differ + coloured + kept + calls + lone_rows;
     std::process::exit((all != 0) as i32);
 }

@@ -3,7 +3,8 @@
 to compare `netpbm::read` with.
 
 Reads standard input and prints `refused N`, or a line of what was read: the sides, the ratios, the chroma sides, the
-bytes of a sample, the maxval, and where the rows of Y, Cb and Cr begin.
+bytes of a sample, the maxval, and where the rows of Y, Cb and Cr begin. That a sample exceeds the maxval is no matter
+of reading, and is not looked at here.
 Usage: oracle/netpbm-reference.py < PICTURE
 """
 import re
@@ -80,6 +81,13 @@ def read(data):
         raise Refused(2)
     across, down = ratio(y[0], cb[0], cr[0]), ratio(y[1], cb[1], cr[1])
     return [y[0], y[1], across, down, cb[0], cb[1], wide(y[2]), y[2], y[3], cb[3], cr[3]]
+
+
+def above(data, found):
+    """Refusal 17, which comes after what is read: whether a sample of what `read` found exceeds the maxval."""
+    w, h, _, _, cw, ch, bytes_each, maxval, y, cb, cr = found
+    return any(sample > maxval for place, count in ((y, w * h), (cb, cw * ch), (cr, cw * ch))
+               for sample in samples(data, place, count, bytes_each))
 
 
 def answer(data):

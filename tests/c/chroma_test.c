@@ -828,6 +828,69 @@ static void test_fill_row(void) {
     end_slices();
 }
 
+/* ---- samples above maxval */
+
+/* What a call answers of a picture that has such a sample, or hasn't; a refused one writes nothing. */
+#define LOOKED(call, above, out, bytes)                                               \
+    do {                                                                              \
+        SAME(call, (above) ? CHROMA_ABOVE_MAXVAL : CHROMA_ACCEPTED);                  \
+        CHECK(!(above) || untouched(out, bytes));                                     \
+        memset(out, 0xA5, bytes);                                                     \
+    } while (0)
+
+/* 9 by 6 pixels, 5 by 3 cells, a sample of padding in each row and of surplus behind them. All samples
+ * are the maxval, but for one of plane k that is one more: inside at three places, and outside at two. */
+static void one_above(size_t bytes, int k) {
+    ChromaLayout l = chroma_layout(9, 6, 2, 2);
+    ChromaStrides s = strides_of(10 * bytes, 6 * bytes, 6 * bytes);
+    size_t y_len = 61 * bytes, c_len = 19 * bytes, need = chroma_scratch_need(5, 9);
+    size_t w = k == 0 ? 9 : 5, h = k == 0 ? 6 : 3;
+    uint8_t *planes[3] = {lend_bytes(y_len), lend_bytes(c_len), lend_bytes(c_len)};
+    const uint8_t *y = planes[0], *cb = planes[1], *cr = planes[2];
+    float *scratch = lend_floats(need), *row_cb = lend_floats(9), *row_cr = lend_floats(9);
+    uint16_t *out = lend_values(54);
+    uint8_t *rgb = lend_bytes(162);
+    ChromaReader any = garbage(0x5A), opened;
+    size_t places[5] = {0, (w + 1) + 2, (h - 1) * (w + 1) + w - 1, w, h * (w + 1)};
+
+    l.sample_bytes = bytes, l.maxval = bytes == 1 ? 254 : 771;
+    memset(planes[0], bytes == 1 ? 254 : 3, y_len);
+    memset(planes[1], bytes == 1 ? 254 : 3, c_len);
+    memset(planes[2], bytes == 1 ? 254 : 3, c_len);
+    opened = chroma_open(l, y, y_len, cb, c_len, cr, c_len, s, scratch, need, any).reader;
+    for (int i = 0; i < 5; i++) {
+        uint8_t *poked = planes[k] + places[i] * bytes + (i % 2 ? bytes - 1 : 0);
+        int inside = i < 3;
+        ChromaReply p;
+        *poked += 1;
+        p = chroma_open(l, y, y_len, cb, c_len, cr, c_len, s, scratch, need, any);
+        SAME(p.refusal, inside ? 17 : 0);
+        CHECK(same_state(&p.reader, inside ? &any : &opened));
+        LOOKED(chroma_linear_plane(l, cb, c_len, s.cb, scratch, need, out, 54), inside && k == 1, out, 108);
+        LOOKED(chroma_guided_plane(l, y, y_len, s.y, cb, c_len, s.cb, scratch, need, out, 54), inside && k < 2, out, 108);
+        LOOKED(chroma_triangular_plane(l, cb, c_len, s.cb, out, 54), inside && k == 1, out, 108);
+        for (uint32_t up = 0; up < 2; up++) {
+            LOOKED(chroma_fill(l, y, y_len, cb, c_len, cr, c_len, s, up, 0, 3, scratch, need, rgb, 162), inside, rgb, 162);
+            /* 7 comes before it, 8, 9 and 10 behind it. */
+            SAME(chroma_fill(l, y, y_len, cb, c_len, cr, 0, s, up, 0, 3, scratch, need, rgb, 162), 7);
+            SAME(chroma_fill(l, y, y_len, cb, c_len, cr, c_len, s, up, 0, 5, NULL, 0, NULL, 0), inside ? 17 : 8);
+            SAME(chroma_fill(l, y, y_len, cb, c_len, cr, c_len, s, up, 0, 4, NULL, 0, NULL, 0), inside ? 17 : 9);
+        }
+        /* A row call takes samples as they are. */
+        p = chroma_row(opened, y, y_len, cb, c_len, cr, c_len, s, 5, scratch, need, row_cb, 9, row_cr, 9);
+        SAME(p.refusal, 0);
+        *poked -= 1;
+    }
+    end_slices();
+}
+
+static void test_above_maxval(void) {
+    for (int k = 0; k < 3; k++) {
+        one_above(1, k);
+        one_above(2, k);
+    }
+}
+
 /* ---- the picture */
 
 static void test_picture(void) {
@@ -921,6 +984,32 @@ static void test_deep_pictures(void) {
     SAME(r.len, len);
     CHECK(memcmp(out, ppm, len) == 0);
     CHECK(memcmp(input, text, n) == 0);
+    end_slices();
+}
+
+/* A sample above the maxval, in each image: 17, which 9 and 10 come behind. */
+static void test_pictures_above(void) {
+    static const char text[] = "P5 1 1 4094\n\017\376P5 1 1 4094\n\017\376P5 1 1 4094\n\017\376";
+    size_t n = sizeof text - 1;
+    uint8_t *input = lend_bytes(n);
+    float *scratch = lend_floats(72);
+    uint8_t *out = lend_bytes(14);
+
+    memcpy(input, text, n);
+    SAME(chroma_picture(input, n, scratch, 72, out, 14).refusal, 0);
+    memset(out, 0xA5, 14), memset(scratch, 0xA5, 4 * 72);
+    for (size_t k = 0; k < 3; k++) {
+        ChromaWritten r;
+        input[14 * k + 13] = 255;
+        r = chroma_picture(input, n, scratch, 72, out, 14);
+        SAME(r.refusal, CHROMA_ABOVE_MAXVAL);
+        SAME(r.len, 0);
+        SAME(chroma_picture(input, n, NULL, 0, NULL, 0).refusal, 17);
+        SAME(chroma_picture(input, n - 1, scratch, 72, out, 14).refusal, 15);
+        input[14 * k + 13] = 254;
+    }
+    CHECK(untouched(out, 14));
+    CHECK(untouched(scratch, 4 * 72));
     end_slices();
 }
 
@@ -1398,9 +1487,11 @@ int main(void) {
     test_fill_one();
     test_fill_studio();
     test_fill_row();
+    test_above_maxval();
     test_picture();
     test_comments();
     test_deep_pictures();
+    test_pictures_above();
     test_largest_pictures();
     test_bits_of_reader();
     test_bits_of_planes();

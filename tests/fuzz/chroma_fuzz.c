@@ -93,7 +93,7 @@ static ChromaLayout layout(void) {
         l.cw = number();
     }
     l.sample_bytes = 1 + take(1) % 3;
-    l.maxval = l.sample_bytes == 1 ? 255 : (uint32_t)take(3);
+    l.maxval = l.sample_bytes == 1 ? (take(1) % 2 ? 255 : (uint32_t)take(1)) : (uint32_t)take(3);
     uint8_t sitings = (uint8_t)take(1);
     l.siting_across = sitings < 128 ? 0 : sitings % 3;
     l.siting_down = sitings < 128 ? 0 : sitings / 3 % 3;
@@ -141,6 +141,29 @@ static Planes planes(ChromaLayout l) {
     return p;
 }
 
+/* Whether a sample of the plane exceeds maxval; it isn't too short. */
+static int above(ChromaLayout l, Slice p, size_t stride, size_t w, size_t h) {
+    const uint8_t *bytes = at(p);
+    for (size_t y = 0; y < h; y++) {
+        for (size_t x = 0; x < w; x++) {
+            const uint8_t *sample = bytes + y * stride + x * l.sample_bytes;
+            if (sample[0] + (l.sample_bytes == 2 ? 256u * sample[1] : 0) > l.maxval) {
+                return 1;
+            }
+        }
+    }
+    return 0;
+}
+
+/* A call that looks at these planes is refused 17 where one has such a sample, and is not accepted then. */
+static void looked(uint32_t refusal, ChromaLayout l, Planes p, int luma, int cb, int cr) {
+    if (refusal == 0 || refusal == 17) {
+        int found = (luma && above(l, p.y, p.strides.y, l.w, l.h)) || (cb && above(l, p.cb, p.strides.cb, l.cw, l.ch))
+            || (cr && above(l, p.cr, p.strides.cr, l.cw, l.ch));
+        check(found == (refusal == 17), "a sample above maxval that was taken, or none that was turned down");
+    }
+}
+
 static void reader(void) {
     ChromaLayout l = layout();
     Planes p = planes(l);
@@ -150,6 +173,7 @@ static void reader(void) {
     ChromaReader strange = state();
     ChromaReply at_row = chroma_open(l, at(y), y.bytes, at(cb), cb.bytes, at(cr), cr.bytes, strides, at(s), s.bytes / 4, strange);
     check(at_row.refusal == 0 || same(&at_row.reader, &strange), "a refused open gave another state");
+    looked(at_row.refusal, l, p, 1, 1, 1);
     for (int k = 0; k < 6; k++) {
         ChromaReader now = take(1) % 8 == 0 ? state() : at_row.reader;
         if (take(1) % 3 == 0) {
@@ -192,6 +216,7 @@ static void whole(void) {
     } else {
         refusal = chroma_triangular_plane(l, at(cb), cb.bytes, strides.cb, at(values), values.bytes / 2);
     }
+    looked(refusal, l, p, kind == 0 || kind == 2, 1, kind == 0);
     done(s, refusal == 0 && kind != 3);
     done(values, refusal == 0 && kind != 0);
     done(out, refusal == 0 && kind == 0);

@@ -104,7 +104,8 @@ pub fn fill(
 }
 
 /// One whole chroma plane (Cb or Cr), interpolated linearly: `w * h` values into `out`, row by row,
-/// rounded halves up and limited to `0..=maxval`, by either siting. Refusals 2, 3, 4, 18, 5, 7 and 10.
+/// rounded halves up and limited to `0..=maxval`, by either siting. Refusals 2, 3, 4, 18, 5, 7,
+/// 17 and 10.
 ///
 /// ```
 /// use chroma::{linear_plane, Layout, Plane, Scratch, Siting};
@@ -129,7 +130,7 @@ pub fn linear_plane(
 }
 
 /// One whole chroma plane, guided by the luma plane `y`: `w * h` values into `out`, laid out,
-/// rounded and limited as those of [`linear_plane`]. Refusals 2, 3, 4, 18, 5, 16, 7 and
+/// rounded and limited as those of [`linear_plane`]. Refusals 2, 3, 4, 18, 5, 16, 7, 17 and
 /// 10.
 ///
 /// ```
@@ -153,7 +154,7 @@ pub fn guided_plane(
 }
 
 /// One whole chroma plane, triangular, in whole numbers: `w * h` values into `out`, row by row.
-/// Refusals 2, 3, 4, 18, 5, 6, 16, 7 and 10.
+/// Refusals 2, 3, 4, 18, 5, 6, 16, 7, 17 and 10.
 ///
 /// ```
 /// use chroma::{triangular_plane, Layout, Plane, Refusal};
@@ -202,7 +203,7 @@ pub fn fixed_pixel(y: u32, cb: u32, cr: u32) -> Result<[u8; 3], Refusal> {
 /// 8 bits, guided and exact. The maxval is any from 1 to 65,535, the same in all three; above 255 a
 /// sample is two bytes, the high byte first (in planes it is the low one). Between `P5` and the maxval a
 /// comment, from `#` through the next CR or LF, counts as whitespace. Refusals 14 and 15 as they are
-/// met, then 2 and 5.
+/// met, then 2, 5 and 17.
 ///
 /// ```
 /// let input = b"P5 1 1 255\n\xe6P5 1 1 255\n\x03P5 1 1 255\n\x80";

@@ -173,7 +173,7 @@ impl Scratch {
     }
 }
 
-/// Three borrowed planes with sizes that were checked: no call on it is refused 2, 3, 5, 7 or 9. Chroma
+/// Three borrowed planes with sizes and samples that were checked: no call on it is refused 2, 3, 5, 7, 17 or 9. Chroma
 /// may be co-sited: then linear calls take it, and a reader or a guided fill is refused 16.
 ///
 /// ```
@@ -185,6 +185,11 @@ impl Scratch {
 ///
 /// let short = Picture::new(layout, Plane::new(&y[..3], 2), Plane::new(&c, 1), Plane::new(&c, 1));
 /// assert_eq!(short.unwrap_err(), Refusal::BadPlane);
+///
+/// // Every sample is looked at, padding and surplus are not.
+/// let grey = Layout { maxval: 39, ..layout };
+/// let bright = Picture::new(grey, Plane::new(&y, 2), Plane::new(&[9], 1), Plane::new(&[9], 1));
+/// assert_eq!(bright.unwrap_err(), Refusal::AboveMaxval);
 /// ```
 #[derive(Clone, Copy, Debug)]
 pub struct Picture<'a> {
@@ -193,7 +198,7 @@ pub struct Picture<'a> {
 }
 
 impl<'a> Picture<'a> {
-    /// The picture of these numbers and planes. Refusals 2, 3, 4, 18, 5 and 7.
+    /// The picture of these numbers and planes. Refusals 2, 3, 4, 18, 5, 7 and 17.
     pub fn new(
         layout: Layout,
         y: Plane<'a>,

@@ -68,6 +68,8 @@ pub enum Refusal {
     TooLarge,
     /// Co-sited chroma on either axis with a guided or triangular call.
     NotCentred,
+    /// A sample inside a plane that exceeds maxval.
+    AboveMaxval,
     /// Studio range with another maxval than 255, or with the fixed kernel.
     BadRange,
     /// A rectangle whose end passes 65,535.
@@ -80,7 +82,7 @@ pub enum Refusal {
 }
 
 impl Refusal {
-    const NAMED: [Refusal; 19] = [
+    const NAMED: [Refusal; 20] = [
         Refusal::BadState,
         Refusal::BadSize,
         Refusal::BadRatio,
@@ -97,6 +99,7 @@ impl Refusal {
         Refusal::BadHeader,
         Refusal::TooLarge,
         Refusal::NotCentred,
+        Refusal::AboveMaxval,
         Refusal::BadRange,
         Refusal::BadRectangle,
         Refusal::BadChart,
@@ -121,6 +124,7 @@ impl Refusal {
             Refusal::BadHeader => 14,
             Refusal::TooLarge => 15,
             Refusal::NotCentred => 16,
+            Refusal::AboveMaxval => 17,
             Refusal::BadRange => 18,
             Refusal::BadRectangle => 19,
             Refusal::BadChart => 20,
@@ -157,6 +161,7 @@ impl fmt::Display for Refusal {
             Refusal::BadHeader => "header not as it should be, or bytes left over",
             Refusal::TooLarge => "size limits passed, or rows missing",
             Refusal::NotCentred => "co-sited chroma, which guided and triangular calls don't take",
+            Refusal::AboveMaxval => "a sample that exceeds maxval",
             Refusal::BadRange => "studio range with another maxval than 255, or the fixed kernel",
             Refusal::BadRectangle => "a rectangle whose end passes 65535",
             Refusal::BadChart => "a chart that is not 2 to 24 shades of three bytes",
@@ -179,7 +184,7 @@ mod tests {
             let refusal = Refusal::check(number).unwrap_err();
             assert_eq!(refusal.number(), number);
             let unknown = matches!(refusal, Refusal::Unknown(_));
-            let named = (1..=16).chain([18, 19, 20]).any(|known| known == number);
+            let named = (1..=17).chain([18, 19, 20]).any(|known| known == number);
             assert_eq!(unknown, !named, "{number}");
         }
     }

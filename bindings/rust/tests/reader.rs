@@ -284,6 +284,48 @@ fn studio_range_is_for_maxval_255_and_the_exact_kernel() {
 }
 
 #[test]
+fn a_sample_above_maxval() {
+    let layout = Layout {
+        sample_bytes: 2,
+        maxval: 4_094,
+        ..Layout::new(4, 2, 2, 2)
+    };
+    let good = |n: usize| [0xfe, 0x0f].repeat(n);
+    let (y, c) = (good(8), good(2));
+    let bright = |at: usize, n: usize| {
+        let mut plane = good(n);
+        plane[2 * at] = 0xff;
+        plane
+    };
+    let picture = |y: &[u8], cb: &[u8], cr: &[u8]| {
+        let plane = |data, stride| Plane::new(data, stride);
+        Picture::new(layout, plane(y, 8), plane(cb, 4), plane(cr, 4)).map(|_| ())
+    };
+    assert_eq!(picture(&y, &c, &c), Ok(()));
+    for at in [0, 3, 7] {
+        assert_eq!(picture(&bright(at, 8), &c, &c), Err(Refusal::AboveMaxval));
+    }
+    for at in [0, 1] {
+        assert_eq!(picture(&y, &bright(at, 2), &c), Err(Refusal::AboveMaxval));
+        assert_eq!(picture(&y, &c, &bright(at, 2)), Err(Refusal::AboveMaxval));
+        // Surplus is not looked at.
+        assert_eq!(picture(&y, &c, &bright(2 + at, 4)), Ok(()));
+    }
+    let (mut scratch, mut out) = (Scratch::new(), [7; 8]);
+    let plane = bright(1, 2);
+    let refused = chroma::linear_plane(layout, Plane::new(&plane, 4), &mut scratch, &mut out);
+    assert_eq!(refused, Err(Refusal::AboveMaxval));
+    assert_eq!(out, [7; 8]);
+    assert_eq!(
+        refused.unwrap_err().to_string(),
+        "refused 17: a sample that exceeds maxval"
+    );
+    let image = |byte: u8| [b"P5 1 1 4094\n\x0f".as_slice(), &[byte]].concat();
+    let files = [image(0xfe), image(0xfe), image(0xff)].concat();
+    assert_eq!(chroma::ppm(&files), Err(Refusal::AboveMaxval));
+}
+
+#[test]
 fn a_picture_of_two_byte_samples() {
     let image = |maxval: u32, sample: [u8; 2]| {
         let mut bytes = format!("P5 1 1 {maxval}\n").into_bytes();

@@ -22,7 +22,7 @@ ready c e =
     let f = failed-both (testsFor (isGuided (c .upsampling)) (isFixed (c .kernel)) l) _ (accepted-failed (fillTests c) e) in
     let p = neither (shortPlane l (l .w) (l .h) (ps .y)) _ (f .1 .1 .0) in
     let q = neither (shortPlane l (l .cw) (l .ch) (ps .cb)) (shortPlane l (l .cw) (l .ch) (ps .cr)) (p .1) in
-    let z = within 3 4 (c .size) (f .1 .1 .1 .0) in
+    let z = within 3 4 (c .size) (f .1 .1 .1 .1 .0) in
     record {
       lent =
           record {
@@ -34,6 +34,6 @@ ready c e =
           };
       size-least = z .0;
       size-most = z .1;
-      scratch = ltb-false (length (c .scratch)) (scratchNeed l) (f .1 .1 .1 .1 .0);
-      output = ltb-false (length (c .out)) (l .w * l .h * c .size) (f .1 .1 .1 .1 .1 .0);
+      scratch = ltb-false (length (c .scratch)) (scratchNeed l) (f .1 .1 .1 .1 .1 .0);
+      output = ltb-false (length (c .out)) (l .w * l .h * c .size) (f .1 .1 .1 .1 .1 .1 .0);
     }

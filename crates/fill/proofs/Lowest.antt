@@ -12,7 +12,7 @@ use Rattle.fill.specs.Fill.{FillGiven}
 
 pub fill-ascends : (c : FillCall) → Ascending 0 (fillTests c)
 unfolding placeOf Ascending testsFor fillTests
-fill-ascends c = (omega arith, (omega arith, (omega arith, (omega arith, (omega arith, (omega arith, (omega arith, (omega arith, (omega arith, (omega arith, tt))))))))))
+fill-ascends c = (omega arith, (omega arith, (omega arith, (omega arith, (omega arith, (omega arith, (omega arith, (omega arith, (omega arith, (omega arith, (omega arith, tt)))))))))))
 
 pub fill-lowest : (c : FillCall) (answer : Answer) (scratch' : List Float) (out' : List ℕ) → FillGiven c answer scratch' out' → Lowest (fillTests c) answer
 fill-lowest c answer scratch' out' g = given-lowest (fillTests c) answer (fill-ascends c) (g .answers)

@@ -10,6 +10,7 @@ use Rattle.image.specs.declared.layout.Layout.{Layout}
 use Rattle.laws.specs.Numbers.{outsideOf}
 use Rattle.image.specs.Tests.{badSiting, testsFor}
 use Rattle.image.specs.Picture.{Planes, badPlanes}
+use Rattle.image.specs.Limits.{aboveAny}
 use Rattle.image.specs.Scratch.{scratchNeed}
 use Rattle.kernels.specs.declared.kernel.YcbcrKernel.{YcbcrKernel}
 use Rattle.kernels.specs.declared.kernel.YcbcrKernel.the-variants.{Exact, FixedPoint16}
@@ -39,9 +40,9 @@ abbrev pub isGuided : ChromaUpsampling → Bool
 isGuided Linear = false
 isGuided LumaGuided = true
 
--- 2, 3, where "Guided and triangular stay with numerator 1", 4, 18, 5, then 16: "Co-sited on either axis with guided", "looked at right after 6", 7, 8: "pixel size not 3 or 4", 9 and 10: "output too short"
+-- 2, 3, where "Guided and triangular stay with numerator 1", 4, 18, 5, then 16: "Co-sited on either axis with guided", "looked at right after 6", 7, 17, "after 7 and before 8", 8: "pixel size not 3 or 4", 9 and 10: "output too short"
 unfoldable pub fillTests : FillCall → List Test
 fillTests c =
     let l = c .layout in
     testsFor (isGuided (c .upsampling)) (isFixed (c .kernel)) l
-    ++ ((isGuided (c .upsampling) && badSiting l, 16) ∷ (badPlanes l (c .planes), 7) ∷ (outsideOf 3 4 (c .size), 8) ∷ (ltb (length (c .scratch)) (scratchNeed l), 9) ∷ (ltb (length (c .out)) (l .w * l .h * c .size), 10) ∷ [])
+    ++ ((isGuided (c .upsampling) && badSiting l, 16) ∷ (badPlanes l (c .planes), 7) ∷ (aboveAny l (c .planes), 17) ∷ (outsideOf 3 4 (c .size), 8) ∷ (ltb (length (c .scratch)) (scratchNeed l), 9) ∷ (ltb (length (c .out)) (l .w * l .h * c .size), 10) ∷ [])

@@ -58,6 +58,7 @@ pub fn fill_answer(
     let answer = layout.answer_for(is_guided(upsampling), is_fixed(kernel));
     let answer = laws::then(answer, bad_guided(layout, upsampling), 16);
     let answer = laws::then(answer, image::bad_planes(layout, y, cb, cr, strides), 7);
+    let answer = image::then_above(answer, layout, y, cb, cr, strides);
     let answer = laws::then(answer, laws::outside(3, 4, size), 8);
     let answer = laws::then(answer, image::short_scratch(layout, s.len()), 9);
     laws::then(

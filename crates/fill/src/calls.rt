@@ -11,7 +11,7 @@ use kernels::YcbcrKernel;
 use laws::Answer;
 
 // The picture's w by h pixels into out, `size` bytes each, red, green and blue first; a fourth byte keeps what it held.
-// Refusals 2, 3, 4, 18, 5, 16 (guided alone), 7, 8, 9 and 10. Scratch afterwards is `fillScratch` of specs/Fill.
+// Refusals 2, 3, 4, 18, 5, 16 (guided alone), 7, 17, 8, 9 and 10. Scratch afterwards is `fillScratch` of specs/Fill.
 pub fn fill(
     layout: Layout,
     y: &[u8],

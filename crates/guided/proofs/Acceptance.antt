@@ -16,6 +16,7 @@ use Rattle.laws.proofs.Refusals.{Failed, accepted-failed, accepted-is, failed-b
 use Rattle.image.specs.Tests.{badSiting, layoutTests}
 use Rattle.image.specs.Inner.Tests.{Sound}
 use Rattle.image.specs.Picture.{badPlanes}
+use Rattle.image.specs.Limits.{aboveAny}
 use Rattle.image.proofs.Layouts.{neither, sound, sound-answer}
 use Rattle.image.specs.Scratch.{scratchNeed}
 use Rattle.guided.specs.declared.state.Reader.{Reader}
@@ -81,6 +82,7 @@ pub record OpenHanded (o : OpenCall) : Type 0 where
   pub layout : Failed (layoutTests false (o .layout))
   pub siting : badSiting (o .layout) ≡ false
   pub planes : badPlanes (o .layout) (o .planes) ≡ false
+  pub limits : aboveAny (o .layout) (o .planes) ≡ false
   pub room : scratchNeed (o .layout) ≤ length (o .scratch)
 
 -- what an accepted open was handed
@@ -88,7 +90,7 @@ pub open-handed : (o : OpenCall) → Failed (openTests o) → OpenHanded o
 unfolding openTests
 open-handed o h =
     let f = failed-both (layoutTests false (o .layout)) _ h in
-    record { layout = f .0; siting = f .1 .0; planes = f .1 .1 .0; room = ltb-false (length (o .scratch)) (scratchNeed (o .layout)) (f .1 .1 .1 .0) }
+    record { layout = f .0; siting = f .1 .0; planes = f .1 .1 .0; limits = f .1 .1 .1 .0; room = ltb-false (length (o .scratch)) (scratchNeed (o .layout)) (f .1 .1 .1 .1 .0) }
 
 pub record SeekHanded (k : SeekCall) : Type 0 where
   pub state : badState (k .reader) ≡ false

@@ -1,14 +1,14 @@
 -- A state passes exactly when some list of accepted calls leaves it.
 -- One way is by cases of the last call. For the other LeftStates names the call, a seek or a row after an open, and what is left is to have
--- such calls accepted: planes, scratch and outputs of just the length that the tests ask for.
+-- such calls accepted: planes of zeros, scratch and outputs of just the length that the tests ask for.
 use mathlib.Core.Path.{_≡_, refl, _∙_}
 use mathlib.Core.Logic.{inl, inr}
-use mathlib.Core.Bool.{true, false}
+use mathlib.Core.Bool.{Bool, true, false, cond}
 use mathlib.Core.List.{[]}
-use Prim.Native.Nat.{ℕ, _+_, _-_, _*_, _<_, zero-le}
+use Prim.Native.Nat.{ℕ, zero, suc, _+_, _-_, _*_, _<_, zero-le}
 use native.Mathlib.Nat.{le-refl}
-use lib.Dec.{ltb}
-use lib.ListN.{length, replicate, length-replicate}
+use lib.Dec.{ltb, eqb}
+use lib.ListN.{length, getD, replicate, length-replicate}
 use lib.Ieee.{nan}
 use borrow.Author.Tests.{le-ltb, lt-leb}
 use Rattle.laws.specs.declared.answers.Answer.the-variants.{Accepted}
@@ -16,8 +16,10 @@ use Rattle.laws.specs.Refusals.{first, accepted}
 use Rattle.laws.proofs.Refusals.{accepted-failed, accepted-is, failed-accepted, passed-early}
 use Rattle.image.specs.declared.layout.Layout.{Layout}
 use Rattle.image.specs.Tests.{badSiting, layoutTests, badPlane}
-use Rattle.image.specs.Samples.{Plane}
+use Rattle.image.specs.Samples.{Plane, sampleOf, sampleAt}
 use Rattle.image.specs.Picture.{Planes, shortPlane, badPlanes}
+use Rattle.image.specs.Limits.{above, aboveAny}
+use Rattle.image.proofs.Any.{none-any}
 use Rattle.image.specs.Scratch.{scratchNeed}
 use Rattle.guided.specs.declared.state.Reader.{Reader}
 use Rattle.guided.specs.Calls.{readerLayout, geometryOf, readerAt, afterOpen, afterSeek, afterRow, badState, OpenCall, SeekCall, RowCall, openTests, seekTests, rowTests}
@@ -55,6 +57,28 @@ blanks-long : (l : Layout) → badPlanes l (blanks l) ≡ false
 unfolding badPlanes
 blanks-long l = rw (blank-long l (l .w) (l .h), blank-long l (l .cw) (l .ch)) refl
 
+-- their samples are 0, which no maxval is below
+blank-byte : (n i : ℕ) → _≡_ {A = ℕ} (getD (replicate n 0) i 0) 0
+blank-byte zero i = refl
+blank-byte (suc n) zero = refl
+blank-byte (suc n) (suc i) = blank-byte n i
+
+blank-sample : (bytes n at : ℕ) → sampleOf bytes (replicate n 0) at ≡ 0
+unfolding sampleOf
+blank-sample bytes n at = rw (blank-byte n at, blank-byte n (at + 1)) (go (eqb bytes 1))
+  where
+    go : (t : Bool) → _≡_ {A = ℕ} (cond t 0 0) 0
+    go true = refl
+    go false = refl
+
+blank-within : (l : Layout) (w h : ℕ) → above l w h (blank l w h) ≡ false
+unfolding above sampleAt
+blank-within l w h = none-any h _ (λ y _. none-any w _ (λ x _. le-ltb (l .maxval) _ (rw blank-sample zero-le)))
+
+blanks-within : (l : Layout) → aboveAny l (blanks l) ≡ false
+unfolding aboveAny
+blanks-within l = rw (blank-within l (l .w) (l .h), blank-within l (l .cw) (l .ch)) refl
+
 abbrev openOf : Layout → Reader → OpenCall
 openOf l s = record { layout = l; planes = blanks l; scratch = replicate (scratchNeed l) nan; reader = s }
 
@@ -80,7 +104,7 @@ module _ (t : Reader) (a : accepted (first (layoutTests false (readerLayout t)))
 
   open-accepted : (s : Reader) → first (openTests (openOf l s)) ≡ Accepted
   unfolding openTests
-  open-accepted s = passed-early (layoutTests false l) _ a ∙ failed-accepted _ (centred, (blanks-long l, (scratch-long, tt)))
+  open-accepted s = passed-early (layoutTests false l) _ a ∙ failed-accepted _ (centred, (blanks-long l, (blanks-within l, (scratch-long, tt))))
 
   after-open-left : (s : Reader) → Left (afterOpen l)
   after-open-left s = by-open (openOf l s) (open-accepted s) refl

@@ -10,7 +10,7 @@ use Rattle.guided.specs.Calls.{OpenCall, SeekCall, RowCall, openTests, s
 
 pub open-ascends : (o : OpenCall) → Ascending 0 (openTests o)
 unfolding placeOf Ascending testsFor openTests
-open-ascends o = (omega arith, (omega arith, (omega arith, (omega arith, (omega arith, (omega arith, (omega arith, (omega arith, tt))))))))
+open-ascends o = (omega arith, (omega arith, (omega arith, (omega arith, (omega arith, (omega arith, (omega arith, (omega arith, (omega arith, tt)))))))))
 
 pub open-lowest : (o : OpenCall) (r : Reply) → OpenGiven o r → Lowest (openTests o) (r .answer)
 open-lowest o r g = given-lowest (openTests o) (r .answer) (open-ascends o) (g .answers)

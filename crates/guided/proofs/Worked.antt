@@ -24,6 +24,7 @@ use Rattle.image.specs.Samples.{sampleOf, sampleAt}
 use Rattle.image.specs.declared.chroma.Chroma.{Chroma}
 use Rattle.image.specs.declared.chroma.Chroma.the-variants.{Cb, Cr}
 use Rattle.image.specs.Picture.{Planes, chromaPlane, inside, pictureOf, ranged, SameButRange, shortPlane, badPlanes}
+use Rattle.image.specs.Limits.{anyOf, above, aboveAny}
 use Rattle.taps.specs.Taps.{spotAt, sitedAt, spotOf, tapBy, phaseOf}
 use Rattle.image.specs.Scratch.{scratchNeed}
 use Rattle.guided.specs.declared.state.Reader.{Reader}
@@ -109,7 +110,7 @@ unfolding rowScratch
 length-scratch c = length-row _ _ _ _ _ _ (c .scratch)
 
 openA-answer : first (openTests openA) ≡ Accepted
-unfolding openTests first testsFor badSize badRatio badSamples badRange divCeil badChroma badSiting badPlane shortPlane badPlanes scratchNeed
+unfolding openTests first testsFor badSize badRatio badSamples badRange divCeil badChroma badSiting badPlane shortPlane badPlanes sampleOf sampleAt anyOf above aboveAny scratchNeed
 openA-answer = refl
 
 badOpen-answer : first (openTests badOpen) ≡ Refused 2
@@ -159,8 +160,8 @@ unfolding rowTests afterOpen afterRow afterSeek readerAt geometryOf readerLayout
 row1-answer = failed-accepted (rowTests row1) (state2, (refl, (rw scratch0 refl, (refl, (refl, (refl, tt))))))
 
 openB-answer : first (openTests openB) ≡ Accepted
-unfolding openTests testsFor badSize badRatio badSamples badRange divCeil badChroma badSiting badPlane shortPlane badPlanes scratchNeed
-openB-answer = failed-accepted (openTests openB) (refl, (refl, (refl, (refl, (refl, (refl, (refl, (rw scratch1 refl, tt))))))))
+unfolding openTests testsFor badSize badRatio badSamples badRange divCeil badChroma badSiting badPlane shortPlane badPlanes sampleOf sampleAt anyOf above aboveAny scratchNeed
+openB-answer = failed-accepted (openTests openB) (refl, (refl, (refl, (refl, (refl, (refl, (refl, (refl, (rw scratch1 refl, tt)))))))))
 
 row2-answer : first (rowTests row2) ≡ Accepted
 unfolding rowTests afterOpen readerAt geometryOf readerLayout badPlane shortPlane badPlanes scratchNeed badSiting
@@ -288,7 +289,7 @@ abbrev eventsF : List Event
 eventsF = openEvent openF ∷ Rowed (rowEvent rowF) ∷ []
 
 openF-answer : first (openTests openF) ≡ Accepted
-unfolding openTests first testsFor badSize badRatio badSamples badRange divCeil badChroma badSiting badPlane shortPlane badPlanes scratchNeed
+unfolding openTests first testsFor badSize badRatio badSamples badRange divCeil badChroma badSiting badPlane shortPlane badPlanes sampleOf sampleAt anyOf above aboveAny scratchNeed
 openF-answer = refl
 
 layoutF-sound : Failed (layoutTests false layoutF)

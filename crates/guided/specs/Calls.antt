@@ -17,6 +17,7 @@ use Rattle.image.specs.Samples.{Plane}
 use Rattle.image.specs.declared.chroma.Chroma.{Chroma}
 use Rattle.image.specs.declared.chroma.Chroma.the-variants.{Cb, Cr}
 use Rattle.image.specs.Picture.{Picture, Planes, chromaPlane, pictureOf, badPlanes}
+use Rattle.image.specs.Limits.{aboveAny}
 use Rattle.fround.specs.Rounding.{sameFloat}
 use Rattle.taps.specs.declared.phases.Phase.{Phase}
 use Rattle.taps.specs.Taps.{tapOf, phaseAt, phasesOf}
@@ -126,9 +127,9 @@ seekCall y reader = record { y = y; reader = reader }
 abbrev pub rowCall : ℕ → Planes → Reader → List Float → List Float → List Float → RowCall
 rowCall y planes reader scratch outCb outCr = record { y = y; planes = planes; reader = reader; scratch = scratch; outCb = outCb; outCr = outCr }
 
--- 2, 3, 4, 18 "in open and plane calls too, right after 4", 5; "Co-sited on either axis with guided (open included)" is 16, "looked at right after 6"
+-- 2, 3, 4, 18 "in open and plane calls too, right after 4", 5; "Co-sited on either axis with guided (open included)" is 16, "looked at right after 6"; "look at all samples inside the planes lent and turn the picture down if one exceeds maxval" is 17, "after 7 and before 8"
 unfoldable pub openTests : OpenCall → List Test
-openTests o = layoutTests false (o .layout) ++ ((badSiting (o .layout), 16) ∷ (badPlanes (o .layout) (o .planes), 7) ∷ (ltb (length (o .scratch)) (scratchNeed (o .layout)), 9) ∷ [])
+openTests o = layoutTests false (o .layout) ++ ((badSiting (o .layout), 16) ∷ (badPlanes (o .layout) (o .planes), 7) ∷ (aboveAny (o .layout) (o .planes), 17) ∷ (ltb (length (o .scratch)) (scratchNeed (o .layout)), 9) ∷ [])
 
 unfoldable pub seekTests : SeekCall → List Test
 seekTests k = (badState (k .reader), 1) ∷ (leb (k .reader .geometry .h) (k .y), 11) ∷ []

@@ -14,7 +14,7 @@ use Rattle.guided_plane.specs.Plane.{guidedTests, GuidedGiven}
 
 pub guided-ascends : (l : Layout) (y c : Plane) (space room : ℕ) → Ascending 0 (guidedTests l y c space room)
 unfolding placeOf Ascending testsFor guidedTests
-guided-ascends l y c space room = (omega arith, (omega arith, (omega arith, (omega arith, (omega arith, (omega arith, (omega arith, (omega arith, (omega arith, tt)))))))))
+guided-ascends l y c space room = (omega arith, (omega arith, (omega arith, (omega arith, (omega arith, (omega arith, (omega arith, (omega arith, (omega arith, (omega arith, tt))))))))))
 
 pub guided-lowest : (l : Layout) (y c : Plane) (scratch : List Float) (out : List ℕ) (answer : Answer) (scratch' : List Float) (out' : List ℕ)
     → GuidedGiven l y c scratch out answer scratch' out' → Lowest (guidedTests l y c (length scratch) (length out)) answer

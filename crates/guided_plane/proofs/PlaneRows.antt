@@ -48,4 +48,4 @@ unfolding guidedTests shortPair
 ready l y c space room e =
     let f = failed-both (layoutTests false l) _ (accepted-failed (guidedTests l y c space room) e) in
     let n = neither (shortPlane l (l .w) (l .h) y) (shortPlane l (l .cw) (l .ch) c) (f .1 .1 .0) in
-    (record { sound = sound false l (f .0); luma = n .0; cb = n .1; cr = λ _. n .1 }, (ltb-false space (scratchNeed l) (f .1 .1 .1 .0), ltb-false room (l .w * l .h) (f .1 .1 .1 .1 .0)))
+    (record { sound = sound false l (f .0); luma = n .0; cb = n .1; cr = λ _. n .1 }, (ltb-false space (scratchNeed l) (f .1 .1 .1 .1 .0), ltb-false room (l .w * l .h) (f .1 .1 .1 .1 .1 .0)))

@@ -14,6 +14,7 @@ use Rattle.image.specs.Tests.{badSiting, layoutTests}
 use Rattle.image.specs.Samples.{Plane}
 use Rattle.image.specs.declared.chroma.Chroma.the-variants.{Cb}
 use Rattle.image.specs.Picture.{Picture, Planes, pictureOf, shortPlane}
+use Rattle.image.specs.Limits.{above}
 use Rattle.fround.specs.Rounding.{roundClamped}
 use Rattle.image.specs.Scratch.{scratchNeed}
 use Rattle.guided.specs.Guided.{guidedSample}
@@ -30,9 +31,13 @@ pictureWith l y c = pictureOf l (planesWith y c)
 unfoldable pub shortPair : Layout → Plane → Plane → Bool
 shortPair l y c = shortPlane l (l .w) (l .h) y || shortPlane l (l .cw) (l .ch) c
 
--- "refusals 2, 3, 4, 5, 7, 9, 10", 18 "right after 4", and 16, "looked at right after 6"; `space` and `room` are how many values scratch and output hold
+-- 17: a sample of luma or of the chroma plane exceeds maxval
+unfoldable pub abovePair : Layout → Plane → Plane → Bool
+abovePair l y c = above l (l .w) (l .h) y || above l (l .cw) (l .ch) c
+
+-- "refusals 2, 3, 4, 5, 7, 9, 10", 18 "right after 4", and 16, "looked at right after 6", and 17, "after 7 and before 8"; `space` and `room` are how many values scratch and output hold
 unfoldable pub guidedTests : Layout → Plane → Plane → ℕ → ℕ → List Test
-guidedTests l y c space room = layoutTests false l ++ ((badSiting l, 16) ∷ (shortPair l y c, 7) ∷ (ltb space (scratchNeed l), 9) ∷ (ltb room (l .w * l .h), 10) ∷ [])
+guidedTests l y c space room = layoutTests false l ++ ((badSiting l, 16) ∷ (shortPair l y c, 7) ∷ (abovePair l y c, 17) ∷ (ltb space (scratchNeed l), 9) ∷ (ltb room (l .w * l .h), 10) ∷ [])
 
 -- the output afterwards: w·h guided samples row by row, "rounded and limited to 0..maxval"; the rest is as it was
 unfoldable pub guidedPlane : Picture → List ℕ → List ℕ

@@ -44,6 +44,8 @@ fn plane_answer(
     let answer = layout.answer(false);
     let answer = laws::then(answer, layout.bad_siting(), 16);
     let answer = laws::then(answer, bad_pair(layout, y, y_stride, c, c_stride), 7);
+    let answer = image::then_plane_above(answer, layout, y, y_stride, layout.w, layout.h);
+    let answer = image::then_plane_above(answer, layout, c, c_stride, layout.cw, layout.ch);
     let answer = laws::then(answer, image::short_scratch(layout, space), 9);
     laws::then(answer, laws::product_passes(layout.w, layout.h, room), 10)
 }
@@ -106,7 +108,7 @@ fn plane_rows(
 }
 
 // One whole chroma plane, guided by luma: w by h values, rounded and limited to 0..=maxval, into out. Refusals 2, 3, 4, 18, 5, 16, 7,
-// 9 and 10. Scratch afterwards is `guidedRows` of guided_rows' specs/CatchingUp.
+// 17, 9 and 10. Scratch afterwards is `guidedRows` of guided_rows' specs/CatchingUp.
 pub fn guided_plane(
     layout: Layout,
     y: &[u8],

@@ -1,4 +1,5 @@
 -- Laws that the proofs and other crates cite.
+pub mod Any
 pub mod Layouts
 pub mod Pictures
 pub mod Planes

@@ -13,7 +13,7 @@ use Rattle.image.proofs.Layouts.{neither}
 use lib.ListN.{length}
 use Rattle.image.specs.declared.layout.Layout.{Layout}
 use Rattle.image.specs.Samples.{Plane, place}
-use Rattle.image.specs.Picture.{shortPlane}
+use Rattle.image.specs.Picture.{Planes, shortPlane, badPlanes}
 
 -- ---- the steps of the test: the stride is below the row; the data ends before the first row's end; it ends before the last row's
 
@@ -55,3 +55,16 @@ sample-inside {bytes} {w} o x y k l = omega (arith, row-inside o y l, row-fits x
 pub short-holds : (l : Layout) (w h : ℕ) (p : Plane) → shortPlane l w h p ≡ false → Holds (l .«sample_bytes») w h (p .stride) (length (p .bytes))
 unfolding shortPlane
 short-holds l w h p e = holds (l .«sample_bytes») w h (p .stride) (length (p .bytes)) e
+
+-- three planes of which none is short
+pub record NoneShort (l : Layout) (ps : Planes) : Type 0 where
+  pub y : shortPlane l (l .w) (l .h) (ps .y) ≡ false
+  pub cb : shortPlane l (l .cw) (l .ch) (ps .cb) ≡ false
+  pub cr : shortPlane l (l .cw) (l .ch) (ps .cr) ≡ false
+
+pub none-short : (l : Layout) (ps : Planes) → badPlanes l ps ≡ false → NoneShort l ps
+unfolding badPlanes
+none-short l ps e =
+    let p = neither (shortPlane l (l .w) (l .h) (ps .y)) _ e in
+    let q = neither (shortPlane l (l .cw) (l .ch) (ps .cb)) (shortPlane l (l .cw) (l .ch) (ps .cr)) (p .1) in
+    record { y = p .0; cb = q .0; cr = q .1 }

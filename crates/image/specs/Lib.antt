@@ -1,5 +1,6 @@
 pub mod Tests
 pub mod Samples
 pub mod Picture
+pub mod Limits
 pub mod Scratch
 pub mod Inner

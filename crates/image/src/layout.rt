@@ -55,8 +55,8 @@ pub fn div_ceil(n: usize, r: usize) -> usize
     n / r + 1
 }
 
-// The largest number that a sample of so many bytes holds: 2^8 - 1 for one byte, 2^16 - 1 for two.
-fn most(sample_bytes: usize) -> usize
+// Inner: the largest number that a sample of so many bytes holds: 2^8 - 1 for one byte, 2^16 - 1 for two.
+pub fn most(sample_bytes: usize) -> usize
     ensures { λ r. ⌜ r ≡ mostOf «sample_bytes» ⌝ }
 {
     if sample_bytes == 1 { 255 } else { 65_535 }

@@ -3,7 +3,7 @@
 -- Only `refused-lowest` needs more: that the places rise along the list (`above`).
 use mathlib.Core.Path.{_≡_, refl, sym, ap, subst, _∙_}
 use mathlib.Core.Logic.{_⊎_, inl, inr}
-use mathlib.Core.Bool.{Bool, true, false, not, cond}
+use mathlib.Core.Bool.{Bool, true, false, _||_, not, cond}
 use mathlib.Core.List.{List, [], _∷_, _++_}
 use Prim.Native.Nat.{ℕ, _≤_}
 use native.Mathlib.Omega.{arith}
@@ -163,6 +163,26 @@ first-further (t ∷ ts) us = go (t .0) (first-further ts us)
     go : (b : Bool) → first (ts ++ us) ≡ folded (first ts) us → pickAnswer b (Refused (t .1)) (first (ts ++ us)) ≡ folded (pickAnswer b (Refused (t .1)) (first ts)) us
     go true e = sym (refused-stays (t .1) us)
     go false e = e
+
+-- where nothing is refused the last test failed, and nothing was refused before it
+pub then-passed : (a : Answer) (bad : Bool) (n : ℕ) → accepted (thenOf a bad n) ≡ true → (accepted a ≡ true) × (bad ≡ false)
+unfolding thenOf
+then-passed Accepted false n e = (refl, refl)
+then-passed Accepted true n e = let z : _≡_ {A = ℕ} 0 1 = cc in absurd (omega arith)
+then-passed (Refused m) bad n e = let z : _≡_ {A = ℕ} 0 1 = cc in absurd (omega arith)
+
+-- two tests with the same number are one
+pub then-either : (a : Answer) (b c : Bool) (n : ℕ) → thenOf (thenOf a b n) c n ≡ thenOf a (b || c) n
+unfolding thenOf
+then-either Accepted true c n = refl
+then-either Accepted false c n = refl
+then-either (Refused m) b c n = refl
+
+-- a refusal that is handed on, and a test asked where there was none
+pub then-kept : (a : Answer) (bad : Bool) (n : ℕ) → accepted a ≡ false → a ≡ thenOf a bad n
+unfolding thenOf
+then-kept Accepted bad n e = let z : _≡_ {A = ℕ} 0 1 = cc in absurd (omega arith)
+then-kept (Refused m) bad n e = refl
 
 -- behind an answer lists count only where it is accepted
 pub folded-same : (a : Answer) (ts us : List Test) → (accepted a ≡ true → first ts ≡ first us) → folded a ts ≡ folded a us

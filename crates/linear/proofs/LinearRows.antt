@@ -101,4 +101,4 @@ pub ready : (l : Layout) (p : Plane) (space room : ℕ) → first (linearTests l
 unfolding linearTests
 ready l p space room e =
     let f = failed-both (testsFor false false l) _ (accepted-failed (linearTests l p space room) e) in
-    (record { shaped = shaped false false l (f .0); plane = f .1 .0; scratch = ltb-false space (scratchNeed l) (f .1 .1 .0) }, ltb-false room (l .w * l .h) (f .1 .1 .1 .0))
+    (record { shaped = shaped false false l (f .0); plane = f .1 .0; scratch = ltb-false space (scratchNeed l) (f .1 .1 .1 .0) }, ltb-false room (l .w * l .h) (f .1 .1 .1 .1 .0))

@@ -14,7 +14,7 @@ use Rattle.linear.specs.Linear.{linearTests, LinearGiven}
 
 pub linear-ascends : (l : Layout) (p : Plane) (space room : ℕ) → Ascending 0 (linearTests l p space room)
 unfolding placeOf Ascending testsFor linearTests
-linear-ascends l p space room = (omega arith, (omega arith, (omega arith, (omega arith, (omega arith, (omega arith, (omega arith, (omega arith, tt))))))))
+linear-ascends l p space room = (omega arith, (omega arith, (omega arith, (omega arith, (omega arith, (omega arith, (omega arith, (omega arith, (omega arith, tt)))))))))
 
 pub linear-lowest : (l : Layout) (p : Plane) (scratch : List Float) (out : List ℕ) (answer : Answer) (scratch' : List Float) (out' : List ℕ)
     → LinearGiven l p scratch out answer scratch' out' → Lowest (linearTests l p (length scratch) (length out)) answer

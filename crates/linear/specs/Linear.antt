@@ -15,6 +15,7 @@ use Rattle.image.specs.declared.layout.Layout.{Layout}
 use Rattle.image.specs.Tests.{testsFor}
 use Rattle.image.specs.Samples.{Plane, sampleAt}
 use Rattle.image.specs.Picture.{shortPlane}
+use Rattle.image.specs.Limits.{above}
 use Rattle.image.specs.Scratch.{scratchNeed}
 use Rattle.fround.specs.Rounding.{roundClamped}
 use Rattle.taps.specs.declared.positions.Tap.{Tap}
@@ -36,9 +37,9 @@ acrossBy t g = lerpOf (g (t .i0)) (g (t .i1)) (t .f)
 unfoldable pub linearSample : Layout → (ℕ → ℕ → ℕ) → ℕ → ℕ → Float
 linearSample l c y x = acrossBy (tapBy (l .across) (l .rh) (l .cw) x) (linearDown l c y)
 
--- "refusals 2, 3, 4, 5, 7, 9, 10", 18 "right after 4", ratios that aren't whole among those taken; `space` and `room` are how many values scratch and output hold
+-- "refusals 2, 3, 4, 5, 7, 9, 10", 18 "right after 4", ratios that aren't whole among those taken, and 17, "after 7 and before 8"; `space` and `room` are how many values scratch and output hold
 unfoldable pub linearTests : Layout → Plane → ℕ → ℕ → List Test
-linearTests l p space room = testsFor false false l ++ ((shortPlane l (l .cw) (l .ch) p, 7) ∷ (ltb space (scratchNeed l), 9) ∷ (ltb room (l .w * l .h), 10) ∷ [])
+linearTests l p space room = testsFor false false l ++ ((shortPlane l (l .cw) (l .ch) p, 7) ∷ (above l (l .cw) (l .ch) p, 17) ∷ (ltb space (scratchNeed l), 9) ∷ (ltb room (l .w * l .h), 10) ∷ [])
 
 -- the output afterwards: w·h values row by row, "rounded and limited to 0..maxval"; the rest is as it was
 unfoldable pub linearPlane : Layout → Plane → List ℕ → List ℕ

@@ -47,6 +47,7 @@ pub fn linear_answer(
         plane.len(),
     );
     let answer = laws::then(answer, short, 7);
+    let answer = image::then_plane_above(answer, layout, plane, stride, layout.cw, layout.ch);
     let answer = laws::then(answer, image::short_scratch(layout, space), 9);
     laws::then(answer, laws::product_passes(layout.w, layout.h, room), 10)
 }
@@ -69,7 +70,7 @@ fn linear_rows(layout: Layout, plane: &[u8], stride: usize, s: &mut [f32], out: 
 }
 
 // One whole chroma plane by linear interpolation: w by h values, rounded and limited to 0..=maxval, into out. It answers refusals 2, 3, 4, 18,
-// 5, 7, 9 and 10. What scratch holds after an accepted call is `linearScratch` of specs/Linear.
+// 5, 7, 17, 9 and 10. What scratch holds after an accepted call is `linearScratch` of specs/Linear.
 pub fn linear_plane(
     layout: Layout,
     plane: &[u8],

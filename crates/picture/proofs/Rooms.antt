@@ -13,6 +13,7 @@ use Rattle.laws.specs.declared.answers.Answer.{Answer}
 use Rattle.laws.specs.declared.answers.Answer.the-variants.{Accepted, Refused as Turned}
 use Rattle.laws.specs.Refusals.{first, accepted}
 use Rattle.laws.proofs.Refusals.{accepted-failed, failed-accepted, failed-both, passed-early, refused-early}
+use Rattle.image.specs.Limits.{exceeds}
 use Rattle.image.specs.Scratch.{scratchNeed}
 use Rattle.netpbm.specs.declared.lines.Line.{Line}
 use Rattle.netpbm.specs.Texts.{lineOf}
@@ -23,7 +24,7 @@ use Rattle.netpbm.specs.Inner.Reading.{readingOf}
 use Rattle.netpbm.specs.Inner.Taken.{Taken}
 use Rattle.netpbm.proofs.Acceptance.{taken}
 use Rattle.picture.specs.declared.Outcome.the-variants.{Written}
-use Rattle.picture.specs.Picture.{ppmLength, pictureTests, pickOutcome, PictureGiven}
+use Rattle.picture.specs.Picture.{inputPicture, ppmLength, lentTests, pictureTests, pickOutcome, PictureGiven}
 use Rattle.netpbm.proofs.Digits.{header-most}
 use Rattle.picture.proofs.Readings.{layout-sound, pixels-most}
 
@@ -46,27 +47,27 @@ module _ (input : List ℕ) (a : first (readingTests input) ≡ Accepted) where
       omega arith
 
 -- with 9,216 values of scratch and 147,472 bytes of out neither 9 nor 10 is ever given
-pub room-enough : (input : List ℕ) (scratch : List Float) (out : List ℕ) → 9216 ≤ length scratch → 147472 ≤ length out → first (pictureTests input scratch out) ≡ first (readingTests input)
-unfolding pictureTests
+pub room-enough : (input : List ℕ) (scratch : List Float) (out : List ℕ) → 9216 ≤ length scratch → 147472 ≤ length out → first (pictureTests input scratch out) ≡ first (readingTests input ++ ((exceeds (inputPicture input), 17) ∷ []))
+unfolding pictureTests lentTests inputPicture first
 room-enough input scratch out g h = go (first (readingTests input)) refl
   where
-    go : (a : Answer) → first (readingTests input) ≡ a → first (readingTests input ++ ((ltb (length scratch) (scratchNeed (inputLayout input)), 9) ∷ (ltb (length out) (ppmLength (inputLayout input)), 10) ∷ [])) ≡ first (readingTests input)
+    go : (a : Answer) → first (readingTests input) ≡ a → first (readingTests input ++ lentTests (inputPicture input) scratch out) ≡ first (readingTests input ++ ((exceeds (inputPicture input), 17) ∷ []))
     go Accepted k =
         passed-early (readingTests input) _ (ap accepted k)
-        ∙ failed-accepted ((ltb (length scratch) (scratchNeed (inputLayout input)), 9) ∷ (ltb (length out) (ppmLength (inputLayout input)), 10) ∷ []) (le-ltb (length scratch) (scratchNeed (inputLayout input)) (omega (arith, scratch-most input k)), (le-ltb (length out) (ppmLength (inputLayout input)) (omega (arith, out-most input k)), tt))
-        ∙ sym k
-    go (Turned n) k = refused-early (readingTests input) _ (ap accepted k)
+        ∙ rw (le-ltb (length scratch) (scratchNeed (inputLayout input)) (omega (arith, scratch-most input k)), le-ltb (length out) (ppmLength (inputLayout input)) (omega (arith, out-most input k))) refl
+        ∙ sym (passed-early (readingTests input) _ (ap accepted k))
+    go (Turned n) k = refused-early (readingTests input) _ (ap accepted k) ∙ sym (refused-early (readingTests input) _ (ap accepted k))
 
 -- a picture that was written fits out
 pub written-fits : {input : List ℕ} {scratch : List Float} {out : List ℕ} {n : ℕ} {scratch' : List Float} {out' : List ℕ} → PictureGiven input scratch out (Written n) scratch' out' → n ≤ length out
-unfolding pictureTests
+unfolding pictureTests lentTests inputPicture
 written-fits {input} {scratch} {out} {n} g = go (first (pictureTests input scratch out)) refl (g .answers)
   where
     go : (a : Answer) → first (pictureTests input scratch out) ≡ a → Written n ≡ pickOutcome a (ppmLength (inputLayout input)) → n ≤ length out
     go Accepted k e =
         let m : n ≡ ppmLength (inputLayout input) = cc in
         let f = failed-both (readingTests input) _ (accepted-failed (pictureTests input scratch out) k) in
-        let b = ltb-false (length out) (ppmLength (inputLayout input)) (f .1 .1 .0) in
+        let b = ltb-false (length out) (ppmLength (inputLayout input)) (f .1 .1 .1 .0) in
         omega arith
     go (Turned j) k e = let z : _≡_ {A = ℕ} 0 1 = cc in absurd (omega arith)
 

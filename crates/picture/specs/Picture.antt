@@ -14,6 +14,7 @@ use Rattle.image.specs.declared.layout.Layout.{Layout}
 use Rattle.image.specs.declared.chroma.Chroma.{Chroma}
 use Rattle.image.specs.declared.chroma.Chroma.the-variants.{Cb, Cr}
 use Rattle.image.specs.Picture.{Picture, inside}
+use Rattle.image.specs.Limits.{exceeds}
 use Rattle.image.specs.Scratch.{scratchNeed}
 use Rattle.kernels.specs.declared.kernel.YcbcrKernel.the-variants.{Exact}
 use Rattle.fill.specs.declared.options.ChromaUpsampling.the-variants.{LumaGuided}
@@ -61,11 +62,15 @@ scratchAfter p scratch = guidedRows p (Cb ∷ Cr ∷ []) 0 (p .layout .h) scratc
 
 -- ---- the reasons for turning the input down
 
--- the reading's "own order", then 9, "scratch too short", and 10, "output too short"
+-- those of a picture that was read: 17, "in the program after 5", then 9, "scratch too short", and 10, "output too short"
+unfoldable pub lentTests : Picture → List Float → List ℕ → List Test
+lentTests p scratch out =
+    let l = p .layout in
+    (exceeds p, 17) ∷ (ltb (length scratch) (scratchNeed l), 9) ∷ (ltb (length out) (ppmLength l), 10) ∷ []
+
+-- the reading's "own order", then those
 unfoldable pub pictureTests : List ℕ → List Float → List ℕ → List Test
-pictureTests input scratch out =
-    let l = inputLayout input in
-    readingTests input ++ ((ltb (length scratch) (scratchNeed l), 9) ∷ (ltb (length out) (ppmLength l), 10) ∷ [])
+pictureTests input scratch out = readingTests input ++ lentTests (inputPicture input) scratch out
 
 -- how many bytes were written where the answer is accepted, and otherwise the answer's number
 abbrev pub pickOutcome : Answer → ℕ → Outcome

@@ -36,11 +36,13 @@ fn open_answer(
     let answer = layout.answer(false);
     let answer = laws::then(answer, layout.bad_siting(), 16);
     let answer = laws::then(answer, image::bad_planes(layout, y, cb, cr, strides), 7);
+    let answer = image::then_above(answer, layout, y, cb, cr, strides);
     laws::then(answer, image::short_scratch(layout, s.len()), 9)
 }
 
-// Opens a picture: its reader is at row 0, and nothing of an earlier picture is left in it. Refusals 2, 3, 4, 18, 5, 16, 7 and 9.
-// `s` is the scratch that the row calls will be lent. `reader` comes back where the picture is refused.
+// Opens a picture: its reader is at row 0, and nothing of an earlier picture is left in it. Refusals 2, 3, 4, 18, 5, 16, 7,
+// 17 and 9: every sample of the planes is looked at here, and by no row call. `s` is the scratch that the row calls will be lent. `reader`
+// comes back where the picture is refused.
 pub fn open(
     layout: Layout,
     y: &[u8],

@@ -4,6 +4,8 @@
 pub use Rattle.laws.specs.Refusals.{Test, accepted, first, placeOf, Ascending, Applies, Lowest}
 -- the rows of the table, and the lists of the calls
 pub use Rattle.image.specs.Tests.{badSize, badPair, badRatio, badSamples, badRange, badChroma, badSiting, badPlane, testsFor, layoutTests}
+-- W6: "look at all samples inside the planes lent and turn the picture down if one exceeds maxval"
+pub use Rattle.image.specs.Limits.{anyOf, above, aboveAny}
 pub use Rattle.guided.specs.Calls.{badState, openTests, seekTests, rowTests}
 pub use Rattle.linear.specs.Linear.{linearTests}
 pub use Rattle.guided_plane.specs.Plane.{guidedTests}

@@ -2,8 +2,10 @@
 // what it left. oracle/plane-cases made the list and what must be written for it: a line of 77 bytes for each call, a kind and 15 words of
 // four hex digits:
 // w h rh rv cw ch sample_bytes maxval(2) stride plane_len space(2) room seed.
-// The plane of a line is chroma; in a guided call of kind `y` it is luma. Where the kind is a capital, the words rh and rv have the axis'
+// The plane of a line is chroma; in a guided call of kind `y` it is luma. The kinds u, m, h and z are t, l, g and y with planes whose samples
+// are at most the maxval. Where the kind is a capital, the words rh and rv have the axis'
 // siting as their first digit, and its numerator less 1 as their second, and the word sample_bytes has the range as its first digit.
+ghost use Prim.Native.Nat.{_<_};
 use laws::Answer;
 use libc::STDIN_FILENO;
 
@@ -26,13 +28,38 @@ fn other_stride(w: usize) -> usize {
     if w <= 8_192 { 2 * w } else { 0 }
 }
 
-// The answer to a guided plane. The plane that isn't the line's, luma but for kind `y`, is the same 20,000 bytes for all lines.
+// A line's kind: the letter itself, or the one before it where the letter says that samples are at most the maxval.
+fn kind(text: &[u8]) -> u8 {
+    match test_support::kind(text) {
+        b'u' => b't',
+        b'm' => b'l',
+        b'h' => b'g',
+        b'z' => b'y',
+        letter => letter,
+    }
+}
+
+// A plane of n bytes, n < 65,536, by a line's kind: with samples that are at most the maxval, or for kind `e` samples of two bytes at their
+// ends, or bytes of all values.
+fn drawn(text: &[u8], n: usize, seed: usize) -> [u8; 65_536]
+    requires { ⌜ n < 65536 ⌝ }
+{
+    let letter = test_support::kind(text);
+    if letter != kind(text) {
+        let most = test_support::long(text, 7) as u32;
+        return test_support::grown_held(n, seed, test_support::size(text, 6), most);
+    }
+    test_support::grown(n, seed, if letter == b'e' { 5 } else { 0 })
+}
+
+// The answer to a guided plane. The plane that isn't the line's, luma but for kind `y`, is the same 20,000 bytes for all lines of its kind and
+// maxval.
 fn guided(text: &[u8], plane: &[u8], s: &mut [f32], out: &mut [u16]) -> Answer {
-    let other = test_support::grown(20_000, OTHER, 0);
+    let other = drawn(text, 20_000, OTHER);
     let layout = test_support::layout(text);
     let stride = test_support::size(text, 9);
     let apart = other_stride(layout.w);
-    if test_support::kind(text) == b'y' {
+    if kind(text) == b'y' {
         return reconstruction::guided_plane(layout, plane, stride, &other[..20_000], apart, s, out);
     }
     reconstruction::guided_plane(layout, &other[..20_000], apart, plane, stride, s, out)
@@ -40,7 +67,7 @@ fn guided(text: &[u8], plane: &[u8], s: &mut [f32], out: &mut [u16]) -> Answer {
 
 // The answer to the call that a line's kind names.
 fn called(text: &[u8], plane: &[u8], s: &mut [f32], out: &mut [u16]) -> Answer {
-    match test_support::kind(text) {
+    match kind(text) {
         b't' => reconstruction::triangular_plane(
             test_support::layout(text),
             plane,
@@ -66,21 +93,12 @@ fn write_call(text: &[u8], plane: &[u8], s: &mut [f32], out: &mut [u16]) {
     test_support::write_line(answer, test_support::sum_floats(sum, s, spared));
 }
 
-// The shape of a line's plane: for kind `e` samples of two bytes at their ends, else bytes of all values.
-fn shape(text: &[u8]) -> usize {
-    if test_support::kind(text) == b'e' {
-        5
-    } else {
-        0
-    }
-}
-
 // Makes a line's call with scratch and `out` that no call has touched, as long as the line says.
 fn replay(text: &[u8]) {
     let plane_len = test_support::word(text, 10);
     let space = laws::least(test_support::long(text, 11), 200_000);
     let room = test_support::word(text, 13);
-    let plane = test_support::grown(plane_len, test_support::word(text, 14), shape(text));
+    let plane = drawn(text, plane_len, test_support::word(text, 14));
     let mut s = marked();
     let mut out = unwritten();
     write_call(text, &plane[..plane_len], &mut s[..space], &mut out[..room]);

@@ -33,6 +33,7 @@ pub use lines::siting;
 pub use lines::strides;
 pub use planes::grow;
 pub use planes::grown;
+pub use planes::grown_held;
 pub use planes::plane;
 pub use planes::spelled_plane;
 pub use words::byte;

@@ -62,6 +62,46 @@ pub fn grown(n: usize, seed: usize, shape: usize) -> [u8; 65_536]
     plane
 }
 
+// The upper sixteen bits of a state, as a sample that is at most `most`.
+fn held(state: u32, most: u32) -> u32 {
+    if 65_535 <= most {
+        return state / 65_536;
+    }
+    state / 65_536 % (most + 1)
+}
+
+// Byte i of a plane whose samples are at most `most`. Samples of two bytes begin at even places, and are held by the state of their upper
+// byte.
+fn held_byte(state: u32, sample_bytes: usize, most: u32, i: usize) -> u8 {
+    if sample_bytes == 1 {
+        return (held(state, most) % 256) as u8;
+    }
+    if i % 2 == 0 {
+        return (held(next(state), most) % 256) as u8;
+    }
+    (held(state, most) / 256 % 256) as u8
+}
+
+// Fills a plane with samples that are at most `most`, from the generator's states behind a seed.
+fn grow_held(plane: &mut [u8], seed: usize, sample_bytes: usize, most: u32) {
+    let mut state = (seed % 4_294_967_296) as u32;
+    let mut i = 0;
+    while i < plane.len() {
+        state = next(state);
+        plane[i] = held_byte(state, sample_bytes, most, i);
+        i += 1;
+    }
+}
+
+// Inner: a plane of n bytes whose samples are at most `most`, at the front of a buffer like that of `grown`.
+pub fn grown_held(n: usize, seed: usize, sample_bytes: usize, most: u32) -> [u8; 65_536]
+    requires { ⌜ n < 65536 ⌝ }
+{
+    let mut plane = io::large_buffer();
+    grow_held(&mut plane[..n], seed, sample_bytes, most);
+    plane
+}
+
 // Fills a plane with the bytes that a line spells, from byte `from` of those on.
 fn spell(plane: &mut [u8], spelling: &[u8], from: usize) {
     let mut i = 0;
@@ -90,7 +130,7 @@ fn start(text: &[u8], k: usize) -> usize {
 }
 
 // Inner: plane k of the three that a line speaks of: 0 is Y, 1 Cb and 2 Cr. Shape 3 is spelled by `spelling`, a line of its own; the seeds of
-// the others follow each other, so that no two are alike.
+// the others follow each other, so that no two are alike. The samples of shape 6 are at most the line's maxval.
 pub fn plane(text: &[u8], spelling: &[u8], k: usize) -> [u8; 65_536]
     requires { ⌜ k < 3 ⌝ }
 {
@@ -99,5 +139,10 @@ pub fn plane(text: &[u8], spelling: &[u8], k: usize) -> [u8; 65_536]
     if shape == 3 {
         return spelled_plane(n, spelling, start(text, k));
     }
-    grown(n, crate::words::word(text, 15) + k, shape)
+    let seed = crate::words::word(text, 15) + k;
+    if shape == 6 {
+        let most = crate::words::long(text, 7) as u32;
+        return grown_held(n, seed, crate::words::size(text, 6), most);
+    }
+    grown(n, seed, shape)
 }

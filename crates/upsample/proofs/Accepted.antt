@@ -36,7 +36,7 @@ taken l p room e =
       size = sound false l (f .0);
       kind = f .1 .0;
       plane = short-holds l (l .cw) (l .ch) p (f .1 .1 .1 .0);
-      output = ltb-false room (l .w * l .h) (f .1 .1 .1 .1 .0);
+      output = ltb-false room (l .w * l .h) (f .1 .1 .1 .1 .1 .0);
     }
 
 -- ---- the three kinds

@@ -13,7 +13,7 @@ use Rattle.upsample.specs.Triangular.{triangularTests, TriangularGiven}
 
 pub triangular-ascends : (l : Layout) (p : Plane) (room : ℕ) → Ascending 0 (triangularTests l p room)
 unfolding placeOf Ascending testsFor triangularTests
-triangular-ascends l p room = (omega arith, (omega arith, (omega arith, (omega arith, (omega arith, (omega arith, (omega arith, (omega arith, (omega arith, tt)))))))))
+triangular-ascends l p room = (omega arith, (omega arith, (omega arith, (omega arith, (omega arith, (omega arith, (omega arith, (omega arith, (omega arith, (omega arith, tt))))))))))
 
 pub triangular-lowest : (l : Layout) (p : Plane) (before : List ℕ) (answer : Answer) (after : List ℕ)
     → TriangularGiven l p before answer after → Lowest (triangularTests l p (length before)) answer

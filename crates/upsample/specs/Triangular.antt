@@ -12,6 +12,7 @@ use Rattle.image.specs.declared.layout.Layout.{Layout}
 use Rattle.image.specs.Tests.{badSiting, layoutTests}
 use Rattle.image.specs.Samples.{Plane, sampleAt}
 use Rattle.image.specs.Picture.{shortPlane}
+use Rattle.image.specs.Limits.{above}
 use Rattle.upsample.specs.Weights.{even, weighed, oneAxis}
 
 -- "Both axes: vertical sums 3·near + far, then the same across with b = 8 and 7 and >> 4"; c j i is cell i of row j
@@ -33,9 +34,9 @@ ratios l rh rv = eqb (l .rh) rh && eqb (l .rv) rv
 unfoldable pub badTriangular : Layout → Bool
 badTriangular l = not (ratios l 2 1 || (ratios l 1 2 || ratios l 2 2)) || (eqb (l .rh) 2 && leb (l .cw) 2)
 
--- "Refusals 2, 3, 4, 5, 6, 7, 10, lowest first", 18 "right after 4" and 16 "looked at right after 6"; `room` is how many values the output holds
+-- "Refusals 2, 3, 4, 5, 6, 7, 10, lowest first", 18 "right after 4" and 16 "looked at right after 6", and 17, "after 7 and before 8"; `room` is how many values the output holds
 unfoldable pub triangularTests : Layout → Plane → ℕ → List Test
-triangularTests l p room = layoutTests false l ++ ((badTriangular l, 6) ∷ (badSiting l, 16) ∷ (shortPlane l (l .cw) (l .ch) p, 7) ∷ (ltb room (l .w * l .h), 10) ∷ [])
+triangularTests l p room = layoutTests false l ++ ((badTriangular l, 6) ∷ (badSiting l, 16) ∷ (shortPlane l (l .cw) (l .ch) p, 7) ∷ (above l (l .cw) (l .ch) p, 17) ∷ (ltb room (l .w * l .h), 10) ∷ [])
 
 -- the output afterwards: the first w·h values are the plane's, row by row, the rest is as it was; all of it is, where the call was refused
 unfoldable pub triangularPlane : Layout → Plane → List ℕ → List ℕ

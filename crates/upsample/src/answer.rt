@@ -22,7 +22,7 @@ fn bad_triangular(layout: Layout) -> bool
     laws::either(!known, laws::both(layout.rh == 2, layout.cw <= 2))
 }
 
-// Inner: the first of refusals 2, 3, 4, 18, 5, 6, 16, 7 and 10 that applies, which is the order of the table. `room` is the length of the output.
+// Inner: the first of refusals 2, 3, 4, 18, 5, 6, 16, 7, 17 and 10 that applies, which is the order of the table. `room` is the length of the output.
 pub fn triangular_answer(layout: Layout, plane: &[u8], stride: usize, room: usize) -> Answer
     ensures { λ r. ⌜ r ≡ first (triangularTests layout (planeOf (now (plane .entry)) stride) room) ⌝ }
 {
@@ -37,5 +37,6 @@ pub fn triangular_answer(layout: Layout, plane: &[u8], stride: usize, room: usiz
         plane.len(),
     );
     let answer = laws::then(answer, short, 7);
+    let answer = image::then_plane_above(answer, layout, plane, stride, layout.cw, layout.ch);
     laws::then(answer, laws::product_passes(layout.w, layout.h, room), 10)
 }

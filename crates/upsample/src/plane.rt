@@ -52,7 +52,7 @@ fn triangular(layout: Layout, plane: &[u8], stride: usize, out: &mut [u16])
 }
 
 // One whole chroma plane by triangular weights: w by h values into out. It answers refusals 2, 3, 4, 18, 5, 6,
-// 16, 7 and 10, and takes no scratch.
+// 16, 7, 17 and 10, and takes no scratch.
 pub fn triangular_plane(layout: Layout, plane: &[u8], stride: usize, out: &mut [u16]) -> Answer
     ensures { λ r. ⌜ TriangularGiven layout (planeOf (now (plane .entry)) stride) (now (out .entry)) r (now (out .exit)) ⌝ }
 {

@@ -13,8 +13,8 @@ enum-known-n c = search needs
 enum-known-layout : tie.Need-enum-known-layout
 enum-known-layout c = search needs
 
-written-requires : tie.Need-written-requires
-written-requires c κs = sym (c .before .before .before .before .before .read .ensures) ∙ c .before .before .before .layout .given .1
+convert-requires : tie.Need-convert-requires
+convert-requires c κs = sym (c .before .before .before .before .before .read .ensures) ∙ c .before .before .before .layout .given .1
 
 returns : tie.Need-returns
 returns c =
@@ -28,7 +28,7 @@ same-length-2 : tie.Need-same-length-2
 same-length-2 c = search needs
 
 returns-2 : tie.Need-returns-2
-returns-2 c = c .before .before .before .before .written .ensures
+returns-2 c = c .before .before .before .before .convert .ensures
 
 pub picture-spec : {M : Type 1} → statement M
 picture-spec =
@@ -37,7 +37,7 @@ picture-spec =
     read-requires
     enum-known-n
     enum-known-layout
-    written-requires
+    convert-requires
     returns
     same-length
     same-length-2

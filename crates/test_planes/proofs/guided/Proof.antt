@@ -6,8 +6,8 @@ use borrow.Author.Needs.{needs}
 use Rattle.test_planes.proofs.guided.Statement.{statement}
 use Rattle.test_planes.proofs.guided.Tie as tie
 
-grown-requires : tie.Need-grown-requires
-grown-requires c κs = search needs
+drawn-requires : tie.Need-drawn-requires
+drawn-requires c κs = search needs
 
 layout-requires : tie.Need-layout-requires
 layout-requires c κs = search needs
@@ -61,7 +61,7 @@ pub guided-spec : {M : Type 1} → statement M
 guided-spec =
     tie.close
     (tie.spec
-    grown-requires
+    drawn-requires
     layout-requires
     size-requires
     other-stride-requires

@@ -21,11 +21,8 @@ word-requires-2 c κs = search needs
 word-requires-3 : tie.Need-word-requires-3
 word-requires-3 c κs = search needs
 
-shape-requires : tie.Need-shape-requires
-shape-requires c κs = search needs
-
-grown-requires : tie.Need-grown-requires
-grown-requires c κs = search needs
+drawn-requires : tie.Need-drawn-requires
+drawn-requires c κs = search needs
 
 marked-requires : tie.Need-marked-requires
 marked-requires c κs = search needs
@@ -66,8 +63,7 @@ replay-spec =
     least-requires
     word-requires-2
     word-requires-3
-    shape-requires
-    grown-requires
+    drawn-requires
     marked-requires
     unwritten-requires
     array-share-prefix-plane

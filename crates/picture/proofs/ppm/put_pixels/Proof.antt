@@ -6,38 +6,32 @@ use Rattle.picture.proofs.Readings.{strides-most, rows-inside, filled}
 use Rattle.picture.proofs.ppm.put_pixels.Statement.{statement}
 use Rattle.picture.proofs.ppm.put_pixels.Tie as tie
 
-mul-fill : tie.Need-mul-fill
-mul-fill c = let i = strides-most (c .before .before .before .before .pre .0) in omega arith
-
-mul-fill-2 : tie.Need-mul-fill-2
-mul-fill-2 c = let i = strides-most (c .before .before .before .before .before .pre .0) in omega arith
-
-mul-fill-3 : tie.Need-mul-fill-3
-mul-fill-3 c = let i = strides-most (c .before .before .before .before .before .before .pre .0) in omega arith
+strides-of-requires : tie.Need-strides-of-requires
+strides-of-requires c κs = strides-most (c .before .before .before .pre .0)
 
 sub-fill : tie.Need-sub-fill
-sub-fill c = let i = rows-inside (c .before .before .before .before .before .before .pre .0) in omega arith
+sub-fill c = let i = rows-inside (c .before .before .before .before .pre .0) in omega arith
 
 part-fill-start : tie.Need-part-fill-start
-part-fill-start c = let i = rows-inside (c .before .before .before .before .before .before .pre .0) in omega arith
+part-fill-start c = let i = rows-inside (c .before .before .before .before .pre .0) in omega arith
 
 part-fill-end : tie.Need-part-fill-end
 part-fill-end c = search needs
 
 sub-fill-2 : tie.Need-sub-fill-2
-sub-fill-2 c = let i = rows-inside (c .before .before .before .before .before .before .before .pre .0) in omega arith
+sub-fill-2 c = let i = rows-inside (c .before .before .before .before .before .pre .0) in omega arith
 
 part-fill-start-2 : tie.Need-part-fill-start-2
-part-fill-start-2 c = let i = rows-inside (c .before .before .before .before .before .before .before .pre .0) in omega arith
+part-fill-start-2 c = let i = rows-inside (c .before .before .before .before .before .pre .0) in omega arith
 
 part-fill-end-2 : tie.Need-part-fill-end-2
 part-fill-end-2 c = search needs
 
 sub-fill-3 : tie.Need-sub-fill-3
-sub-fill-3 c = let i = rows-inside (c .before .before .before .before .before .before .before .before .pre .0) in omega arith
+sub-fill-3 c = let i = rows-inside (c .before .before .before .before .before .before .pre .0) in omega arith
 
 part-fill-start-3 : tie.Need-part-fill-start-3
-part-fill-start-3 c = let i = rows-inside (c .before .before .before .before .before .before .before .before .pre .0) in omega arith
+part-fill-start-3 c = let i = rows-inside (c .before .before .before .before .before .before .pre .0) in omega arith
 
 part-fill-end-3 : tie.Need-part-fill-end-3
 part-fill-end-3 c = search needs
@@ -53,18 +47,16 @@ same-length-2 c = search needs
 
 returns : tie.Need-returns
 returns c =
-    let s = c .before .before .before .before .before .before .before .before .before .before .before .before .before .before .before .before in
+    let s = c .before .before .before .before .before .before .before .before .before .before .before .before .before .before in
     let p = s .pre in
     let a = s .args in
-    filled (a .planes .now) (a .layout) (a .y) (a .cb) (a .cr) (p .0) (a .s .now) (a .out .now) (p .1 .0) (p .1 .1) _ _ _ (c .before .before .before .before .fill .ensures)
+    filled (a .planes .now) (a .layout) (a .y) (a .cb) (a .cr) (p .0) (p .1 .0) (a .s .now) (a .out .now) (p .1 .1 .0) (p .1 .1 .1) _ _ _ _ (c .before .before .before .before .before .before .before .before .before .before .strides-of .ensures) (c .before .before .before .before .fill .ensures)
 
 pub put-pixels-spec : {M : Type 1} → statement M
 put-pixels-spec =
     tie.close
     (tie.spec
-    mul-fill
-    mul-fill-2
-    mul-fill-3
+    strides-of-requires
     sub-fill
     part-fill-start
     part-fill-end

@@ -22,10 +22,10 @@ record Room (c : tie.Start) : Type 0 where
 room : (c : tie.Start) → Room c
 room c =
     let a = c .args in
-    let n = line-length _ _ (c .pre .1 .0) in
+    let n = line-length _ _ (c .pre .1 .1 .0) in
     let m = header-most (a .layout .w) (a .layout .h) (c .pre .0 .width) in
     let k = ppm-covers (a .layout) in
-    let g = c .pre .1 .1 .1 in
+    let g = c .pre .1 .1 .1 .1 in
     record { long = n; line = omega arith; ends = omega arith }
 
 -- the line leaves out as long as it was
@@ -51,7 +51,7 @@ put-pixels-requires c κs =
     let r = room s in
     let e = same l in
     let d = length-drop (s .args .header .len) (l .put-line .last .1 .0) in
-    (s .pre .0, (s .pre .1 .1 .0, rw (to-end (l .put-line .last .1 .0) (s .args .header .len)) (omega arith)))
+    (s .pre .0, (s .pre .1 .0, (s .pre .1 .1 .1 .0, rw (to-end (l .put-line .last .1 .0) (s .args .header .len)) (omega arith))))
 
 same-length : tie.Need-same-length
 same-length c = search needs
@@ -66,7 +66,7 @@ returns c =
     let a = s .args in
     let r = room s in
     let w = c .before .before .before .before .put-pixels .ensures in
-    (ppm-is _ (a .layout) (picture-layout (a .planes .now) (a .layout) (a .y) (a .cb) (a .cr)) (a .header) (s .pre .1 .0) (a .out .now) (omega arith) _ _ (l .put-line .ensures) (w .0), w .1)
+    (ppm-is _ (a .layout) (picture-layout (a .planes .now) (a .layout) (a .y) (a .cb) (a .cr)) (a .header) (s .pre .1 .1 .0) (a .out .now) (omega arith) _ _ (l .put-line .ensures) (w .0), w .1)
 
 pub put-ppm-spec : {M : Type 1} → statement M
 put-ppm-spec =
