@@ -64,7 +64,7 @@ fn input_by(w: usize, h: usize, (nh, rh): (usize, usize), (nv, rv): (usize, usiz
         w, h, rh, rv, cw, ch, sample_bytes, maxval, siting_across: 0, siting_down: 0, num_across: nh, num_down: nv,
         range: 0,
     };
-    Input { layout, planes, strides, beside, scratch: vec![0.0; 64 * cw + 8 * w] }
+    Input { layout, planes, strides, beside, scratch: vec![0.0; 32 * cw + 8 * w] }
 }
 
 /// Best times of both, and whether both gave the same.

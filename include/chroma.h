@@ -48,7 +48,7 @@ extern "C" {
 /* The interface that this header describes, 0xMMmmpp: raised whenever a struct, a number or a call
  * moves. chroma_version gives that of the library that is linked: a program that was compiled
  * against another one should stop. */
-#define CHROMA_VERSION 0x000700
+#define CHROMA_VERSION 0x000800
 uint32_t chroma_version(void);
 
 /* What a call answers: the first number of its list that applies, where lists follow the order
@@ -207,12 +207,12 @@ typedef struct ChromaChartReading {
  * too, where CHROMA_PICTURE_SCRATCH always suffices). Scratch may hold anything at first; calloc
  * gives memory that counts as written. */
 static inline size_t chroma_scratch_need(size_t cw, size_t w) {
-    return 64 * cw + 8 * w;
+    return 32 * cw + 8 * w;
 }
 
 /* Enough for any input that chroma_picture accepts: bytes of input, floats, bytes of output. */
 #define CHROMA_PICTURE_INPUT 49152
-#define CHROMA_PICTURE_SCRATCH 9216
+#define CHROMA_PICTURE_SCRATCH 5120
 #define CHROMA_PICTURE_OUTPUT 147472
 
 /* Opens a picture: gives its reader at row 0. `scratch` is the slice that the row calls will

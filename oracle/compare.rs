@@ -125,7 +125,7 @@ fn original(p: &Picture) -> oracle::Picture {
 }
 
 fn scratch_need(l: Layout) -> usize {
-    64 * l.cw + 8 * l.w
+    32 * l.cw + 8 * l.w
 }
 
 /// Whether the first values are the original's and the rest unwritten.

@@ -217,6 +217,8 @@ static void test_fields(void) {
     ChromaReply p;
 
     SAME(chroma_version(), CHROMA_VERSION);
+    SAME(need, 32 * 6 + 8 * 21);
+    SAME(CHROMA_PICTURE_SCRATCH, chroma_scratch_need(128, 128));
     SAME(l.cw, 6);
     SAME(l.ch, 5);
     l.sample_bytes = 2, l.maxval = 4095;
@@ -300,7 +302,7 @@ static void test_linear_plane(void) {
     float *scratch = lend_floats(need);
     uint16_t *out = lend_values(5);
     plane[0] = 0, plane[1] = 100;
-    SAME(need, 160);
+    SAME(need, 96);
 
     SAME(chroma_linear_plane(l, plane, 2, 2, scratch, need - 1, out, 5), 9);
     SAME(chroma_linear_plane(l, plane, 2, 2, scratch, need, out, 3), 10);
@@ -899,26 +901,26 @@ static void test_picture(void) {
     size_t n = sizeof text - 1;
     size_t len = sizeof ppm - 1;
     uint8_t *input = lend_bytes(n);
-    float *scratch = lend_floats(72);
+    float *scratch = lend_floats(40);
     uint8_t *out = lend_bytes(len + 1);
     ChromaWritten r;
     memcpy(input, text, n);
 
-    r = chroma_picture(input, n - 1, scratch, 72, out, len);
+    r = chroma_picture(input, n - 1, scratch, 40, out, len);
     SAME(r.refusal, 15);
     SAME(r.len, 0);
-    r = chroma_picture(input + 1, n - 1, scratch, 72, out, len);
+    r = chroma_picture(input + 1, n - 1, scratch, 40, out, len);
     SAME(r.refusal, 14);
     r = chroma_picture(NULL, 0, NULL, 0, NULL, 0);
     SAME(r.refusal, 14);
-    r = chroma_picture(input, n, scratch, 71, out, len);
+    r = chroma_picture(input, n, scratch, 39, out, len);
     SAME(r.refusal, 9);
-    r = chroma_picture(input, n, scratch, 72, out, len - 1);
+    r = chroma_picture(input, n, scratch, 40, out, len - 1);
     SAME(r.refusal, 10);
     CHECK(untouched(out, len + 1));
-    CHECK(untouched(scratch, 4 * 72));
+    CHECK(untouched(scratch, 4 * 40));
 
-    r = chroma_picture(input, n, scratch, 72, out, len + 1);
+    r = chroma_picture(input, n, scratch, 40, out, len + 1);
     SAME(r.refusal, 0);
     SAME(r.len, len);
     CHECK(memcmp(out, ppm, len) == 0);
@@ -933,20 +935,20 @@ static void test_comments(void) {
     static const char ppm[] = "P6\n1 1\n255\n\346\377\011";
     size_t len = sizeof ppm - 1;
     uint8_t *input = lend_bytes(sizeof text);
-    float *scratch = lend_floats(72);
+    float *scratch = lend_floats(40);
     uint8_t *out = lend_bytes(len);
     ChromaWritten r;
 
     memcpy(input, behind, sizeof behind - 1);
-    r = chroma_picture(input, sizeof behind - 1, scratch, 72, out, len);
+    r = chroma_picture(input, sizeof behind - 1, scratch, 40, out, len);
     SAME(r.refusal, 14);
     memcpy(input, "P5 #never 1 1 255", 17);
-    r = chroma_picture(input, 17, scratch, 72, out, len);
+    r = chroma_picture(input, 17, scratch, 40, out, len);
     SAME(r.refusal, 14);
     CHECK(untouched(out, len));
 
     memcpy(input, text, sizeof text - 1);
-    r = chroma_picture(input, sizeof text - 1, scratch, 72, out, len);
+    r = chroma_picture(input, sizeof text - 1, scratch, 40, out, len);
     SAME(r.refusal, 0);
     SAME(r.len, len);
     CHECK(memcmp(out, ppm, len) == 0);
@@ -959,27 +961,27 @@ static void test_deep_pictures(void) {
     static const char ppm[] = "P6\n1 1\n255\n\200\200\200";
     size_t n = sizeof text - 1, len = sizeof ppm - 1;
     uint8_t *input = lend_bytes(n);
-    float *scratch = lend_floats(72);
+    float *scratch = lend_floats(40);
     uint8_t *out = lend_bytes(len);
     ChromaWritten r;
 
     memcpy(input, text, n);
-    r = chroma_picture(input, n - 1, scratch, 72, out, len);
+    r = chroma_picture(input, n - 1, scratch, 40, out, len);
     SAME(r.refusal, 15);
     input[38] = '4'; /* the third maxval is 4094 where it was 4095; the header is met before its missing row */
-    r = chroma_picture(input, n - 1, scratch, 72, out, len);
+    r = chroma_picture(input, n - 1, scratch, 40, out, len);
     SAME(r.refusal, 14);
     CHECK(untouched(out, len));
-    CHECK(untouched(scratch, 4 * 72));
+    CHECK(untouched(scratch, 4 * 40));
     memcpy(input, "P5 1 1 65536\n", 13);
-    r = chroma_picture(input, n, scratch, 72, out, len);
+    r = chroma_picture(input, n, scratch, 40, out, len);
     SAME(r.refusal, 14);
     memcpy(input, "P5 1 1 00000\n", 13);
-    r = chroma_picture(input, n, scratch, 72, out, len);
+    r = chroma_picture(input, n, scratch, 40, out, len);
     SAME(r.refusal, 14);
 
     memcpy(input, text, n);
-    r = chroma_picture(input, n, scratch, 72, out, len);
+    r = chroma_picture(input, n, scratch, 40, out, len);
     SAME(r.refusal, 0);
     SAME(r.len, len);
     CHECK(memcmp(out, ppm, len) == 0);
@@ -1332,6 +1334,10 @@ static void test_surplus(void) {
             for (int k = 0; k < 5; k++)
                 surplus_keeps_its_bits(widths[k], 7, rh, rv);
     surplus_keeps_its_bits(600, 3, 2, 2);
+    /* Round the limits of the padding between rows of cells. */
+    surplus_keeps_its_bits(256, 3, 1, 1);
+    surplus_keeps_its_bits(513, 3, 2, 1);
+    surplus_keeps_its_bits(840, 3, 1, 2);
 }
 
 /* ---- patches */

@@ -216,7 +216,7 @@ pub fn fixed_pixel(y: u32, cb: u32, cr: u32) -> Result<[u8; 3], Refusal> {
 /// ```
 pub fn ppm(input: &[u8]) -> Result<Vec<u8>, Refusal> {
     // Enough for any input that is accepted: include/chroma.h.
-    const SCRATCH: usize = 9_216;
+    const SCRATCH: usize = 5_120;
     const OUTPUT: usize = 147_472;
     let mut out = vec![0; OUTPUT];
     let written = ffi::picture(input, &mut vec![0.0; SCRATCH], &mut out)?;

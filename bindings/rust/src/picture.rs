@@ -130,7 +130,7 @@ impl Layout {
     fn scratch_need(&self) -> usize {
         const SIDE: usize = 8_192;
         if self.w <= SIDE && self.cw <= SIDE {
-            64 * self.cw + 8 * self.w
+            32 * self.cw + 8 * self.w
         } else {
             0
         }

@@ -5,7 +5,7 @@ use std::mem::{offset_of, size_of};
 
 /// CHROMA_VERSION of the header that this file follows.
 #[allow(dead_code)]
-pub(super) const VERSION: u32 = 0x00_07_00;
+pub(super) const VERSION: u32 = 0x00_08_00;
 
 #[repr(C)]
 #[derive(Clone, Copy)]

@@ -15,27 +15,23 @@ use Rattle.image.specs.declared.chroma.Chroma.{Chroma}
 use Rattle.image.specs.declared.chroma.Chroma.the-variants.{Cb, Cr}
 use Rattle.image.specs.Picture.{Picture}
 use Rattle.image.specs.Scratch.{scratchNeed, cellAt}
-use Rattle.guided.specs.Guided.{Across, Luma, Cell, acrossVal, downTo, detailOf, slope, guidedSample}
-use Rattle.guided.specs.Scratch.{finishedAt, detailAt, slotAt, columnAt, columnOf, Down, Slope, numAcross, numDown, readAcross, readDown, lumaColumn, detailRow, componentColumns}
+use Rattle.guided.specs.Guided.{Luma, Cell, acrossVal, downTo, detailOf, slope, guidedSample}
+use Rattle.guided.specs.Scratch.{finishedAt, detailAt, slotAt, resultAt, columnAt, Stored, Lumas, partOf, Down, Slope, numStored, numDown, readStored, readAcross, readDown, lumaColumn, detailRow, componentColumns}
 use Rattle.guided.specs.Calls.{topOf, doneH, doneF}
-use Rattle.guided.proofs.Places.{Kept, kept-then, kept-column, kept-front, column-same, column-other, column-front, detail-place, front-fits, slot-number}
+use Rattle.guided.proofs.Places.{Room, Kept, kept-then, kept-column, kept-front, column-same, column-other, column-front, detail-place, front-fits, slot-number, result-number}
 use Rattle.guided.proofs.Taken.{taken}
 use Rattle.guided.proofs.Congruence.{down-cong, detail-cong}
-use Rattle.guided.proofs.Held.{Has, Makes, componentOf, downVal, across-small, down-small}
+use Rattle.guided.proofs.Held.{Has, Makes, componentOf, downVal, across-small, down-small, read-is}
 use Rattle.guided.proofs.Window.{Win}
 
--- what keeps the first 45 buffers keeps the window
+-- what keeps the first 33 buffers keeps the window
 pub win-kept : (p : Picture) (ks : List Chroma) (t h f : ℕ) (xs ys : List Float) → Kept (p .layout) xs ys → Win p ks t h f xs → Win p ks t h f ys
-unfolding readAcross readDown slotAt
+unfolding readStored readDown slotAt resultAt
 win-kept p ks t h f xs ys k w = record {
   room = rw (k .len) (w .room);
-  sums = λ r A B C q m i I. k .slots (r % 3 * 15 + numAcross q) i (slot-number (numAcross q) r (across-small q)) I ∙ w .sums r A B C q m i I;
-  downParts = λ r A B C d e i I. k .slots (r % 3 * 15 + numDown d) i (slot-number (numDown d) r (down-small d)) I ∙ w .downParts r A B C d e i I;
+  sums = λ r A B C q m i I. k .slots (r % 3 * 7 + numStored q) i (slot-number (numStored q) r (across-small q)) I ∙ w .sums r A B C q m i I;
+  downParts = λ r A B C d e i I. k .slots (21 + (r % 2 * 6 + numDown d)) i (result-number (numDown d) r (down-small d)) I ∙ w .downParts r A B C d e i I;
 }
-
-column-small : (k : Chroma) → columnOf k + 1 < 5
-column-small Cb = omega arith
-column-small Cr = omega arith
 
 -- ---- a component's two rows of cells, then the finished row
 
@@ -43,7 +39,7 @@ module _ (p : Picture) (y : ℕ) where
   module _ (k : Chroma) (xs : List Float) where
     -- scratch after the first of the two
     abbrev pub column : ℕ → ℕ
-    column n = columnAt (p .layout) (columnOf k + n)
+    column n = columnAt (p .layout) n
 
     abbrev pub after1 : List Float
     after1 = put xs (column 0) (p .layout .cw) (downTo (p .layout) (readAcross (p .layout) xs (Cell k)) y)
@@ -59,14 +55,14 @@ module _ (p : Picture) (y : ℕ) where
     columns-front n h = column-front (p .layout) after1 _ _ n h ∙ column-front (p .layout) xs _ _ n h
 
     -- and what each of the two holds
-    module _ (L : scratchNeed (p .layout) ≤ length xs) (i : ℕ) (I : i < p .layout .cw) where
+    module _ (L : Room (p .layout) xs) (i : ℕ) (I : i < p .layout .cw) where
       pub read-cells : cellAt (componentColumns p k y xs) (column 0) i ≡ downTo (p .layout) (readAcross (p .layout) xs (Cell k)) y i
       unfolding componentColumns
-      read-cells = column-other (p .layout) after1 _ _ _ i I (omega arith) ∙ column-same (p .layout) xs (columnOf k + 0) _ i (omega (arith, column-small k)) I L
+      read-cells = column-other (p .layout) after1 _ _ _ i I (omega arith) ∙ column-same (p .layout) xs 0 _ i (omega arith) I L
 
       pub read-slopes : cellAt (componentColumns p k y xs) (column 1) i ≡ downTo (p .layout) (readDown (p .layout) after1 (Slope k)) y i
       unfolding componentColumns
-      read-slopes = column-same (p .layout) after1 (columnOf k + 1) _ i (column-small k) I (rw length-put L)
+      read-slopes = column-same (p .layout) after1 1 _ i (omega arith) I (rw length-put L)
 
   -- ---- over the window at row y
 
@@ -75,10 +71,10 @@ module _ (p : Picture) (y : ℕ) where
     AtRow xs = Win p ks (topOf (p .layout) y) (doneH (p .layout) y) (doneF (p .layout) y) xs
 
     -- a part of the window lerped down is the picture's
-    pub down-part : (xs : List Float) → AtRow xs → (q : Across) → Makes ks q → (i : ℕ) → i < p .layout .cw → downTo (p .layout) (readAcross (p .layout) xs q) y i ≡ downTo (p .layout) (acrossVal p q) y i
+    pub down-part : (xs : List Float) → AtRow xs → (q : Stored) → Makes ks q → (i : ℕ) → i < p .layout .cw → downTo (p .layout) (readAcross (p .layout) xs (partOf q)) y i ≡ downTo (p .layout) (acrossVal p (partOf q)) y i
     down-part xs w q m i I =
         let t = taken (p .layout) s y Y in
-        down-cong (p .layout) s y Y (readAcross (p .layout) xs q) (acrossVal p q) i (λ j A B. w .sums j (omega arith) (omega (arith, t .inside)) (omega (arith, t .near)) q m i I)
+        down-cong (p .layout) s y Y (readAcross (p .layout) xs (partOf q)) (acrossVal p (partOf q)) i (λ j A B. read-is (p .layout) xs q j i ∙ w .sums j (omega arith) (omega (arith, t .inside)) (omega (arith, t .near)) q m i I)
 
     -- and so is a slope
     pub down-slope : (xs : List Float) → AtRow xs → (k : Chroma) → Has k ks → (i : ℕ) → i < p .layout .cw → downTo (p .layout) (readDown (p .layout) xs (Slope k)) y i ≡ downTo (p .layout) (slope p k) y i
@@ -111,7 +107,7 @@ module _ (p : Picture) (y : ℕ) where
 
     luma-read : (xs : List Float) → AtRow xs → (i : ℕ) → i < p .layout .cw → cellAt (lumaColumn p y xs) (columnAt (p .layout) 0) i ≡ downTo (p .layout) (acrossVal p Luma) y i
     unfolding lumaColumn
-    luma-read xs w i I = column-same (p .layout) xs 0 _ i (omega arith) I (w .room) ∙ down-part xs w Luma tt i I
+    luma-read xs w i I = column-same (p .layout) xs 0 _ i (omega arith) I (w .room) ∙ down-part xs w Lumas tt i I
 
     length-luma : (xs : List Float) → length (lumaColumn p y xs) ≡ length xs
     unfolding lumaColumn
@@ -122,7 +118,7 @@ module _ (p : Picture) (y : ℕ) where
     detail-made xs w x X =
         let l = p .layout in
         let ys = lumaColumn p y xs in
-        put-inside ys (detailAt l) (l .w) (λ x. detailOf l (cellAt ys (columnAt l 0)) (f32 (p .luma y x)) x) x nan X (omega (arith, detail-place l .1, front-fits l, w .room, length-luma xs))
+        put-inside ys (detailAt l) (l .w) (λ x. detailOf l (cellAt ys (columnAt l 0)) (f32 (p .luma y x)) x) x nan X (omega (arith, detail-place l .1, front-fits l, w .room .0, length-luma xs))
         ∙ detail-cong l s x X (cellAt ys (columnAt l 0)) (downTo l (acrossVal p Luma) y) (f32 (p .luma y x)) (f32 (p .luma y x)) (λ i b. luma-read xs w i (b .2)) refl
 
     -- and make a stage

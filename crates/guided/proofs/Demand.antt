@@ -87,7 +87,7 @@ module _ (es : List Event) (ran : AllRan es) (premise : Premise Start es) (s : S
 
   room : scratchNeed (s .by .layout) ≤ length (s .scratch)
   unfolding pictureOf
-  room = ok .win .room
+  room = ok .win .room .0
 
   -- a seek to any row of the picture is accepted
   pub seek-accepted : (k : SeekCall) → k .reader ≡ s .reader → k .y < s .by .layout .h → first (seekTests k) ≡ Accepted

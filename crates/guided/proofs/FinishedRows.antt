@@ -16,7 +16,7 @@ use Rattle.image.specs.Picture.{Picture}
 use Rattle.fround.specs.Rounding.{fmin, fmax}
 use Rattle.image.specs.Scratch.{cellAt}
 use Rattle.guided.specs.Guided.{Luma, Cell, acrossVal, extreme, downTo, detailOf, valueOf, slope, guidedSample}
-use Rattle.guided.specs.Scratch.{finishedAt, detailAt, columnAt, columnOf, Down, Least, Greatest, readDown, catchUp, lumaColumn, detailRow, componentColumns, finishedRow, componentsOver, rowSteps}
+use Rattle.guided.specs.Scratch.{finishedAt, detailAt, columnAt, Cells, Down, Least, Greatest, readDown, catchUp, lumaColumn, detailRow, componentColumns, finishedRow, componentsOver, rowSteps}
 use Rattle.guided.specs.Calls.{topOf, doneH, doneF}
 use Rattle.guided.proofs.Places.{Kept, kept-then, kept-column, kept-front, finished-detail, finished-other, finished-place, detail-place, front-fits}
 use Rattle.guided.proofs.Taken.{own-column}
@@ -56,14 +56,15 @@ module _ (p : Picture) (y : ℕ) where
         let l = p .layout in
         let ys = componentColumns p k y xs in
         let L = g .win .room in
+        let N = L .0 in
         let c = own-column l s x X in
-        let row : ℕ → ℕ → Float = λ n. cellAt ys (columnAt l (columnOf k + n)) in
+        let row : ℕ → ℕ → Float = λ n. cellAt ys (columnAt l n) in
         let own : Down → ℕ → Float = λ d. readDown l ys d (y / l .rv) in
         let w : AtRow p y ks s Y ys = win-kept p ks _ _ _ xs _ (columns-kept p y k xs) (g .win) in
-        put-inside ys (finishedAt l k) (l .w) (λ x. valueOf l (row 0) (row 1) (own (Least k)) (own (Greatest k)) (cellAt ys (detailAt l) x) x) x nan X (omega (arith, finished-place l k, front-fits l, L, columns-kept p y k xs .len))
+        put-inside ys (finishedAt l k) (l .w) (λ x. valueOf l (row 0) (row 1) (own (Least k)) (own (Greatest k)) (cellAt ys (detailAt l) x) x) x nan X (omega (arith, finished-place l k, front-fits l, N, columns-kept p y k xs .len))
         ∙ value-cong l s x X (row 0) (downTo l (acrossVal p (Cell k)) y) (row 1) (downTo l (slope p k) y) (own (Least k)) (extreme p fmin k (y / l .rv)) (own (Greatest k)) (extreme p fmax k (y / l .rv))
         (cellAt ys (detailAt l) x) (detailOf l (downTo l (acrossVal p Luma) y) (f32 (p .luma y x)) x)
-        (λ i b. read-cells p y k xs L i (b .2) ∙ down-part p y ks s Y xs (g .win) (Cell k) h i (b .2))
+        (λ i b. read-cells p y k xs L i (b .2) ∙ down-part p y ks s Y xs (g .win) (Cells k) h i (b .2))
         (λ i b. read-slopes p y k xs L i (b .2) ∙ down-slope p y ks s Y (after1 p y k xs) (win-kept p ks _ _ _ xs _ (kept-column l xs _ _) (g .win)) k h i (b .2))
         (own-down p y ks s Y ys w (Least k) h (x / l .rh) c)
         (own-down p y ks s Y ys w (Greatest k) h (x / l .rh) c)

@@ -15,6 +15,7 @@ use Rattle.laws.specs.Lists.{put}
 use Rattle.laws.proofs.Lists.{take-put, table-same}
 use Rattle.image.specs.declared.layout.Layout.{Layout}
 use Rattle.image.specs.Inner.Tests.{Sound}
+use Rattle.image.proofs.Layouts.{sound}
 use Rattle.image.specs.Samples.{sampleAt}
 use Rattle.image.specs.declared.chroma.Chroma.{Chroma}
 use Rattle.image.specs.declared.chroma.Chroma.the-variants.{Cb, Cr}
@@ -151,7 +152,7 @@ open-ok o b h = record {
   layout = plain-back (o .layout) (h .layout) (h .siting);
   planes = h .planes;
   bytes = b;
-  win = win-fresh (pictureBy o) (Cb ∷ Cr ∷ []) (topOf (o .layout) 0) (o .scratch) (h .room);
+  win = win-fresh (pictureBy o) (Cb ∷ Cr ∷ []) (topOf (o .layout) 0) (o .scratch) (h .room, sound false (o .layout) (h .layout) .cw-most);
 }
 
 seek-ok : (s : Since) → Ok s → (k : SeekCall) → SeekHanded k → k .reader ≡ s .reader → Ok (record { by = s .by; reader = afterSeek (k .reader) (k .y); scratch = s .scratch })

@@ -17,6 +17,7 @@ use Rattle.image.specs.Picture.{Picture}
 use Rattle.image.specs.Scratch.{scratchNeed}
 use Rattle.guided.specs.Scratch.{horizontal, finish, acrossRows, hAt, catchUp}
 use Rattle.guided.specs.Calls.{topOf, lastOf, freshH, freshF, doneH, doneF}
+use Rattle.guided.proofs.Places.{Room}
 use Rattle.guided.proofs.Taken.{taken, top-later, last-later}
 use Rattle.guided.proofs.Steps.{HeldAcross, HeldDown, length-horizontal, horizontal-makes, horizontal-keeps, horizontal-down-parts, length-finish, finish-makes, finish-keeps, finish-across}
 
@@ -34,14 +35,14 @@ module _ (p : Picture) where
   hAt-end h f (suc n) A B N = let b = hAt-most h f n A B in omega arith
 
 module _ (p : Picture) (ks : List Chroma) where
-  -- rows held: across from t - 1 up to h, and down from t up to f, of each the last three
+  -- rows held: across from t - 1 up to h, the last three of them, and down from t up to f, the last two
   pub record Win (t h f : ℕ) (xs : List Float) : Type 0 where
-    pub room : scratchNeed (p .layout) ≤ length xs
+    pub room : Room (p .layout) xs
     pub sums : (r : ℕ) → t ≤ r + 1 → r < h → h ≤ r + 3 → HeldAcross p ks xs r
-    pub downParts : (r : ℕ) → t ≤ r → r < f → f ≤ r + 3 → HeldDown p ks xs r
+    pub downParts : (r : ℕ) → t ≤ r → r < f → f ≤ r + 2 → HeldDown p ks xs r
 
   -- after open or seek nothing is held, and nothing need be
-  pub win-fresh : (t : ℕ) (xs : List Float) → scratchNeed (p .layout) ≤ length xs → Win t (t - 1) t xs
+  pub win-fresh : (t : ℕ) (xs : List Float) → Room (p .layout) xs → Win t (t - 1) t xs
   win-fresh t xs L = record { room = L; sums = λ r A B C. absurd (omega arith); downParts = λ r A B C. absurd (omega arith) }
 
   -- a later row asks for less

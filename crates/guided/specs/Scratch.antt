@@ -1,11 +1,11 @@
 -- What scratch holds: where each row lies, and what the steps of a row call leave. The papers leave scratch free; these definitions are what the contracts say of it. Definitions only.
 use mathlib.Core.Bool.{cond}
-use mathlib.Core.List.{List, [], _∷_}
+use mathlib.Core.List.{List, [], _∷_, _++_}
 use Prim.Native.Nat.{ℕ, zero, suc, _+_, _-_, _*_, _/_, _%_, min, max}
 use lib.Dec.{leb}
 use lib.ListN.{getD}
 use lib.Ieee.{Float, nan}
-use Rattle.laws.specs.Floats.{f32}
+use Rattle.laws.specs.Floats.{f32, _⊕_}
 use Rattle.laws.specs.Lists.{put}
 use Rattle.image.specs.declared.layout.Layout.{Layout}
 use Rattle.image.specs.declared.chroma.Chroma.{Chroma}
@@ -13,7 +13,7 @@ use Rattle.image.specs.declared.chroma.Chroma.the-variants.{Cb, Cr}
 use Rattle.image.specs.Picture.{Picture}
 use Rattle.fround.specs.Rounding.{fmin, fmax}
 use Rattle.image.specs.Scratch.{cellAt}
-use Rattle.guided.specs.Guided.{Across, Luma, LumaSum, SquareSum, Cell, CellSum, ProductSum, acrossVal, extreme, slopeOf, downTo, detailOf, valueOf}
+use Rattle.guided.specs.Guided.{Across, Luma, LumaSum, SquareSum, Cell, CellSum, ProductSum, three, acrossVal, extreme, slopeOf, downTo, detailOf, valueOf}
 
 -- ---- where things lie
 
@@ -26,73 +26,103 @@ finishedAt l Cr = l .w
 unfoldable pub detailAt : Layout → ℕ
 detailAt l = 2 * l .w
 
--- how far apart the row buffers begin: rows of 256 cells and more are padded, so that they don't fall on the same lines of a cache
-unfoldable pub pitch : ℕ → ℕ
-pitch cw = cond (leb 256 cw) (cw + 48) cw
+-- how far apart the row buffers begin: rows of 256 cells and more are padded, so that they don't fall on the same lines of a cache, by 48 values or by what 35 buffers leave to each
+unfoldable pub pitch : Layout → ℕ
+pitch l = cond (leb 256 (l .cw)) (l .cw + min 48 ((5 * l .w - 3 * l .cw) / 35)) (l .cw)
 
 -- row buffer n
 unfoldable pub bufferAt : Layout → ℕ → ℕ
-bufferAt l n = 3 * l .w + n * pitch (l .cw)
+bufferAt l n = 3 * l .w + n * pitch l
 
--- a window of three chroma rows, row r in slot r mod 3: fifteen buffers to a slot
+-- what is stored of a chroma row across: a component's sums are formed again from its samples where a slope needs them
+pub data Stored : Type 0 where
+  Lumas LumaSums SquareSums : Stored
+  Cells ProductSums : Chroma → Stored
+
+abbrev pub partOf : Stored → Across
+partOf Lumas = Luma
+partOf LumaSums = LumaSum
+partOf SquareSums = SquareSum
+partOf (Cells k) = Cell k
+partOf (ProductSums k) = ProductSum k
+
+-- of three chroma rows, row r in slot r mod 3: seven buffers to a slot
 unfoldable pub slotAt : Layout → ℕ → ℕ → ℕ
-slotAt l n r = bufferAt l (r % 3 * 15 + n)
+slotAt l n r = bufferAt l (r % 3 * 7 + n)
 
 abbrev pub firstOf : Chroma → ℕ
 firstOf Cb = 3
-firstOf Cr = 9
+firstOf Cr = 5
 
-abbrev pub numAcross : Across → ℕ
-numAcross Luma = 0
-numAcross LumaSum = 1
-numAcross SquareSum = 2
-numAcross (Cell k) = firstOf k
-numAcross (CellSum k) = firstOf k + 1
-numAcross (ProductSum k) = firstOf k + 2
+abbrev pub numStored : Stored → ℕ
+numStored Lumas = 0
+numStored LumaSums = 1
+numStored SquareSums = 2
+numStored (Cells k) = firstOf k
+numStored (ProductSums k) = firstOf k + 1
 
 -- what is made down of a chroma row for a component: the slopes, and the least and the greatest sample round each cell
 pub data Down : Type 0 where
   Slope Least Greatest : Chroma → Down
 
+-- of two chroma rows, row r in slot r mod 2: six buffers to a slot
+unfoldable pub resultAt : Layout → ℕ → ℕ → ℕ
+resultAt l n r = bufferAt l (21 + (r % 2 * 6 + n))
+
+abbrev pub firstDown : Chroma → ℕ
+firstDown Cb = 0
+firstDown Cr = 3
+
 abbrev pub numDown : Down → ℕ
-numDown (Slope k) = firstOf k + 3
-numDown (Least k) = firstOf k + 4
-numDown (Greatest k) = firstOf k + 5
+numDown (Slope k) = firstDown k
+numDown (Least k) = firstDown k + 1
+numDown (Greatest k) = firstDown k + 2
 
--- behind the window the rows of cells of one picture row: luma's, then two for each component
+-- behind them two rows of cells of one picture row: luma's, and when the detail is made a component's samples in its place; its slopes
 unfoldable pub columnAt : Layout → ℕ → ℕ
-columnAt l n = bufferAt l (45 + n)
+columnAt l n = bufferAt l (33 + n)
 
-abbrev pub columnOf : Chroma → ℕ
-columnOf Cb = 1
-columnOf Cr = 3
+unfoldable pub readStored : Layout → List Float → Stored → ℕ → ℕ → Float
+readStored l xs q r i = cellAt xs (slotAt l (numStored q) r) i
 
 unfoldable pub readAcross : Layout → List Float → Across → ℕ → ℕ → Float
-readAcross l xs q r i = cellAt xs (slotAt l (numAcross q) r) i
+readAcross l xs Luma r i = readStored l xs Lumas r i
+readAcross l xs LumaSum r i = readStored l xs LumaSums r i
+readAcross l xs SquareSum r i = readStored l xs SquareSums r i
+readAcross l xs (Cell k) r i = readStored l xs (Cells k) r i
+readAcross l xs (CellSum k) r i = three _⊕_ (l .cw) (readStored l xs (Cells k) r) i
+readAcross l xs (ProductSum k) r i = readStored l xs (ProductSums k) r i
 
 unfoldable pub readDown : Layout → List Float → Down → ℕ → ℕ → Float
-readDown l xs d r i = cellAt xs (slotAt l (numDown d) r) i
+readDown l xs d r i = cellAt xs (resultAt l (numDown d) r) i
 
 -- ---- the steps
 
 -- what is made across for luma and the components ks, in this order
-unfoldable pub chromaParts : List Chroma → List Across
+unfoldable pub chromaParts : List Chroma → List Stored
 chromaParts [] = []
-chromaParts (k ∷ ks) = Cell k ∷ CellSum k ∷ ProductSum k ∷ chromaParts ks
+chromaParts (k ∷ ks) = Cells k ∷ ProductSums k ∷ chromaParts ks
 
-unfoldable pub parts : List Chroma → List Across
-parts ks = Luma ∷ LumaSum ∷ SquareSum ∷ chromaParts ks
+unfoldable pub parts : List Chroma → List Stored
+parts ks = Lumas ∷ LumaSums ∷ SquareSums ∷ chromaParts ks
 
--- what is made down for the components ks, in this order
+-- what is made down for the components ks, in this order: every slope, then the extremes
+unfoldable pub slopeParts : List Chroma → List Down
+slopeParts [] = []
+slopeParts (k ∷ ks) = Slope k ∷ slopeParts ks
+
+unfoldable pub extremeParts : List Chroma → List Down
+extremeParts [] = []
+extremeParts (k ∷ ks) = Least k ∷ Greatest k ∷ extremeParts ks
+
 unfoldable pub downParts : List Chroma → List Down
-downParts [] = []
-downParts (k ∷ ks) = Slope k ∷ Least k ∷ Greatest k ∷ downParts ks
+downParts ks = slopeParts ks ++ extremeParts ks
 
 module _ (p : Picture) where
   -- chroma row j across, each buffer in turn
-  unfoldable pub acrossOver : ℕ → List Across → List Float → List Float
+  unfoldable pub acrossOver : ℕ → List Stored → List Float → List Float
   acrossOver j [] xs = xs
-  acrossOver j (q ∷ qs) xs = acrossOver j qs (put xs (slotAt (p .layout) (numAcross q) j) (p .layout .cw) (acrossVal p q j))
+  acrossOver j (q ∷ qs) xs = acrossOver j qs (put xs (slotAt (p .layout) (numStored q) j) (p .layout .cw) (acrossVal p (partOf q) j))
 
   -- one of what is made down of chroma row j: the slopes from the sums that scratch holds, the extremes from the picture
   unfoldable pub downOf : List Float → Down → ℕ → ℕ → Float
@@ -103,7 +133,7 @@ module _ (p : Picture) where
   -- chroma row j down, each buffer in turn
   unfoldable pub downOver : ℕ → List Down → List Float → List Float
   downOver j [] xs = xs
-  downOver j (d ∷ ds) xs = downOver j ds (put xs (slotAt (p .layout) (numDown d) j) (p .layout .cw) (downOf xs d j))
+  downOver j (d ∷ ds) xs = downOver j ds (put xs (resultAt (p .layout) (numDown d) j) (p .layout .cw) (downOf xs d j))
 
   module _ (ks : List Chroma) where
     -- a chroma row across for luma and the components, and one finished: down for the components
@@ -139,14 +169,14 @@ module _ (p : Picture) where
   unfoldable pub componentColumns : Chroma → ℕ → List Float → List Float
   componentColumns k y xs =
       let l = p .layout in
-      let s0 = put xs (columnAt l (columnOf k + 0)) (l .cw) (downTo l (readAcross l xs (Cell k)) y) in
-      put s0 (columnAt l (columnOf k + 1)) (l .cw) (downTo l (readDown l s0 (Slope k)) y)
+      let s0 = put xs (columnAt l 0) (l .cw) (downTo l (readAcross l xs (Cell k)) y) in
+      put s0 (columnAt l 1) (l .cw) (downTo l (readDown l s0 (Slope k)) y)
 
   -- a component's finished row from its two rows of cells, the extremes round its own chroma row, and the detail
   unfoldable pub finishedRow : Chroma → ℕ → List Float → List Float
   finishedRow k y xs =
       let l = p .layout in
-      let row : ℕ → ℕ → Float = λ n. cellAt xs (columnAt l (columnOf k + n)) in
+      let row : ℕ → ℕ → Float = λ n. cellAt xs (columnAt l n) in
       let own : Down → ℕ → Float = λ d. readDown l xs d (y / l .rv) in
       put xs (finishedAt l k) (l .w) (λ x. valueOf l (row 0) (row 1) (own (Least k)) (own (Greatest k)) (cellAt xs (detailAt l) x) x)
 

@@ -22,13 +22,13 @@ use Rattle.guided.specs.Guided.{three, lumaOf, cellLuma, cellOf, acrossVal}
 use Rattle.guided.specs.Scratch.{slotAt, firstOf, chromaParts, parts, acrossOver, horizontal}
 use Rattle.guided_across.specs.Inner.Sums.{loadRun, cellsAt, productsAt, threeRow}
 use Rattle.guided_across.specs.Inner.Luma.{lumaRow}
-use Rattle.guided_across.specs.declared.across.CellBuffers.{CellBuffers}
-use Rattle.guided_across.specs.Inner.Parts.{CellBuffersGiven, statRows, lumaPart, chromaPart}
+use Rattle.guided_across.specs.declared.across.LumaRows.{LumaRows}
+use Rattle.guided_across.specs.Inner.Parts.{LumaRowsGiven, statRows, pairRows, lumaPart, chromaPart}
 use Rattle.image.specs.declared.chroma.Components.the-variants.{CbAlone, Both}
 use Rattle.guided_window.specs.Inner.Lent.{componentsOf}
 use Rattle.guided_across.proofs.Threes.{three-same}
 use Rattle.guided_across.proofs.Areas.{luma-inside}
-use Rattle.guided.proofs.Places.{slot-fits, slot-order}
+use Rattle.guided.proofs.Places.{Room, slot-fits, slot-order}
 
 -- ---- a row that scratch holds
 
@@ -59,58 +59,62 @@ unfolding threeRow
 products-are {s} {a} {b} {n} {f} {g} o p dst =
     put-same s dst n _ _ (λ i h. three-same _⊕_ n (productsAt a b s) (λ i. f i ⊗ g i) i h (λ k l. alike (o .reads k l) (p .reads k l)))
 
--- ---- three buffers: cells f put at c, their sums, and the sums of their products with the row at y, which is c itself or lies before it
+-- ---- luma's three buffers, and a component's two
 
-steps-are : (s : List Float) (c n sums products : ℕ) (f : ℕ → Float) → c + n ≤ length s → c + n ≤ sums → (y : ℕ) (g : ℕ → Float) → Row (put (put s c n f) sums n (three _⊕_ n f)) y n g
-    → threeRow (productsAt y c) n products (threeRow (cellsAt c) n sums (put s c n f)) ≡ put (put (put s c n f) sums n (three _⊕_ n f)) products n (three _⊕_ n (λ i. g i ⊗ f i))
-steps-are s c n sums products f l p y g o =
-    ap (threeRow (productsAt y c) n products) (sums-are (row-put s c n f l) sums)
-    ∙ products-are o (row-kept (row-put s c n f l) sums n (three _⊕_ n f) p) products
-
-pub luma-steps : (l : Layout) (p : Plane) (j : ℕ) (t : CellBuffers) (s : List Float) → CellBuffersGiven l 0 j t → scratchNeed l ≤ length s
-    → threeRow (productsAt (t .at) (t .at)) (l .cw) (t .products) (threeRow (cellsAt (t .at)) (l .cw) (t .sums) (lumaRow l p j (t .at) s)) ≡ lumaPart l (sampleAt (l .«sample_bytes») p) j s
+pub luma-steps : (l : Layout) (p : Plane) (j : ℕ) (t : LumaRows) (s : List Float) → LumaRowsGiven l j t → scratchNeed l ≤ length s
+    → threeRow (productsAt (t .at) (t .at)) (l .cw) (t .squares) (threeRow (cellsAt (t .at)) (l .cw) (t .sums) (lumaRow l p j (t .at) s)) ≡ lumaPart l (sampleAt (l .«sample_bytes») p) j s
 unfolding lumaRow lumaPart statRows
 luma-steps l p j t s o h =
     let f = lumaOf l (sampleAt (l .«sample_bytes») p) j in
     let fits : t .at + l .cw ≤ length s = omega arith in
-    steps-are s (t .at) (l .cw) (t .sums) (t .products) f fits (o .sums-behind) (t .at) f (row-kept (row-put s (t .at) (l .cw) f fits) (t .sums) (l .cw) (three _⊕_ (l .cw) f) (o .sums-behind))
-    ∙ rw (o .at, o .sums, o .products) refl
+    let cells = row-put s (t .at) (l .cw) f fits in
+    let kept = row-kept cells (t .sums) (l .cw) (three _⊕_ (l .cw) f) (o .sums-behind) in
+    ap (threeRow (productsAt (t .at) (t .at)) (l .cw) (t .squares)) (sums-are cells (t .sums)) ∙ products-are kept kept (t .squares)
+    ∙ rw (o .at, o .sums, o .squares) refl
 
-pub chroma-steps : (l : Layout) (p : Plane) (k : Chroma) (j n y : ℕ) (t : CellBuffers) (s : List Float) → CellBuffersGiven l n j t → n ≡ firstOf k → y ≡ slotAt l 0 j → y + l .cw ≤ t .at → scratchNeed l ≤ length s
-    → threeRow (productsAt y (t .at)) (l .cw) (t .products) (threeRow (cellsAt (t .at)) (l .cw) (t .sums) (loadRun (p .bytes) (l .«sample_bytes») (j * p .stride) (l .cw) (t .at) s))
-    ≡ chromaPart l (sampleAt (l .«sample_bytes») p) k j s
-unfolding loadRun chromaPart statRows sampleAt
-chroma-steps l p k j n y t s o e a b h =
+-- the products read the row at y, which lies before the component's buffers
+pub chroma-steps : (l : Layout) (p : Plane) (k : Chroma) (j n y c products : ℕ) (s : List Float) → n ≡ firstOf k → y ≡ slotAt l 0 j → c ≡ slotAt l n j → products ≡ slotAt l (n + 1) j
+    → y + l .cw ≤ c → c + l .cw ≤ length s
+    → threeRow (productsAt y c) (l .cw) products (loadRun (p .bytes) (l .«sample_bytes») (j * p .stride) (l .cw) c s) ≡ chromaPart l (sampleAt (l .«sample_bytes») p) k j s
+unfolding loadRun chromaPart pairRows sampleAt
+chroma-steps l p k j n y c products s e a b d before fits =
     let f : ℕ → Float = λ i. f32 (sampleAt (l .«sample_bytes») p j i) in
-    let fits : t .at + l .cw ≤ length s = omega arith in
-    let kept = row-kept (row-kept (row-itself s y (l .cw)) (t .at) (l .cw) f b) (t .sums) (l .cw) (three _⊕_ (l .cw) f) (omega arith) in
-    steps-are s (t .at) (l .cw) (t .sums) (t .products) f fits (o .sums-behind) y (cellAt s y) kept
-    ∙ rw (o .at, o .sums, o .products, a, e) refl
+    products-are (row-kept (row-itself s y (l .cw)) c (l .cw) f before) (row-put s c (l .cw) f fits) products
+    ∙ rw (d, b, a, e) refl
 
 -- ---- the definition's rows
 
-module _ (l : Layout) (n j : ℕ) (s : List Float) where
-  stat-same : (f g h k : ℕ → Float) → ((i : ℕ) → i < l .cw → f i ≡ g i) → ((i : ℕ) → i < l .cw → h i ≡ k i) → statRows l n f h j s ≡ statRows l n g k j s
+module _ (l : Layout) (j : ℕ) (s : List Float) where
+  abbrev place : ℕ → ℕ
+  place n = slotAt l n j
+
+  stat-same : (f g : ℕ → Float) → ((i : ℕ) → i < l .cw → f i ≡ g i) → statRows l f j s ≡ statRows l g j s
   unfolding statRows
-  stat-same f g h k p q =
+  stat-same f g p =
       let cw = l .cw in
-      let a = slotAt l n j in
-      let b = slotAt l (n + 1) j in
-      let c = slotAt l (n + 2) j in
-      ap (λ (xs : List Float). put (put xs b cw (three _⊕_ cw f)) c cw (three _⊕_ cw h)) (put-same s a cw f g p)
-      ∙ ap (λ (xs : List Float). put xs c cw (three _⊕_ cw h)) (put-same (put s a cw g) b cw (three _⊕_ cw f) (three _⊕_ cw g) (λ i d. three-same _⊕_ cw f g i d p))
-      ∙ put-same (put (put s a cw g) b cw (three _⊕_ cw g)) c cw (three _⊕_ cw h) (three _⊕_ cw k) (λ i d. three-same _⊕_ cw h k i d q)
+      ap (λ (xs : List Float). put (put xs (place 1) cw (three _⊕_ cw f)) (place 2) cw (three _⊕_ cw (λ i. f i ⊗ f i))) (put-same s (place 0) cw f g p)
+      ∙ ap (λ (xs : List Float). put xs (place 2) cw (three _⊕_ cw (λ i. f i ⊗ f i))) (put-same (put s (place 0) cw g) (place 1) cw (three _⊕_ cw f) (three _⊕_ cw g) (λ i d. three-same _⊕_ cw f g i d p))
+      ∙ put-same (put (put s (place 0) cw g) (place 1) cw (three _⊕_ cw g)) (place 2) cw (three _⊕_ cw (λ i. f i ⊗ f i)) (three _⊕_ cw (λ i. g i ⊗ g i))
+      (λ i d. three-same _⊕_ cw (λ i. f i ⊗ f i) (λ i. g i ⊗ g i) i d (λ q b. alike (p q b) (p q b)))
 
-  -- the first of them is read back, and rows before them are left
-  stat-row : (f h : ℕ → Float) → slotAt l n j + l .cw ≤ length s → Row (statRows l n f h j s) (slotAt l n j) (l .cw) f
-  unfolding statRows
-  stat-row f h d = row-kept (row-kept (row-put s (slotAt l n j) (l .cw) f d) (slotAt l (n + 1) j) (l .cw) (three _⊕_ (l .cw) f) (slot-order l n (n + 1) j (omega arith))) (slotAt l (n + 2) j) (l .cw) (three _⊕_ (l .cw) h) (slot-order l n (n + 2) j (omega arith))
+  pair-same : (k : Chroma) (f g h m : ℕ → Float) → ((i : ℕ) → i < l .cw → f i ≡ g i) → ((i : ℕ) → i < l .cw → h i ≡ m i) → pairRows l k f h j s ≡ pairRows l k g m j s
+  unfolding pairRows
+  pair-same k f g h m p q =
+      let cw = l .cw in
+      ap (λ (xs : List Float). put xs (place (firstOf k + 1)) cw (three _⊕_ cw h)) (put-same s (place (firstOf k)) cw f g p)
+      ∙ put-same (put s (place (firstOf k)) cw g) (place (firstOf k + 1)) cw (three _⊕_ cw h) (three _⊕_ cw m) (λ i d. three-same _⊕_ cw h m i d q)
 
-  stat-kept : (f h g : ℕ → Float) (m : ℕ) → m < n → Row s (slotAt l m j) (l .cw) g → Row (statRows l n f h j s) (slotAt l m j) (l .cw) g
+  -- luma's cells are read back, and a component's rows behind them leave them
+  stat-row : (f : ℕ → Float) → place 0 + l .cw ≤ length s → Row (statRows l f j s) (place 0) (l .cw) f
   unfolding statRows
-  stat-kept f h g m d o =
-      row-kept (row-kept (row-kept o (slotAt l n j) (l .cw) f (slot-order l m n j d)) (slotAt l (n + 1) j) (l .cw) (three _⊕_ (l .cw) f) (slot-order l m (n + 1) j (omega arith)))
-      (slotAt l (n + 2) j) (l .cw) (three _⊕_ (l .cw) h) (slot-order l m (n + 2) j (omega arith))
+  stat-row f d =
+      row-kept (row-kept (row-put s (place 0) (l .cw) f d) (place 1) (l .cw) (three _⊕_ (l .cw) f) (slot-order l 0 1 j (omega arith)))
+      (place 2) (l .cw) (three _⊕_ (l .cw) (λ i. f i ⊗ f i)) (slot-order l 0 2 j (omega arith))
+
+  pair-kept : (k : Chroma) (f h g : ℕ → Float) → 0 < firstOf k → Row s (place 0) (l .cw) g → Row (pairRows l k f h j s) (place 0) (l .cw) g
+  unfolding pairRows
+  pair-kept k f h g d o =
+      row-kept (row-kept o (place (firstOf k)) (l .cw) f (slot-order l 0 (firstOf k) j d)) (place (firstOf k + 1)) (l .cw) (three _⊕_ (l .cw) h) (slot-order l 0 (firstOf k + 1) j (omega arith))
 
 -- a picture's rows across, as the definition puts them
 module _ (l : Layout) (ps : Planes) (j : ℕ) where
@@ -121,48 +125,48 @@ module _ (l : Layout) (ps : Planes) (j : ℕ) where
   luma i = cellLuma picture j i
 
   lumaAcross : List Float → List Float
-  lumaAcross = statRows l 0 luma (λ i. luma i ⊗ luma i) j
+  lumaAcross = statRows l luma j
 
   chromaAcross : Chroma → List Float → List Float
-  chromaAcross k = statRows l (firstOf k) (λ i. cellOf picture k j i) (λ i. luma i ⊗ cellOf picture k j i) j
+  chromaAcross k = pairRows l k (λ i. cellOf picture k j i) (λ i. luma i ⊗ cellOf picture k j i) j
 
   luma-across : (s : List Float) → lumaPart l (sampleAt (l .«sample_bytes») (ps .y)) j s ≡ lumaAcross s
   unfolding lumaPart lumaAcross cellLuma pictureOf
   luma-across s =
       let f = sampleAt (l .«sample_bytes») (ps .y) in
-      stat-same l 0 j s (lumaOf l f j) luma (λ i. lumaOf l f j i ⊗ lumaOf l f j i) (λ i. luma i ⊗ luma i) (λ i h. luma-inside l f j i) (λ i h. ap (λ (x : Float). x ⊗ x) (luma-inside l f j i))
+      stat-same l j s (lumaOf l f j) luma (λ i h. luma-inside l f j i)
 
   chroma-across : (k : Chroma) (s : List Float) → j < l .ch → Row s (slotAt l 0 j) (l .cw) luma → chromaPart l (sampleAt (l .«sample_bytes») (chromaPlane ps k)) k j s ≡ chromaAcross k s
   unfolding chromaPart chromaAcross cellOf pictureOf
   chroma-across k s d o =
       let c = sampleAt (l .«sample_bytes») (chromaPlane ps k) in
       let same : (i : ℕ) → i < l .cw → f32 (c j i) ≡ cellOf picture k j i = λ i h. ap f32 (sym (inside-is (l .cw) (l .ch) c i j h d)) in
-      stat-same l (firstOf k) j s (λ i. f32 (c j i)) (λ i. cellOf picture k j i) (λ i. cellAt s (slotAt l 0 j) i ⊗ f32 (c j i)) (λ i. luma i ⊗ cellOf picture k j i) same
+      pair-same l j s k (λ i. f32 (c j i)) (λ i. cellOf picture k j i) (λ i. cellAt s (slotAt l 0 j) i ⊗ f32 (c j i)) (λ i. luma i ⊗ cellOf picture k j i) same
       (λ i h. alike (o .reads i h) (same i h))
 
   -- luma's row is there for the components
-  luma-row : (s : List Float) → scratchNeed l ≤ length s → Row (lumaAcross s) (slotAt l 0 j) (l .cw) luma
+  luma-row : (s : List Float) → Room l s → Row (lumaAcross s) (slotAt l 0 j) (l .cw) luma
   unfolding lumaAcross
-  luma-row s h = stat-row l 0 j s luma (λ i. luma i ⊗ luma i) (let f = slot-fits l 0 j (lit< tt) in omega arith)
+  luma-row s h = stat-row l j s luma (let f = slot-fits l 0 j (lit< tt) (h .1) in omega (arith, h .0))
 
   luma-kept : (s : List Float) → Row s (slotAt l 0 j) (l .cw) luma → Row (chromaAcross Cb s) (slotAt l 0 j) (l .cw) luma
   unfolding chromaAcross
-  luma-kept s o = stat-kept l 3 j s (λ i. cellOf picture Cb j i) (λ i. luma i ⊗ cellOf picture Cb j i) luma 0 (lit< tt) o
+  luma-kept s o = pair-kept l j s Cb (λ i. cellOf picture Cb j i) (λ i. luma i ⊗ cellOf picture Cb j i) luma (lit< tt) o
 
   one-is : (s : List Float) → chromaAcross Cb (lumaAcross s) ≡ horizontal picture (componentsOf CbAlone) j s
-  unfolding chromaAcross lumaAcross statRows horizontal parts chromaParts acrossOver acrossVal pictureOf
+  unfolding chromaAcross lumaAcross statRows pairRows horizontal parts chromaParts acrossOver acrossVal pictureOf
   one-is s = refl
 
-  pub horizontal-one : (s : List Float) → j < l .ch → scratchNeed l ≤ length s
+  pub horizontal-one : (s : List Float) → j < l .ch → Room l s
       → chromaPart l (sampleAt (l .«sample_bytes») (ps .cb)) Cb j (lumaPart l (sampleAt (l .«sample_bytes») (ps .y)) j s) ≡ horizontal picture (componentsOf CbAlone) j s
   horizontal-one s d h =
       ap (chromaPart l (sampleAt (l .«sample_bytes») (ps .cb)) Cb j) (luma-across s) ∙ chroma-across Cb (lumaAcross s) d (luma-row s h) ∙ one-is s
 
   both-is : (s : List Float) → chromaAcross Cr (chromaAcross Cb (lumaAcross s)) ≡ horizontal picture (componentsOf Both) j s
-  unfolding chromaAcross lumaAcross statRows horizontal parts chromaParts acrossOver acrossVal pictureOf
+  unfolding chromaAcross lumaAcross statRows pairRows horizontal parts chromaParts acrossOver acrossVal pictureOf
   both-is s = refl
 
-  pub horizontal-both : (s : List Float) → j < l .ch → scratchNeed l ≤ length s
+  pub horizontal-both : (s : List Float) → j < l .ch → Room l s
       → chromaPart l (sampleAt (l .«sample_bytes») (ps .cr)) Cr j (chromaPart l (sampleAt (l .«sample_bytes») (ps .cb)) Cb j (lumaPart l (sampleAt (l .«sample_bytes») (ps .y)) j s))
       ≡ horizontal picture (componentsOf Both) j s
   horizontal-both s d h =

@@ -1,4 +1,5 @@
-// A chroma row across: for luma and for each component a row of cells, a row of their sums and a row of the sums of products.
+// A chroma row across: for luma a row of cells, a row of their sums and a row of the sums of their squares, for each component a row of
+// cells and a row of the sums of its products with luma. A component's own sums are formed where its slopes are made.
 ghost use mathlib.Core.Path.{_≡_};
 ghost use Prim.Native.Nat.{_≤_, _<_};
 ghost use lib.ListN.{length};
@@ -9,7 +10,7 @@ ghost use Rattle.image.specs.Scratch.{scratchNeed};
 ghost use Rattle.guided.specs.Scratch.{horizontal};
 ghost use Rattle.guided_across.specs.Inner.Luma.{LumaPixels};
 ghost use Rattle.guided_window.specs.Inner.Lent.{ChromaCells, Lent, componentsOf};
-ghost use Rattle.guided_across.specs.Inner.Parts.{CellBuffersGiven, lumaPart, chromaPart};
+ghost use Rattle.guided_across.specs.Inner.Parts.{LumaRowsGiven, lumaPart, chromaPart};
 use crate::luma::luma_row;
 use crate::sums::load_row;
 use crate::sums::product_sum_row;
@@ -23,23 +24,22 @@ use image::Components;
 use image::Layout;
 use image::Strides;
 
-// Where three row buffers begin that follow one another: of cells, of their sums, and of the sums of products.
-pub struct CellBuffers {
+// Where luma's three row buffers begin: of its cells, of their sums, and of the sums of their squares.
+pub struct LumaRows {
     pub at: usize,
     pub sums: usize,
-    pub products: usize,
+    pub squares: usize,
 }
 
-// The three buffers of chroma row j from buffer n on: luma's (cells, sums, sums of squares), or a component's (cells, sums, sums of products).
-// Both have them in this order, so that one function serves both.
-fn cell_buffers_at(layout: Layout, n: usize, j: usize) -> CellBuffers
-    requires { ⌜ Sound layout × (n < 13) ⌝ }
-    ensures { λ t. ⌜ CellBuffersGiven layout n j t ⌝ }
+// Luma's three buffers of chroma row j.
+fn luma_rows_at(layout: Layout, j: usize) -> LumaRows
+    requires { ⌜ Sound layout ⌝ }
+    ensures { λ t. ⌜ LumaRowsGiven layout j t ⌝ }
 {
-    CellBuffers {
-        at: slot_at(layout, n, j),
-        sums: slot_at(layout, n + ChromaBuffer::SUM, j),
-        products: slot_at(layout, n + ChromaBuffer::PRODUCT_SUM, j),
+    LumaRows {
+        at: slot_at(layout, LumaBuffer::CELL, j),
+        sums: slot_at(layout, LumaBuffer::SUM, j),
+        squares: slot_at(layout, LumaBuffer::SQUARE_SUM, j),
     }
 }
 
@@ -51,15 +51,15 @@ fn luma_part(layout: Layout, plane: &[u8], stride: usize, j: usize, s: &mut [f32
         (sampleAt (layout .«sample_bytes») (planeOf (now (plane .entry)) stride))
         j (now (s .entry)) ⌝ }
 {
-    let t = cell_buffers_at(layout, LumaBuffer::CELL, j);
+    let t = luma_rows_at(layout, j);
     let y = t.at;
     let cw = layout.cw;
     luma_row(layout, plane, stride, j, s, y);
     sum_row(s, y, cw, t.sums);
-    product_sum_row(s, y, y, cw, t.products);
+    product_sum_row(s, y, y, cw, t.squares);
 }
 
-// A component's rows of chroma row j: the samples, their sums, and the sums of their products with the luma that scratch holds.
+// A component's rows of chroma row j: the samples, and the sums of their products with the luma that scratch holds.
 fn chroma_part(layout: Layout, plane: &[u8], stride: usize, k: Chroma, j: usize, s: &mut [f32])
     requires { ⌜ ChromaCells layout (planeOf (now plane) stride) ⌝ }
     requires { ⌜ (j < layout .ch) × (scratchNeed layout ≤ length (now s)) ⌝ }
@@ -68,12 +68,12 @@ fn chroma_part(layout: Layout, plane: &[u8], stride: usize, k: Chroma, j: usize,
         k j (now (s .entry)) ⌝ }
 {
     let y = slot_at(layout, LumaBuffer::CELL, j);
-    let t = cell_buffers_at(layout, first_of(k), j);
-    let c = t.at;
+    let n = first_of(k);
+    let c = slot_at(layout, n, j);
+    let products = slot_at(layout, n + ChromaBuffer::PRODUCT_SUM, j);
     let cw = layout.cw;
     load_row(plane, layout.sample_bytes, j * stride, cw, s, c);
-    sum_row(s, c, cw, t.sums);
-    product_sum_row(s, y, c, cw, t.products);
+    product_sum_row(s, y, c, cw, products);
 }
 
 // Inner: chroma row j across: luma's rows, those of Cb, and those of Cr where both are asked for.

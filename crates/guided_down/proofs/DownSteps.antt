@@ -15,16 +15,16 @@ use Rattle.image.specs.Picture.{Planes, chromaPlane, inside, pictureOf}
 use Rattle.image.proofs.Pictures.{inside-is}
 use Rattle.fround.specs.Rounding.{fmin, fmax}
 use Rattle.guided.specs.Guided.{extremeOf, extreme}
-use Rattle.guided.specs.Scratch.{slotAt, firstOf, Slope, Least, Greatest, numDown, downParts, downOf, downOver, finish}
+use Rattle.guided.specs.Scratch.{resultAt, firstDown, Least, Greatest, numDown, slopeParts, extremeParts, downParts, downOf, downOver, finish}
 use Rattle.guided_across.proofs.Threes.{three-same}
 use Rattle.guided_down.specs.Inner.Extremes.{extremeRow}
-use Rattle.guided_down.specs.Inner.Slopes.{slopeRow}
-use Rattle.guided_down.specs.Inner.Down.{downRow}
+use Rattle.guided_down.specs.Inner.Slopes.{slopeRow, slopeRows}
+use Rattle.guided_down.specs.Inner.Down.{extremeRows}
 
--- what is made down, by where it goes
-pub down-row-are : (l : Layout) (p : Plane) (k : Chroma) (j n a b : ℕ) (s : List Float) → n ≡ firstOf k → a ≡ slotAt l (n + 4) j → b ≡ slotAt l (n + 5) j → extremeRow l p true j b (extremeRow l p false j a (slopeRow l k j s)) ≡ downRow l p k j s
-unfolding downRow
-down-row-are l p k j n a b s e f g = rw (f, g, e) refl
+-- the extremes, by where they go
+pub extreme-rows-are : (l : Layout) (p : Plane) (k : Chroma) (j n a b : ℕ) (s : List Float) → n ≡ firstDown k → a ≡ resultAt l (n + 1) j → b ≡ resultAt l (n + 2) j → extremeRow l p true j b (extremeRow l p false j a s) ≡ extremeRows l p k j s
+unfolding extremeRows
+extreme-rows-are l p k j n a b s e f g = rw (f, g, e) refl
 
 -- ---- the picture's samples
 
@@ -35,22 +35,23 @@ extreme-inside l op c j i h k =
     three-same op (l .ch) _ _ j h (λ r hr. three-same op (l .cw) (λ q. f32 (c r q)) (λ q. f32 (inside (l .cw) (l .ch) c r q)) i k (λ q hq. ap f32 (sym (inside-is (l .cw) (l .ch) c q r hq hr))))
 
 module _ (l : Layout) (ps : Planes) where
-  -- a chroma row down
-  pub down-is : (k : Chroma) (j : ℕ) (s : List Float) → j < l .ch → downRow l (chromaPlane ps k) k j s ≡ downOver (pictureOf l ps) j (Slope k ∷ Least k ∷ Greatest k ∷ []) s
-  unfolding downRow downOver downOf slopeRow extremeRow extreme pictureOf
-  down-is k j s h =
+  -- the extremes of a chroma row
+  pub extremes-are : (k : Chroma) (j : ℕ) (s : List Float) → j < l .ch → extremeRows l (chromaPlane ps k) k j s ≡ downOver (pictureOf l ps) j (Least k ∷ Greatest k ∷ []) s
+  unfolding extremeRows downOver downOf extremeRow extreme pictureOf
+  extremes-are k j s h =
       let c : ℕ → ℕ → ℕ = sampleAt (l .«sample_bytes») (chromaPlane ps k) in
-      let least = slotAt l (numDown (Least k)) j in
-      let greatest = slotAt l (numDown (Greatest k)) j in
-      let xs = slopeRow l k j s in
-      let ys = put xs least (l .cw) (extremeOf l fmin (inside (l .cw) (l .ch) c) j) in
-      ap (λ (zs : List Float). put zs greatest (l .cw) (extremeOf l fmax c j)) (put-same xs least (l .cw) _ _ (λ i g. extreme-inside l fmin c j i h g))
+      let least = resultAt l (numDown (Least k)) j in
+      let greatest = resultAt l (numDown (Greatest k)) j in
+      let ys = put s least (l .cw) (extremeOf l fmin (inside (l .cw) (l .ch) c) j) in
+      ap (λ (zs : List Float). put zs greatest (l .cw) (extremeOf l fmax c j)) (put-same s least (l .cw) _ _ (λ i g. extreme-inside l fmin c j i h g))
       ∙ put-same ys greatest (l .cw) _ _ (λ i g. extreme-inside l fmax c j i h g)
 
-  pub finish-cb : (j : ℕ) (s t : List Float) → j < l .ch → t ≡ downRow l (ps .cb) Cb j s → t ≡ finish (pictureOf l ps) (Cb ∷ []) j s
-  unfolding finish downParts downOver
-  finish-cb j s t h e = e ∙ down-is Cb j s h
+  pub finish-cb : (j : ℕ) (s t u : List Float) → j < l .ch → t ≡ slopeRow l Cb j s → u ≡ extremeRows l (ps .cb) Cb j t → u ≡ finish (pictureOf l ps) (Cb ∷ []) j s
+  unfolding finish downParts slopeParts extremeParts downOver downOf slopeRow pictureOf
+  finish-cb j s t u h e f = f ∙ extremes-are Cb j t h ∙ ap (downOver (pictureOf l ps) j (Least Cb ∷ Greatest Cb ∷ [])) e
 
-  pub finish-both : (j : ℕ) (s t u : List Float) → j < l .ch → t ≡ downRow l (ps .cb) Cb j s → u ≡ downRow l (ps .cr) Cr j t → u ≡ finish (pictureOf l ps) (Cb ∷ Cr ∷ []) j s
-  unfolding finish downParts downOver
-  finish-both j s t u h e f = f ∙ down-is Cr j t h ∙ ap (downOver (pictureOf l ps) j (Slope Cr ∷ Least Cr ∷ Greatest Cr ∷ [])) (e ∙ down-is Cb j s h)
+  pub finish-both : (j : ℕ) (s t u v : List Float) → j < l .ch → t ≡ slopeRows l j s → u ≡ extremeRows l (ps .cb) Cb j t → v ≡ extremeRows l (ps .cr) Cr j u → v ≡ finish (pictureOf l ps) (Cb ∷ Cr ∷ []) j s
+  unfolding finish downParts slopeParts extremeParts downOver downOf slopeRows slopeRow pictureOf
+  finish-both j s t u v h e f g =
+      g ∙ extremes-are Cr j u h ∙ ap (downOver (pictureOf l ps) j (Least Cr ∷ Greatest Cr ∷ [])) (f ∙ extremes-are Cb j t h)
+      ∙ ap (λ (zs : List Float). downOver (pictureOf l ps) j (Least Cr ∷ Greatest Cr ∷ []) (downOver (pictureOf l ps) j (Least Cb ∷ Greatest Cb ∷ []) zs)) e

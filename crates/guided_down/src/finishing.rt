@@ -8,24 +8,25 @@ ghost use Rattle.image.specs.Picture.{pictureOf, planesOf};
 ghost use Rattle.image.specs.Scratch.{scratchNeed};
 ghost use Rattle.guided.specs.Scratch.{finish};
 ghost use Rattle.guided_window.specs.Inner.Lent.{ChromaCells, componentsOf};
-ghost use Rattle.guided_down.specs.Inner.Down.{downRow};
+ghost use Rattle.guided_down.specs.Inner.Down.{extremeRows};
 use crate::extremes::extreme_row;
-use guided_window::ChromaBuffer;
-use guided_window::slot_at;
+use crate::slope_pairs::slope_rows;
+use crate::slope_rows::slope_row;
+use guided_window::ResultBuffer;
+use guided_window::result_at;
 use image::Chroma;
 use image::Components;
 use image::Layout;
 use image::Strides;
 
-// A component's slopes of chroma row j, and its least and greatest samples round each cell, to their buffers.
-fn down_row(layout: Layout, plane: &[u8], stride: usize, k: Chroma, j: usize, s: &mut [f32])
+// A component's least and greatest samples round each cell of chroma row j, to their buffers.
+fn extreme_rows(layout: Layout, plane: &[u8], stride: usize, k: Chroma, j: usize, s: &mut [f32])
     requires { ⌜ ChromaCells layout (planeOf (now plane) stride) × (j < layout .ch) × (scratchNeed layout ≤ length (now s)) ⌝ }
-    ensures { λ _. ⌜ now (s .exit) ≡ downRow layout (planeOf (now (plane .entry)) stride) k j (now (s .entry)) ⌝ }
+    ensures { λ _. ⌜ now (s .exit) ≡ extremeRows layout (planeOf (now (plane .entry)) stride) k j (now (s .entry)) ⌝ }
 {
-    let n = guided_window::first_of(k);
-    let least = slot_at(layout, n + ChromaBuffer::LEAST, j);
-    let greatest = slot_at(layout, n + ChromaBuffer::GREATEST, j);
-    crate::slopes::slope_row(layout, k, j, s);
+    let n = guided_window::result_of(k);
+    let least = result_at(layout, n + ResultBuffer::LEAST, j);
+    let greatest = result_at(layout, n + ResultBuffer::GREATEST, j);
     extreme_row(layout, plane, stride, false, j, s, least);
     extreme_row(layout, plane, stride, true, j, s, greatest);
 }
@@ -47,9 +48,12 @@ pub fn finish(
         (pictureOf layout (planesOf y (now (cb .entry)) (now (cr .entry)) strides))
         (componentsOf components) j (now (s .entry))) ⌝ }
 {
-    down_row(layout, cb, strides.cb, Chroma::Cb, j, s);
     let Components::Both = components else {
+        slope_row(layout, Chroma::Cb, j, s);
+        extreme_rows(layout, cb, strides.cb, Chroma::Cb, j, s);
         return;
     };
-    down_row(layout, cr, strides.cr, Chroma::Cr, j, s);
+    slope_rows(layout, j, s);
+    extreme_rows(layout, cb, strides.cb, Chroma::Cb, j, s);
+    extreme_rows(layout, cr, strides.cr, Chroma::Cr, j, s);
 }

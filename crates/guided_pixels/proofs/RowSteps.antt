@@ -13,23 +13,22 @@ use Rattle.image.specs.Picture.{Planes, pictureOf}
 use Rattle.image.proofs.Pictures.{inside-is}
 use Rattle.image.specs.Scratch.{cellAt}
 use Rattle.guided.specs.Guided.{detailOf}
-use Rattle.guided.specs.Scratch.{firstOf, columnAt, columnOf, detailAt, readAcross, readDown, lumaColumn, detailRow, componentColumns, finishedRow, componentsOver}
-use Rattle.guided_pixels.specs.Inner.Columns.{downColumn}
+use Rattle.guided.specs.Scratch.{firstOf, firstDown, columnAt, detailAt, readStored, readAcross, readDown, lumaColumn, detailRow, componentColumns, finishedRow, componentsOver}
+use Rattle.guided_pixels.specs.Inner.Columns.{downColumn, downResult}
 use Rattle.guided_pixels.specs.Inner.Pixels.{detailLine}
 use Rattle.guided_pixels.specs.Inner.Row.{downColumns, componentRow, windowRow}
 use Rattle.guided_pixels.specs.Inner.Values.{inputsOf, valueAt, valueRow}
-use Rattle.laws.proofs.Counts.{plus-none}
 
--- a component's rows lerped down, by the numbers of its first rows
-pub down-columns-are : (l : Layout) (k : Chroma) (y n m : ℕ) (s : List Float) → n ≡ firstOf k → m ≡ columnOf k → downColumn l (n + 3) (m + 1) y (downColumn l n m y s) ≡ downColumns l k y s
+-- a component's rows lerped down, by the numbers of its first row and its first result
+pub down-columns-are : (l : Layout) (k : Chroma) (y n m : ℕ) (s : List Float) → n ≡ firstOf k → m ≡ firstDown k → downResult l m 1 y (downColumn l n 0 y s) ≡ downColumns l k y s
 unfolding downColumns
-down-columns-are l k y n m s p q = rw (p, q, plus-none (columnOf k)) refl
+down-columns-are l k y n m s p q = rw (p, q) refl
 
 -- ---- the picture's samples
 
 module _ (l : Layout) (ps : Planes) (y : ℕ) where
   pub luma-is : (s : List Float) → downColumn l 0 0 y s ≡ lumaColumn (pictureOf l ps) y s
-  unfolding downColumn lumaColumn readAcross pictureOf
+  unfolding downColumn lumaColumn readAcross readStored pictureOf
   luma-is s = refl
 
   pub detail-row-is : (s : List Float) → y < l .h → detailLine l (ps .y) y s ≡ detailRow (pictureOf l ps) y s
@@ -38,7 +37,7 @@ module _ (l : Layout) (ps : Planes) (y : ℕ) where
       put-same s (detailAt l) (l .w) _ _ (λ x k. ap (λ (n : ℕ). detailOf l (cellAt s (columnAt l 0)) (f32 n) x) (sym (inside-is (l .w) (l .h) (sampleAt (l .«sample_bytes») (ps .y)) x y k h)))
 
   pub component-is : (k : Chroma) (s : List Float) → componentRow l k y s ≡ finishedRow (pictureOf l ps) k y (componentColumns (pictureOf l ps) k y s)
-  unfolding componentRow downColumns downColumn valueRow valueAt inputsOf finishedRow componentColumns readAcross readDown pictureOf
+  unfolding componentRow downColumns downColumn downResult valueRow valueAt inputsOf finishedRow componentColumns readAcross readStored readDown pictureOf
   component-is k s = refl
 
   -- ---- the whole row, from what each step leaves

@@ -4,7 +4,6 @@ use mathlib.Core.Path.{_≡_, refl, sym, ap, _∙_}
 use mathlib.Core.List.{List}
 use Prim.Native.Nat.{ℕ, _+_, _*_, _/_, _≤_, _<_}
 use native.Mathlib.Omega.{arith}
-use lib.Dec.{lit≤}
 use lib.ListN.{getD}
 use lib.Ieee.{Float, nan}
 use Rattle.laws.specs.Floats.{_⊕_, _⊗_}
@@ -13,12 +12,12 @@ use Rattle.laws.proofs.Lists.{put-same}
 use Rattle.image.specs.declared.layout.Layout.{Layout}
 use Rattle.image.specs.Inner.Tests.{Sound}
 use Rattle.image.specs.declared.chroma.Chroma.{Chroma}
-use Rattle.image.specs.declared.chroma.Chroma.the-variants.{Cb, Cr}
 use Rattle.fround.specs.Rounding.{fmin, fmax}
 use Rattle.image.specs.Scratch.{cellAt, scratchNeed}
 use Rattle.guided.specs.Guided.{acrossTo, valueOf}
-use Rattle.guided.specs.Scratch.{detailAt, finishedAt, slotAt, firstOf, columnAt, columnOf}
-use Rattle.guided.proofs.Places.{first-few, slot-behind, slot-fits, column-behind, column-fits, detail-place}
+use Rattle.guided.specs.Scratch.{detailAt, finishedAt, resultAt, firstDown, Down, Least, Greatest, numDown, columnAt}
+use Rattle.guided.proofs.Places.{buffer-behind, result-fits, column-behind, column-fits, detail-place}
+use Rattle.guided.proofs.Held.{down-small}
 use Rattle.guided_pixels.specs.declared.value_inputs.ValueInputs.{ValueInputs}
 use Rattle.guided_pixels.proofs.Lerps.{across-same}
 use Rattle.laws.proofs.Counts.{none-plus, plus-none}
@@ -41,32 +40,27 @@ value-same l o t xs ys len x b h e =
       e (detailAt l + x) (omega (arith, detail-place l .0)),
     ) refl
 
--- a component's rows by the numbers of its first ones
-pub inputs-are : (l : Layout) (k : Chroma) (j m n a b c d : ℕ) → m ≡ columnOf k → n ≡ firstOf k → a ≡ columnAt l m → b ≡ columnAt l (m + 1) → c ≡ slotAt l (n + 4) j → d ≡ slotAt l (n + 5) j → record { cells = a; slopes = b; least = c; greatest = d } ≡ inputsOf l k j
+-- a component's rows by the number of its first result
+pub inputs-are : (l : Layout) (k : Chroma) (j n a b c d : ℕ) → n ≡ firstDown k → a ≡ columnAt l 0 → b ≡ columnAt l 1 → c ≡ resultAt l (n + 1) j → d ≡ resultAt l (n + 2) j → record { cells = a; slopes = b; least = c; greatest = d } ≡ inputsOf l k j
 unfolding inputsOf
-inputs-are l k j m n a b c d e f p q r s = rw (sym e, plus-none m, sym f, sym p, sym q, sym r, sym s) refl
+inputs-are l k j n a b c d f p q r s = rw (sym f, sym p, sym q, sym r, sym s) refl
 
-few : (k : Chroma) → columnOf k ≤ 3
-few Cb = lit≤ tt
-few Cr = lit≤ tt
+column : (l : Layout) (m len : ℕ) → m < 2 → l .cw ≤ l .w → scratchNeed l ≤ len → CellsInside (columnAt l m) (3 * l .w) (l .cw) len
+column l m len h c k = record { behind = column-behind l m; fits = omega (arith, column-fits l m h c) }
 
-column : (l : Layout) (m len : ℕ) → m < 5 → scratchNeed l ≤ len → CellsInside (columnAt l m) (3 * l .w) (l .cw) len
-column l m len h k = record { behind = column-behind l m; fits = omega (arith, column-fits l m h) }
-
-slot : (l : Layout) (n j len : ℕ) → n < 15 → scratchNeed l ≤ len → CellsInside (slotAt l n j) (3 * l .w) (l .cw) len
-slot l n j len h k = record { behind = slot-behind l n j; fits = omega (arith, slot-fits l n j h) }
+result : (l : Layout) (d : Down) (j len : ℕ) → l .cw ≤ l .w → scratchNeed l ≤ len → CellsInside (resultAt l (numDown d) j) (3 * l .w) (l .cw) len
+unfolding resultAt
+result l d j len c k = record { behind = buffer-behind l _; fits = omega (arith, result-fits l (numDown d) j (down-small d) c) }
 
 -- they lie behind the detail and within scratch
-pub inputs-inside : (l : Layout) (k : Chroma) (j : ℕ) (t : ValueInputs) (len : ℕ) → t ≡ inputsOf l k j → scratchNeed l ≤ len → InputsInside t (3 * l .w) (l .cw) len
+pub inputs-inside : (l : Layout) (k : Chroma) (j : ℕ) (t : ValueInputs) (len : ℕ) → t ≡ inputsOf l k j → l .cw ≤ l .w → scratchNeed l ≤ len → InputsInside t (3 * l .w) (l .cw) len
 unfolding inputsOf
-inputs-inside l k j t len e h =
-    let f = few k in
-    let g = first-few k in
+inputs-inside l k j t len e c h =
     rw e (record {
-      cells = column l (columnOf k + 0) len (omega arith) h;
-      slopes = column l (columnOf k + 1) len (omega arith) h;
-      least = slot l (firstOf k + 4) j len (omega arith) h;
-      greatest = slot l (firstOf k + 5) j len (omega arith) h;
+      cells = column l 0 len (omega arith) c h;
+      slopes = column l 1 len (omega arith) c h;
+      least = result l (Least k) j len c h;
+      greatest = result l (Greatest k) j len c h;
     })
 
 -- a whole row is the run from 0

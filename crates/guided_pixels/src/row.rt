@@ -9,11 +9,11 @@ ghost use Rattle.image.specs.Scratch.{scratchNeed};
 ghost use Rattle.guided_across.specs.Inner.Luma.{LumaPixels};
 ghost use Rattle.guided_window.specs.Inner.Lent.{componentsOf};
 ghost use Rattle.guided_pixels.specs.Inner.Row.{downColumns, componentRow, windowRow};
+use crate::columns::RowOfCells;
 use crate::columns::down_column;
+use crate::columns::down_result;
 use crate::details::detail_row;
-use crate::value_inputs::column_of;
 use crate::values::value_row;
-use guided_window::ChromaBuffer;
 use guided_window::LumaBuffer;
 use image::Chroma;
 use image::Components;
@@ -24,10 +24,20 @@ fn down_columns(layout: Layout, k: Chroma, y: usize, s: &mut [f32])
     requires { ⌜ Sound layout × (y < layout .h) × (scratchNeed layout ≤ length (now s)) ⌝ }
     ensures { λ _. ⌜ now (s .exit) ≡ downColumns layout k y (now (s .entry)) ⌝ }
 {
-    let n = guided_window::first_of(k);
-    let m = column_of(k);
-    down_column(layout, n, m, y, s);
-    down_column(layout, n + ChromaBuffer::SLOPE, m + 1, y, s);
+    down_column(
+        layout,
+        guided_window::first_of(k),
+        RowOfCells::SAMPLES,
+        y,
+        s,
+    );
+    down_result(
+        layout,
+        guided_window::result_of(k),
+        RowOfCells::SLOPES,
+        y,
+        s,
+    );
 }
 
 // A component's rows of cells of row y, and its finished row made of them.
@@ -55,7 +65,7 @@ pub fn guided_row(
         (pictureOf layout (record { y = planeOf (now (y .entry)) «y_stride»; cb = cb; cr = cr }))
         (componentsOf components) row (now (s .entry))) ⌝ }
 {
-    down_column(layout, LumaBuffer::CELL, 0, row, s);
+    down_column(layout, LumaBuffer::CELL, RowOfCells::SAMPLES, row, s);
     detail_row(layout, y, y_stride, row, s);
     component(layout, Chroma::Cb, row, s);
     let Components::Both = components else {

@@ -3,9 +3,11 @@ ghost use mathlib.Core.Path.{_≡_};
 ghost use Prim.Native.Nat.{_≤_};
 ghost use Rattle.image.specs.Inner.Tests.{Sound};
 ghost use Rattle.fround.specs.Rounding.{fmin, fmax};
-ghost use Rattle.guided.specs.Scratch.{finishedAt, columnOf};
+ghost use Rattle.guided.specs.Scratch.{finishedAt};
 ghost use Rattle.guided_pixels.specs.Inner.Values.{inputsOf};
-use guided_window::ChromaBuffer;
+use crate::columns::RowOfCells;
+use crate::columns::column_at;
+use guided_window::ResultBuffer;
 use image::Chroma;
 use image::Layout;
 
@@ -16,16 +18,6 @@ pub struct ValueInputs {
     pub slopes: usize,
     pub least: usize,
     pub greatest: usize,
-}
-
-// Inner: the number of a component's first row of cells among those of a picture row: luma has number 0, a component two.
-pub fn column_of(k: Chroma) -> usize
-    ensures { λ r. ⌜ (r ≡ columnOf k) × (r ≤ 3) ⌝ }
-{
-    match k {
-        Chroma::Cb => 1,
-        Chroma::Cr => 3,
-    }
 }
 
 // Inner: where a component's finished row begins in scratch: Cb's at its beginning, Cr's behind it.
@@ -43,13 +35,12 @@ pub fn inputs_of(layout: Layout, k: Chroma, j: usize) -> ValueInputs
     requires { ⌜ Sound layout ⌝ }
     ensures { λ t. ⌜ t ≡ inputsOf layout k j ⌝ }
 {
-    let m = column_of(k);
-    let n = guided_window::first_of(k);
+    let n = guided_window::result_of(k);
     ValueInputs {
-        cells: crate::columns::column_at(layout, m),
-        slopes: crate::columns::column_at(layout, m + 1),
-        least: guided_window::slot_at(layout, n + ChromaBuffer::LEAST, j),
-        greatest: guided_window::slot_at(layout, n + ChromaBuffer::GREATEST, j),
+        cells: column_at(layout, RowOfCells::SAMPLES),
+        slopes: column_at(layout, RowOfCells::SLOPES),
+        least: guided_window::result_at(layout, n + ResultBuffer::LEAST, j),
+        greatest: guided_window::result_at(layout, n + ResultBuffer::GREATEST, j),
     }
 }
 

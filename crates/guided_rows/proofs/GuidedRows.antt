@@ -30,16 +30,16 @@ unfolding guidedStep
 length-step p ks a n xs = length-row p ks _ _ _ (a + n) xs
 
 -- and rows leave what is behind the scratch that they need
-pub rows-behind : (p : Picture) (ks : List Chroma) (a n : ℕ) (xs : List Float) → SameBehind (p .layout) xs (guidedRows p ks a n xs)
+pub rows-behind : (p : Picture) → p .layout .cw ≤ p .layout .w → (ks : List Chroma) (a n : ℕ) (xs : List Float) → SameBehind (p .layout) xs (guidedRows p ks a n xs)
 unfolding guidedRows guidedStep
-rows-behind p ks a zero xs i h = refl
-rows-behind p ks a (suc n) xs i h = steps-behind p ks _ _ _ (a + n) _ i h ∙ rows-behind p ks a n xs i h
+rows-behind p c ks a zero xs i h = refl
+rows-behind p c ks a (suc n) xs i h = steps-behind p c ks _ _ _ (a + n) _ i h ∙ rows-behind p c ks a n xs i h
 
 module _ (p : Picture) (ks : List Chroma) (s : Sound (p .layout)) (a : ℕ) (xs : List Float) (L : scratchNeed (p .layout) ≤ length xs) where
   -- after row a + n the window is that of row a + n
   rows-window : (n : ℕ) → a + n < p .layout .h → Win p ks (topOf (p .layout) (a + n)) (doneH (p .layout) (a + n)) (doneF (p .layout) (a + n)) (guidedRows p ks a (suc n) xs)
   unfolding guidedRows guidedStep beforeH beforeF
-  rows-window zero Y = row-window p ks s a (freshH (p .layout) a) (freshF (p .layout) a) (omega arith) (inl (refl, refl)) (a + 0) Y (omega arith) xs (win-fresh p ks (topOf (p .layout) a) xs L)
+  rows-window zero Y = row-window p ks s a (freshH (p .layout) a) (freshF (p .layout) a) (omega arith) (inl (refl, refl)) (a + 0) Y (omega arith) xs (win-fresh p ks (topOf (p .layout) a) xs (L, s .cw-most))
   rows-window (suc n) Y =
       row-window p ks s (a + n) (doneH (p .layout) (a + n)) (doneF (p .layout) (a + n)) (omega arith) (inr (refl, refl)) (a + suc n) Y (omega arith) (guidedRows p ks a (suc n) xs) (rows-window n (omega arith))
 
@@ -47,7 +47,7 @@ module _ (p : Picture) (ks : List Chroma) (s : Sound (p .layout)) (a : ℕ) (xs 
   pub rows-finished : (n : ℕ) → a + n < p .layout .h → (k : Chroma) → Has k ks → (x : ℕ) → x < p .layout .w
       → cellAt (guidedStep p ks a n (guidedRows p ks a n xs)) (finishedAt (p .layout) k) x ≡ guidedSample p k (a + n) x
   unfolding guidedRows guidedStep beforeH beforeF
-  rows-finished zero Y = row-finished p ks s a (freshH (p .layout) a) (freshF (p .layout) a) (omega arith) (inl (refl, refl)) (a + 0) Y (omega arith) xs (win-fresh p ks (topOf (p .layout) a) xs L)
+  rows-finished zero Y = row-finished p ks s a (freshH (p .layout) a) (freshF (p .layout) a) (omega arith) (inl (refl, refl)) (a + 0) Y (omega arith) xs (win-fresh p ks (topOf (p .layout) a) xs (L, s .cw-most))
   rows-finished (suc n) Y =
       row-finished p ks s (a + n) (doneH (p .layout) (a + n)) (doneF (p .layout) (a + n)) (omega arith) (inr (refl, refl)) (a + suc n) Y (omega arith) (guidedRows p ks a (suc n) xs) (rows-window n (omega arith))
 

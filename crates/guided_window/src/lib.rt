@@ -8,9 +8,12 @@ mod samples;
 
 pub use buffers::ChromaBuffer;
 pub use buffers::LumaBuffer;
+pub use buffers::ResultBuffer;
 pub use buffers::Window;
 pub use buffers::buffer_at;
 pub use buffers::first_of;
+pub use buffers::result_at;
+pub use buffers::result_of;
 pub use buffers::slot_at;
 pub use buffers::window_at;
 pub use neighbours::next;

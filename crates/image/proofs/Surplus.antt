@@ -19,7 +19,7 @@ SameBehind l xs ys = (i : ℕ) → scratchNeed l ≤ i → getD ys i nan ≡ get
 pub run-behind : (l : Layout) (xs : List Float) (at n : ℕ) (f : ℕ → Float) → at + n ≤ scratchNeed l → SameBehind l xs (put xs at n f)
 run-behind l xs at n f h i k = put-after xs at n f i nan (le-trans h k)
 
--- a call that leaves `new` where it is accepted and `old` where it isn't leaves what is behind, if `new` does
-pub call-behind : (l : Layout) (accepted : Bool) (old new after : List Float) → after ≡ cond accepted new old → SameBehind l old new → SameBehind l old after
-call-behind l true old new after e h i k = ap (λ (s : List Float). getD s i nan) e ∙ h i k
+-- a call that leaves `new` where it is accepted and `old` where it isn't leaves what is behind, if `new` does where it is accepted
+pub call-behind : (l : Layout) (accepted : Bool) (old new after : List Float) → after ≡ cond accepted new old → (accepted ≡ true → SameBehind l old new) → SameBehind l old after
+call-behind l true old new after e h i k = ap (λ (s : List Float). getD s i nan) e ∙ h refl i k
 call-behind l false old new after e h i k = ap (λ (s : List Float). getD s i nan) e

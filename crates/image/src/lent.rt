@@ -20,7 +20,7 @@ pub fn short_scratch(layout: Layout, len: usize) -> bool
     if laws::product_passes(layout.w, 8, len) {
         return true;
     }
-    laws::product_passes(layout.cw, 64, len - 8 * layout.w)
+    laws::product_passes(layout.cw, 32, len - 8 * layout.w)
 }
 
 // Inner: refusal 7's test for the three planes of a picture: luma's has w by h samples, those of Cb and Cr have cw by ch.

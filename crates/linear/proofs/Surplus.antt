@@ -25,4 +25,4 @@ linear-behind l p (suc n) s i h = linear-row-behind l p 0 n _ (omega arith) i h 
 
 pub linear-surplus : (l : Layout) (p : Plane) (scratch : List Float) (out : List ℕ) {answer : Answer} {scratch' : List Float} {out' : List ℕ} → LinearGiven l p scratch out answer scratch' out'
     → (i : ℕ) → scratchNeed l ≤ i → getD scratch' i nan ≡ getD scratch i nan
-linear-surplus l p scratch out {answer} {scratch'} g = call-behind l (accepted answer) scratch _ scratch' (g .scratches) (linear-behind l p (l .h) scratch)
+linear-surplus l p scratch out {answer} {scratch'} g = call-behind l (accepted answer) scratch _ scratch' (g .scratches) (λ _. linear-behind l p (l .h) scratch)

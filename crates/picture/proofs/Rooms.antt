@@ -34,7 +34,7 @@ module _ (input : List ℕ) (a : first (readingTests input) ≡ Accepted) where
   unfolding readingOf
   read-taken = taken input _ _ _ _ (rw a refl)
 
-  scratch-most : scratchNeed (inputLayout input) ≤ 9216
+  scratch-most : scratchNeed (inputLayout input) ≤ 5120
   unfolding scratchNeed
   scratch-most = let w = read-taken .width in let c = layout-sound read-taken .cw-most in omega arith
 
@@ -46,8 +46,8 @@ module _ (input : List ℕ) (a : first (readingTests input) ≡ Accepted) where
       let p = pixels-most read-taken in
       omega arith
 
--- with 9,216 values of scratch and 147,472 bytes of out neither 9 nor 10 is ever given
-pub room-enough : (input : List ℕ) (scratch : List Float) (out : List ℕ) → 9216 ≤ length scratch → 147472 ≤ length out → first (pictureTests input scratch out) ≡ first (readingTests input ++ ((exceeds (inputPicture input), 17) ∷ []))
+-- with 5,120 values of scratch and 147,472 bytes of out neither 9 nor 10 is ever given
+pub room-enough : (input : List ℕ) (scratch : List Float) (out : List ℕ) → 5120 ≤ length scratch → 147472 ≤ length out → first (pictureTests input scratch out) ≡ first (readingTests input ++ ((exceeds (inputPicture input), 17) ∷ []))
 unfolding pictureTests lentTests inputPicture first
 room-enough input scratch out g h = go (first (readingTests input)) refl
   where

@@ -18,5 +18,5 @@ pub use Rattle.taps.specs.Taps.{lerpOf}
 pub use Rattle.taps.specs.Taps.{phaseOf, phasesOf}
 -- the ten fractions one by one: "one for ratio 1, two for 2, three for 3, four for 4"
 pub use Rattle.taps.specs.TenFractions.{tenFractions, PhaseClaims}
--- "Scratch is lent f32, 64·cw + 8·w values"
+-- "Scratch is lent f32, 32·cw + 8·w values"
 pub use Rattle.image.specs.Scratch.{scratchNeed}

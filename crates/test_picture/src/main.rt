@@ -7,9 +7,9 @@ ghost use lib.ListN.{length};
 use libc::STDIN_FILENO;
 use picture::Outcome;
 
-// Scratch before the first call, not-a-number throughout, as long as the program's own: `SCRATCH` of ycbcrtoppm, 64 · 128 + 8 · 128.
-fn scratch() -> [f32; 9_216] {
-    [0.0 / 0.0; 9_216]
+// Scratch before the first call, not-a-number throughout, as long as the program's own: `SCRATCH` of ycbcrtoppm, 32 · 128 + 8 · 128.
+fn scratch() -> [f32; 5_120] {
+    [0.0 / 0.0; 5_120]
 }
 
 // An output that no call has written, one value throughout, as long as the program's own: `OUT` of ycbcrtoppm, 16 + 3 · 49,152.

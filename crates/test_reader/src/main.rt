@@ -202,10 +202,10 @@ fn called(text: &[u8], spelling: &[u8], given: Reader, s: &mut [f32]) -> Done {
     lent(text, given, &y[..y_len], &cb[..cb_len], &cr[..cr_len], s)
 }
 
-// How many floats at the front of scratch an accepted row call may touch: 64·cw + 8·w, where neither is past 8,192.
+// How many floats at the front of scratch an accepted row call may touch: 32·cw + 8·w, where neither is past 8,192.
 fn row_need(reader: Reader) -> usize {
     let g = reader.geometry;
-    64 * laws::least(g.cw, 8_192) + 8 * laws::least(g.w, 8_192)
+    32 * laws::least(g.cw, 8_192) + 8 * laws::least(g.w, 8_192)
 }
 
 // Writes a call's line. The sum is of its outputs, of the reader that it gave, and of whether it changed scratch that it may not touch.

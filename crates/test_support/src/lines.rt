@@ -124,11 +124,11 @@ pub fn strides(text: &[u8]) -> Strides {
     }
 }
 
-// Inner: how many floats at the front of scratch a line's call may touch: the 64·cw + 8·w that it needs, or none where it was refused.
+// Inner: how many floats at the front of scratch a line's call may touch: the 32·cw + 8·w that it needs, or none where it was refused.
 // What stands behind them is summed, so that a call that writes there is seen.
 pub fn scratch_part(text: &[u8], answer: usize) -> usize {
     if answer != 0 {
         return 0;
     }
-    64 * word(text, 4) + 8 * word(text, 0)
+    32 * word(text, 4) + 8 * word(text, 0)
 }

@@ -12,9 +12,9 @@ use picture::Outcome;
 // too long.
 const INPUT: usize = 49_153;
 
-// The most scratch that a picture asks for, 64 · cw + 8 · w floats: with netpbm's `Image::WIDTH` of 128 columns and as many cells that is
-// 64 · 128 + 8 · 128.
-const SCRATCH: usize = 9_216;
+// The most scratch that a picture asks for, 32 · cw + 8 · w floats: with netpbm's `Image::WIDTH` of 128 columns and as many cells that is
+// 32 · 128 + 8 · 128.
+const SCRATCH: usize = 5_120;
 
 // The most that is written: the longest header, netpbm's `Line::ROOM` of 16 bytes, and three bytes for each byte of the longest input,
 // 16 + 3 · 49,152. With `SCRATCH` and `OUT` refusals 9 and 10 are never given: `room-enough` of picture's proofs.

@@ -8,7 +8,7 @@ use Rattle.image.specs.declared.layout.Layout.{Layout}
 use Rattle.taps.specs.Taps.{lerpOf}
 use Rattle.image.specs.Scratch.{scratchNeed, cellAt}
 use Rattle.guided.specs.Guided.{downTo}
-use Rattle.guided.specs.Scratch.{slotAt, columnAt}
+use Rattle.guided.specs.Scratch.{slotAt, resultAt, columnAt}
 
 -- the n cells at a and at b, lerped by f, put at dst
 unfoldable pub lerpRun : ℕ → ℕ → Float → ℕ → ℕ → List Float → List Float
@@ -22,3 +22,7 @@ pub record ColumnGiven (l : Layout) (m at : ℕ) : Type 0 where
 -- buffer n of the window, lerped down for picture row y, put into row of cells m
 unfoldable pub downColumn : Layout → ℕ → ℕ → ℕ → List Float → List Float
 downColumn l n m y s = put s (columnAt l m) (l .cw) (downTo l (λ r i. cellAt s (slotAt l n r) i) y)
+
+-- and result n of it
+unfoldable pub downResult : Layout → ℕ → ℕ → ℕ → List Float → List Float
+downResult l n m y s = put s (columnAt l m) (l .cw) (downTo l (λ r i. cellAt s (resultAt l n r) i) y)

@@ -5,14 +5,13 @@ use lib.Ieee.{Float}
 use Rattle.image.specs.declared.layout.Layout.{Layout}
 use Rattle.image.specs.declared.chroma.Chroma.{Chroma}
 use Rattle.image.specs.Picture.{Picture}
-use Rattle.guided.specs.Guided.{Cell}
-use Rattle.guided.specs.Scratch.{numAcross, Slope, numDown, columnOf, lumaColumn, detailRow, componentsOver}
-use Rattle.guided_pixels.specs.Inner.Columns.{downColumn}
+use Rattle.guided.specs.Scratch.{Cells, numStored, Slope, numDown, lumaColumn, detailRow, componentsOver}
+use Rattle.guided_pixels.specs.Inner.Columns.{downColumn, downResult}
 use Rattle.guided_pixels.specs.Inner.Values.{valueRow}
 
--- a component's samples and slopes, lerped down for row y into its two rows of cells
+-- a component's samples and slopes, lerped down for row y into the two rows of cells
 unfoldable pub downColumns : Layout → Chroma → ℕ → List Float → List Float
-downColumns l k y s = downColumn l (numDown (Slope k)) (columnOf k + 1) y (downColumn l (numAcross (Cell k)) (columnOf k + 0) y s)
+downColumns l k y s = downResult l (numDown (Slope k)) 1 y (downColumn l (numStored (Cells k)) 0 y s)
 
 -- a component's rows of cells for row y, and its finished row made of them
 unfoldable pub componentRow : Layout → Chroma → ℕ → List Float → List Float

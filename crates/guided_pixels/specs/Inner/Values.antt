@@ -7,12 +7,12 @@ use Rattle.image.specs.declared.layout.Layout.{Layout}
 use Rattle.image.specs.declared.chroma.Chroma.{Chroma}
 use Rattle.image.specs.Scratch.{cellAt}
 use Rattle.guided.specs.Guided.{valueOf}
-use Rattle.guided.specs.Scratch.{detailAt, finishedAt, slotAt, Least, Greatest, numDown, columnAt, columnOf}
+use Rattle.guided.specs.Scratch.{detailAt, finishedAt, resultAt, Least, Greatest, numDown, columnAt}
 use Rattle.guided_pixels.specs.declared.value_inputs.ValueInputs.{ValueInputs}
 
--- where the rows begin that a component's values in chroma row j are made of: two rows of cells, and its extremes
+-- where the rows begin that a component's values in chroma row j are made of: the two rows of cells, and its extremes
 unfoldable pub inputsOf : Layout → Chroma → ℕ → ValueInputs
-inputsOf l k j = record { cells = columnAt l (columnOf k + 0); slopes = columnAt l (columnOf k + 1); least = slotAt l (numDown (Least k)) j; greatest = slotAt l (numDown (Greatest k)) j }
+inputsOf l k j = record { cells = columnAt l 0; slopes = columnAt l 1; least = resultAt l (numDown (Least k)) j; greatest = resultAt l (numDown (Greatest k)) j }
 
 -- a row of n cells lies behind the first `low` values and within `len`
 pub record CellsInside (at low n len : ℕ) : Type 0 where

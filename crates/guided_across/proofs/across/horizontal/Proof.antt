@@ -38,7 +38,7 @@ returns c =
     let l = a .layout in
     let ps = planes (c .before .before .before .before .before .before .before .before .before .before .before .before .before .before) in
     c .before .before .before .before .chroma-part .ensures ∙ ap (chromaPart l (sampleAt (l .«sample_bytes») (ps .cb)) Cb (a .j)) (c .before .before .before .before .before .before .before .before .luma-part .ensures)
-    ∙ horizontal-one l ps (a .j) (a .s .now) (omega arith) (omega arith)
+    ∙ horizontal-one l ps (a .j) (a .s .now) (omega arith) (omega arith, c .before .before .before .before .before .before .before .before .before .before .before .before .before .before .pre .0 .sound .cw-most)
     ∙ ap (λ (ks : Components). horizontal (pictureOf l ps) (componentsOf ks) (a .j) (a .s .now)) (sym (c .enum-told2 .given .1))
 
 chroma-part-requires-2 : tie.Need-chroma-part-requires-2
@@ -54,7 +54,7 @@ returns-2 c =
     let ps = planes (c .before .before .before .before .before .before .before .before .before .before .before .before .before .before .before .before .before .before) in
     c .before .before .chroma-part2 .ensures
     ∙ ap (chromaPart l (sampleAt (l .«sample_bytes») (ps .cr)) Cr (a .j)) (c .before .before .before .before .before .before .before .before .chroma-part .ensures ∙ ap (chromaPart l (sampleAt (l .«sample_bytes») (ps .cb)) Cb (a .j)) (c .before .before .before .before .before .before .before .before .before .before .before .before .luma-part .ensures))
-    ∙ horizontal-both l ps (a .j) (a .s .now) (omega arith) (omega arith)
+    ∙ horizontal-both l ps (a .j) (a .s .now) (omega arith) (omega arith, c .before .before .before .before .before .before .before .before .before .before .before .before .before .before .before .before .before .before .pre .0 .sound .cw-most)
     ∙ ap (λ (ks : Components). horizontal (pictureOf l ps) (componentsOf ks) (a .j) (a .s .now)) (sym (c .before .before .before .before .enum-told .given .1))
 
 pub horizontal-spec : {M : Type 1} → statement M

@@ -7,8 +7,8 @@ use Rattle.guided_across.proofs.across.luma_part.Statement.{statement}
 use Rattle.guided_across.proofs.across.luma_part.Tie as tie
 use Rattle.image.specs.Samples.{planeOf}
 
-cell-buffers-at-requires : tie.Need-cell-buffers-at-requires
-cell-buffers-at-requires c κs = search needs
+luma-rows-at-requires : tie.Need-luma-rows-at-requires
+luma-rows-at-requires c κs = search needs
 
 luma-row-requires : tie.Need-luma-row-requires
 luma-row-requires c κs = search needs
@@ -26,16 +26,16 @@ returns : tie.Need-returns
 returns c =
     let a = c .before .before .before .before .before .before .before .before .before .before .before .before .before .before .before .args in
     let l = a .layout in
-    let t = c .before .before .before .before .before .before .before .before .before .before .before .before .cell-buffers-at .result in
+    let t = c .before .before .before .before .before .before .before .before .before .before .before .before .luma-rows-at .result in
     c .before .before .product-sum-row .ensures
-    ∙ ap (threeRow (productsAt (t .at) (t .at)) (l .cw) (t .products)) (c .before .before .before .before .before .before .sum-row .ensures ∙ ap (threeRow (cellsAt (t .at)) (l .cw) (t .sums)) (c .before .before .before .before .before .before .before .before .before .before .luma-row .ensures))
-    ∙ luma-steps l (planeOf (a .plane .now) (a .stride)) (a .j) t (a .s .now) (c .before .before .before .before .before .before .before .before .before .before .before .before .cell-buffers-at .ensures) (omega arith)
+    ∙ ap (threeRow (productsAt (t .at) (t .at)) (l .cw) (t .squares)) (c .before .before .before .before .before .before .sum-row .ensures ∙ ap (threeRow (cellsAt (t .at)) (l .cw) (t .sums)) (c .before .before .before .before .before .before .before .before .before .before .luma-row .ensures))
+    ∙ luma-steps l (planeOf (a .plane .now) (a .stride)) (a .j) t (a .s .now) (c .before .before .before .before .before .before .before .before .before .before .before .before .luma-rows-at .ensures) (omega arith)
 
 pub luma-part-spec : {M : Type 1} → statement M
 luma-part-spec =
     tie.close
     (tie.spec
-    cell-buffers-at-requires
+    luma-rows-at-requires
     luma-row-requires
     sum-row-requires
     product-sum-row-requires

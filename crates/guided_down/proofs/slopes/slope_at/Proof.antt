@@ -1,36 +1,21 @@
-use Rattle.guided_down.proofs.Statistics.{by-same}
-use Rattle.guided_down.specs.Inner.Slopes.{slopeAt}
-use mathlib.Core.Path.{_∙_}
+use mathlib.Core.Path.{ap, _∙_}
+use native.Mathlib.Omega.{arith}
 use borrow.Author.Needs.{needs}
+use lib.Ieee.{Float}
+use Rattle.guided_down.specs.Inner.Slopes.{slopeWith, slopeAt}
+use Rattle.guided_down.proofs.Statistics.{all-less}
 use Rattle.guided_down.proofs.slopes.slope_at.Statement.{statement}
 use Rattle.guided_down.proofs.slopes.slope_at.Tie as tie
 
-mean-at-requires : tie.Need-mean-at-requires
-mean-at-requires c κs = search needs
+mean-over-requires : tie.Need-mean-over-requires
+mean-over-requires c κs = search needs
 
-mean-at-requires-2 : tie.Need-mean-at-requires-2
-mean-at-requires-2 c κs = search needs
-
-mean-at-requires-3 : tie.Need-mean-at-requires-3
-mean-at-requires-3 c κs = search needs
-
-mean-at-requires-4 : tie.Need-mean-at-requires-4
-mean-at-requires-4 c κs = search needs
-
-slope-by-requires : tie.Need-slope-by-requires
-slope-by-requires c κs = search needs
+slope-with-requires : tie.Need-slope-with-requires
+slope-with-requires c κs = let h = c .before .before .pre .0 in all-less (c .before .before .pre .1) _ _ (omega arith) (omega arith)
 
 returns : tie.Need-returns
 unfolding slopeAt
-returns c = c .slope-by .ensures ∙ by-same _ (c .before .before .before .before .mean-at .ensures) (c .before .before .before .mean-at2 .ensures) (c .before .before .mean-at3 .ensures) (c .before .mean-at4 .ensures)
+returns c = let a = c .before .before .before .args in c .slope-with .ensures ∙ ap (λ (x : Float). slopeWith (a .s .now) (a .t) (a .eps) x (a .i)) (c .before .mean-over .ensures)
 
 pub slope-at-spec : {M : Type 1} → statement M
-slope-at-spec =
-    tie.close
-    (tie.spec
-    mean-at-requires
-    mean-at-requires-2
-    mean-at-requires-3
-    mean-at-requires-4
-    slope-by-requires
-    returns)
+slope-at-spec = tie.close (tie.spec mean-over-requires slope-with-requires returns)

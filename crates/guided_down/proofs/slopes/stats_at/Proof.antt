@@ -1,3 +1,5 @@
+use mathlib.Core.Path.{refl, ap, _∙_}
+use native.Mathlib.Omega.{arith}
 use Rattle.guided_down.proofs.Statistics.{stats-are}
 use borrow.Author.Needs.{needs}
 use Rattle.guided_down.proofs.slopes.stats_at.Statement.{statement}
@@ -12,14 +14,11 @@ window-at-requires c κs = search needs
 window-at-requires-2 : tie.Need-window-at-requires-2
 window-at-requires-2 c κs = search needs
 
-add-window-at : tie.Need-add-window-at
-add-window-at c = search needs
-
 window-at-requires-3 : tie.Need-window-at-requires-3
 window-at-requires-3 c κs = search needs
 
-add-window-at-2 : tie.Need-add-window-at-2
-add-window-at-2 c = search needs
+add-window-at : tie.Need-add-window-at
+add-window-at c = search needs
 
 window-at-requires-4 : tie.Need-window-at-requires-4
 window-at-requires-4 c κs = search needs
@@ -34,8 +33,7 @@ stats-at-spec =
     first-of-requires
     window-at-requires
     window-at-requires-2
-    add-window-at
     window-at-requires-3
-    add-window-at-2
+    add-window-at
     window-at-requires-4
     returns)

@@ -16,7 +16,7 @@ value-cells-requires : tie.Need-value-cells-requires
 value-cells-requires c κs = let a = c .before .before .before .before .args in
     let k = a .k in
     let e = c .before .finished-at .ensures in
-    ((c .before .before .before .before .pre .0, inputs-inside (a .layout) k (a .j) _ _ (c .before .before .inputs-of .ensures) (omega arith)), omega (arith, e, finished-place (a .layout) k))
+    ((c .before .before .before .before .pre .0, inputs-inside (a .layout) k (a .j) _ _ (c .before .before .inputs-of .ensures) (c .before .before .before .before .pre .0 .cw-most) (omega arith)), omega (arith, e, finished-place (a .layout) k))
 
 same-length : tie.Need-same-length
 same-length c = search needs

@@ -9,9 +9,9 @@ use Rattle.guided_window.proofs.buffers.buffer_at.Statement.{statement}
 use Rattle.guided_window.proofs.buffers.buffer_at.Tie as tie
 
 -- the buffer ends within scratch
-room : (c : tie.After-pitch-of) → (let a = c .before .before .args in 3 * a .layout .w + a .n * c .pitch-of .result + a .layout .cw ≤ 64 * a .layout .cw + 8 * a .layout .w)
+room : (c : tie.After-pitch-of) → (let a = c .before .before .args in 3 * a .layout .w + a .n * c .pitch-of .result + a .layout .cw ≤ 32 * a .layout .cw + 8 * a .layout .w)
 unfolding bufferAt scratchNeed
-room c = let a = c .before .before .args in rw (c .pitch-of .ensures) (buffer-fits (a .layout) (a .n) (omega arith))
+room c = let a = c .before .before .args in rw (c .pitch-of .ensures) (buffer-fits (a .layout) (a .n) (omega arith) (c .before .before .pre .0 .cw-most))
 
 mul-result : tie.Need-mul-result
 mul-result c = search needs

@@ -36,7 +36,7 @@ unfolding scratchNeed
 returns-2 c =
     let h = eights (c .before .before) in
     let a = c .before .before .before .before .args in
-    c .product-passes2 .ensures ∙ same-test (a .len - 8 * a .layout .w) (a .layout .cw * 64) (a .len) (scratchNeed (a .layout)) (λ k. omega arith) (λ k. omega arith)
+    c .product-passes2 .ensures ∙ same-test (a .len - 8 * a .layout .w) (a .layout .cw * 32) (a .len) (scratchNeed (a .layout)) (λ k. omega arith) (λ k. omega arith)
 
 pub short-scratch-spec : {M : Type 1} → statement M
 short-scratch-spec =
