@@ -7,7 +7,7 @@
 mod raw;
 
 use oracle::{Bytes, Chroma, GuidedReader, Kernel, Numbers, Picture, Upsampling};
-use raw::{ChromaLayout, ChromaReader, ChromaStrides};
+use raw::{ChromaLayout, ChromaReader, ChromaRectangle, ChromaStrides};
 
 #[repr(C)]
 struct Timespec {
@@ -114,6 +114,49 @@ impl Cell {
                 assert!(n == 0);
             },
             || oracle::fill(&i.beside, size, up, kernel, &mut want.borrow_mut()).expect("a fill"),
+            || *out.borrow() == *want.borrow(),
+        );
+    }
+
+    /// A refill of a rectangle of `width` by `height` cells in the middle, guided and exact, three bytes a
+    /// pixel; the original has no such call, and fills the whole picture.
+    fn refill(&self, i: &Input, width: usize, height: usize, name: &str) {
+        let l = i.layout;
+        let cells = ChromaRectangle { left: (l.cw - width) / 2, top: (l.ch - height) / 2, width, height };
+        let [y, cb, cr] = &i.planes;
+        let mut old = [cb.clone(), cr.clone()];
+        for (plane, stride) in old.iter_mut().zip([i.strides.cb, i.strides.cr]) {
+            for row in plane.chunks_mut(stride).skip(cells.top).take(height) {
+                row[cells.left..cells.left + width].iter_mut().for_each(|cell| *cell ^= 85);
+            }
+        }
+        let mut s = i.scratch.clone();
+        let mut held = vec![7u8; l.w * l.h * 3];
+        // SAFETY: each pointer and length are one slice's.
+        let n = unsafe {
+            raw::chroma_fill(
+                l, y.as_ptr(), y.len(), old[0].as_ptr(), old[0].len(), old[1].as_ptr(), old[1].len(), i.strides,
+                1, 0, 3, s.as_mut_ptr(), s.len(), held.as_mut_ptr(), held.len(),
+            )
+        };
+        assert!(n == 0);
+        let out = std::cell::RefCell::new(held);
+        let want = std::cell::RefCell::new(vec![7u8; l.w * l.h * 3]);
+        self.run(
+            name, l.w * l.h,
+            || {
+                let mut out = out.borrow_mut();
+                // SAFETY: each pointer and length are one slice's.
+                let n = unsafe {
+                    raw::chroma_refill(
+                        l, y.as_ptr(), y.len(), old[0].as_ptr(), old[0].len(), old[1].as_ptr(), old[1].len(), i.strides,
+                        y.as_ptr(), y.len(), cb.as_ptr(), cb.len(), cr.as_ptr(), cr.len(), i.strides,
+                        cells, 0, 3, s.as_mut_ptr(), s.len(), out.as_mut_ptr(), out.len(),
+                    )
+                };
+                assert!(n == 0);
+            },
+            || oracle::fill(&i.beside, 3, Upsampling::Guided, Kernel::Exact, &mut want.borrow_mut()).expect("a fill"),
             || *out.borrow() == *want.borrow(),
         );
     }
@@ -265,6 +308,9 @@ fn main() {
     cell.plane(&i, 0, "linear plane, 2:2");
     cell.plane(&i, 1, "guided plane, 2:2");
     cell.plane(&i, 2, "triangular plane, 2:2");
+    for (width, height) in [(0, 0), (16, 1), (16, 16), (512, 128), (512, 512)] {
+        cell.refill(&i, width, height, &format!("refill of {width} by {height} cells, 2:2, 1024 by 1024, beside a fill of the original's"));
+    }
     for (num, den) in [(2, 2), (2, 3), (2, 4), (3, 3), (3, 4), (4, 4)] {
         let i = input_by(1_024, 1_024, (num, den), (num, den), 1, 255);
         cell.plane(&i, 0, &format!("linear plane, {num} of {den} both ways"));

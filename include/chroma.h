@@ -28,8 +28,8 @@
  *     opened picture.
  *
  * A slice may be longer than needed, but for a chart; its surplus is untouched. chroma_open,
- * chroma_fill, the calls for a plane and chroma_picture look at every sample inside the planes that
- * they are lent, and turn a picture down by 17 if one exceeds maxval; padding and surplus are not
+ * chroma_fill, chroma_refill, the calls for a plane and chroma_picture look at every sample inside
+ * the planes that they are lent, and turn a picture down by 17 if one exceeds maxval; padding and surplus are not
  * looked at. chroma_row doesn't look again: it takes samples as they are.
  *
  * A not-a-number has one form in the logic of the proofs. So for a lent float 'unchanged' and
@@ -48,7 +48,7 @@ extern "C" {
 /* The interface that this header describes, 0xMMmmpp: raised whenever a struct, a number or a call
  * moves. chroma_version gives that of the library that is linked: a program that was compiled
  * against another one should stop. */
-#define CHROMA_VERSION 0x000800
+#define CHROMA_VERSION 0x000900
 uint32_t chroma_version(void);
 
 /* What a call answers: the first number of its list that applies, where lists follow the order
@@ -85,9 +85,13 @@ enum ChromaRefusal {
     CHROMA_ABOVE_MAXVAL = 17, /* a sample inside a plane that exceeds maxval */
     CHROMA_BAD_RANGE = 18,    /* studio range with another maxval than 255, or with the fixed
                                  kernel */
-    CHROMA_BAD_RECTANGLE = 19, /* chroma_patch: a rectangle whose end passes 65535 */
+    CHROMA_BAD_RECTANGLE = 19, /* chroma_patch: a rectangle whose end passes 65535; chroma_refill:
+                                 one with a cell outside the chroma plane */
     CHROMA_BAD_CHART = 20,    /* a chart that is not 2 to 24 shades of three bytes, no byte over */
-    CHROMA_NO_SUCH_WAY = 255  /* a siting, a range, or a switch of chroma_fill, that is neither
+    CHROMA_OTHER_CHANGE = 21, /* chroma_refill: luma that differs between the two sets of planes, or
+                                 chroma that differs outside the rectangle */
+    CHROMA_NO_SUCH_WAY = 255  /* a siting, a range, or a switch of chroma_fill or chroma_refill, that is
+                                 neither
                                  0 nor 1 */
 };
 
@@ -170,7 +174,8 @@ typedef struct ChromaWritten {
     size_t len;
 } ChromaWritten;
 
-/* Part of a picture: its first column and row, and its sides. */
+/* Part of a picture: its first column and row, and its sides. In pixels for chroma_patch and
+ * chroma_chart_reading, in chroma cells for chroma_refill. */
 typedef struct ChromaRectangle {
     size_t left, top;
     size_t width, height;
@@ -287,6 +292,32 @@ uint32_t chroma_fill(ChromaLayout layout,
                      size_t size,
                      float *scratch, size_t scratch_len,
                      uint8_t *out, size_t out_len);
+
+/* Converts again, guided, where a rectangle of chroma cells was replaced: out holds the picture as
+ * it was, as chroma_fill leaves it (guided, same kernel and size), and becomes the picture as it
+ * is now. Only the rows whose cell row, y / rv, is within two of the rectangle are written, with
+ * the bytes that chroma_fill would write there from the planes after the change; every other row
+ * keeps its bytes, whatever they are. Where out held the conversion before the change it then
+ * holds, as a whole, the one after it. A rectangle with no cell writes nothing. The first three
+ * planes, with old_strides, are those before the change: they are looked at by the checks alone,
+ * and may lie elsewhere or be padded otherwise than those after it.
+ * Refusals 255, then 2, 3, 4, 18, 5, 16, 7, 17, 8, 9, 19 (a cell of the rectangle lies outside the
+ * chroma plane), 10 (out shorter than w * h * size), 21 (a sample of luma, or of chroma outside
+ * the rectangle, differs between the two sets of planes); 7 and 17 are for either set. */
+uint32_t chroma_refill(ChromaLayout layout,
+                       const uint8_t *old_y, size_t old_y_len,
+                       const uint8_t *old_cb, size_t old_cb_len,
+                       const uint8_t *old_cr, size_t old_cr_len,
+                       ChromaStrides old_strides,
+                       const uint8_t *y, size_t y_len,
+                       const uint8_t *cb, size_t cb_len,
+                       const uint8_t *cr, size_t cr_len,
+                       ChromaStrides strides,
+                       ChromaRectangle cells,
+                       uint32_t kernel,
+                       size_t size,
+                       float *scratch, size_t scratch_len,
+                       uint8_t *out, size_t out_len);
 
 /* The colour of one pixel by the exact kernel: chroma in 256ths, samples in 0..maxval; in studio
  * range (range 1, maxval 255) as chroma_fill has it.

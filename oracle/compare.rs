@@ -1,7 +1,9 @@
 //! Random pictures and call lists, the crates' sources beside the original; pairs that aren't whole
-//! beside it too, co-sited pictures beside sited.rs, and studio range beside studio.rs. No sample of theirs exceeds its maxval, and
-//! one does in pictures of their own, which must be turned down.
-//! Usage: compare PICTURES LISTS PIXELS FILLS SITED STUDIO; it ends with status 1 where anything differs.
+//! beside it too, co-sited pictures beside sited.rs, studio range beside studio.rs, and refills beside
+//! refills.rs. No sample of theirs exceeds its maxval, and one does in pictures of their own, which
+//! must be turned down.
+//! Usage: compare PICTURES LISTS PIXELS FILLS SITED STUDIO REFILLS; it ends with status 1 where anything differs.
+mod refills;
 mod sited;
 mod studio;
 
@@ -592,6 +594,10 @@ fn main() {
     }
     let [coloured, kept] = studio;
     println!("{} fills in studio range; differ: {coloured}, guided planes {kept}", counts[5] / 16);
+    let mut again = refills::Found::default();
+    (0..counts[6]).for_each(|t| refills::refill(&mut r, t, &mut again));
+    let refills::Found { differ: refilled, converted, refused: turned, whole } = again;
+    println!("{} refills, {converted} that convert rows, {turned} refused, {whole} from the conversion before to the one after; differ: {refilled}", counts[6]);
     let mut lent = [0; 2];
     for t in 0..counts[4] {
         let found = above(&mut r, t);
@@ -600,6 +606,6 @@ fn main() {
     let [calls, lone_rows] = lent;
     println!("{} pictures with a sample above the maxval, in a plane or beside it; differ: calls {calls}, rows {lone_rows}", counts[4]);
     let all = linear + guided + triangular + lists + exact + other + fixed + every + fills
-        + planes + filled + refused + differ + coloured + kept + calls + lone_rows;
+        + planes + filled + refused + differ + coloured + kept + calls + lone_rows + refilled;
     std::process::exit((all != 0) as i32);
 }

@@ -28,8 +28,8 @@ fn guarded_floats<R>(slice: &mut [f32], f: impl FnOnce(&mut [f32]) -> R) -> R {
 pub mod reconstruction {
     use crate::raw::{
         chroma_exact_pixel, chroma_fill, chroma_fixed_pixel, chroma_guided_plane, chroma_linear_plane,
-        chroma_open, chroma_row, chroma_seek, chroma_triangular_plane, ChromaLayout, ChromaPhase,
-        ChromaPixel, ChromaReader, ChromaReply, ChromaStrides,
+        chroma_open, chroma_refill, chroma_row, chroma_seek, chroma_triangular_plane, ChromaLayout, ChromaPhase,
+        ChromaPixel, ChromaReader, ChromaRectangle, ChromaReply, ChromaStrides,
     };
     use crate::{guarded, guarded_floats};
 
@@ -85,6 +85,14 @@ pub mod reconstruction {
 
     fn raw_strides(s: Strides) -> ChromaStrides {
         ChromaStrides { y: s.y, cb: s.cb, cr: s.cr }
+    }
+
+    #[derive(Clone, Copy, Debug, PartialEq)]
+    pub struct Rectangle {
+        pub left: usize,
+        pub top: usize,
+        pub width: usize,
+        pub height: usize,
     }
 
     #[derive(Clone, Copy, Debug, PartialEq)]
@@ -306,6 +314,30 @@ pub mod reconstruction {
                     chroma_fill(
                         raw_layout(layout), y.as_ptr(), y.len(), cb.as_ptr(), cb.len(), cr.as_ptr(), cr.len(),
                         strides, upsampling as u32, kernel as u32, size,
+                        s.as_mut_ptr(), s.len(), out.as_mut_ptr(), out.len(),
+                    )
+                })
+            })
+        })
+    }
+
+    #[allow(clippy::too_many_arguments)]
+    pub fn refill(
+        layout: Layout, old_y: &[u8], old_cb: &[u8], old_cr: &[u8], old_strides: Strides,
+        y: &[u8], cb: &[u8], cr: &[u8], strides: Strides,
+        cells: Rectangle, kernel: YcbcrKernel, size: usize, s: &mut [f32], out: &mut [u8],
+    ) -> Answer {
+        let (old_strides, strides) = (raw_strides(old_strides), raw_strides(strides));
+        let Rectangle { left, top, width, height } = cells;
+        guarded_floats(s, |s| {
+            guarded(out, 165, |out| {
+                // SAFETY: each pointer and length are one slice's; the copies overlap nothing.
+                answer(unsafe {
+                    chroma_refill(
+                        raw_layout(layout), old_y.as_ptr(), old_y.len(), old_cb.as_ptr(), old_cb.len(),
+                        old_cr.as_ptr(), old_cr.len(), old_strides,
+                        y.as_ptr(), y.len(), cb.as_ptr(), cb.len(), cr.as_ptr(), cr.len(), strides,
+                        ChromaRectangle { left, top, width, height }, kernel as u32, size,
                         s.as_mut_ptr(), s.len(), out.as_mut_ptr(), out.len(),
                     )
                 })

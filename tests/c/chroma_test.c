@@ -1348,6 +1348,129 @@ static ChromaRectangle rectangle_of(size_t left, size_t top, size_t width, size_
     return r;
 }
 
+/* ---- refills */
+
+/* A strip after a change of each cell of a rectangle; it shares the luma. */
+static Strip changed_strip(const Strip *p, ChromaRectangle cells) {
+    Strip q = *p;
+    q.cb = lend_bytes(q.c_len), q.cr = lend_bytes(q.c_len);
+    memcpy(q.cb, p->cb, q.c_len), memcpy(q.cr, p->cr, q.c_len);
+    for (size_t j = cells.top; j < cells.top + cells.height; j++)
+        for (size_t i = cells.left; i < cells.left + cells.width; i++) {
+            q.cb[j * q.s.cb + i] ^= 0x55;
+            q.cr[j * q.s.cr + i] = (uint8_t)(255 - q.cr[j * q.s.cr + i]);
+        }
+    return q;
+}
+
+static uint32_t fill_strip(const Strip *p, uint32_t kernel, size_t size, float *scratch, uint8_t *out) {
+    return chroma_fill(p->l, p->y, p->y_len, p->cb, p->c_len, p->cr, p->c_len, p->s, 1, kernel, size,
+                       scratch, p->need, out, p->y_len * size);
+}
+
+static uint32_t refill_strip(const Strip *p, const Strip *q, ChromaRectangle cells, uint32_t kernel,
+                             size_t size, float *scratch, size_t scratch_len, uint8_t *out, size_t out_len) {
+    return chroma_refill(q->l, p->y, p->y_len, p->cb, p->c_len, p->cr, p->c_len, p->s,
+                         q->y, q->y_len, q->cb, q->c_len, q->cr, q->c_len, q->s,
+                         cells, kernel, size, scratch, scratch_len, out, out_len);
+}
+
+/* A picture of the conversion before becomes the one after; of any other picture the rows that are
+ * within two cell rows become those of the conversion, and all others keep their bytes. */
+static void refill_is_fill(size_t w, size_t h, size_t rh, size_t rv, ChromaRectangle cells,
+                           uint32_t kernel, size_t size) {
+    Strip p = strip_of(w, h, rh, rv);
+    Strip q = changed_strip(&p, cells);
+    size_t len = w * h * size, row = w * size;
+    float *scratch = lend_floats(p.need);
+    uint8_t *before = lend_bytes(len), *after = lend_bytes(len), *out = lend_bytes(len);
+    SAME(fill_strip(&p, kernel, size, scratch, before), 0);
+    SAME(fill_strip(&q, kernel, size, scratch, after), 0);
+
+    memcpy(out, before, len);
+    SAME(refill_strip(&p, &q, cells, kernel, size, scratch, p.need, out, len), 0);
+    CHECK(memcmp(out, after, len) == 0);
+
+    memset(out, 0xA5, len);
+    SAME(refill_strip(&p, &q, cells, kernel, size, scratch, p.need, out, len), 0);
+    for (size_t y = 0; y < h; y++) {
+        size_t j = y / rv;
+        if (cells.width > 0 && cells.height > 0 && cells.top <= j + 2 && j < cells.top + cells.height + 2)
+            CHECK(memcmp(out + y * row, after + y * row, row) == 0);
+        else
+            CHECK(untouched(out + y * row, row));
+    }
+    end_slices();
+}
+
+static void test_refills(void) {
+    for (size_t rh = 1; rh < 5; rh++)
+        for (size_t rv = 1; rv < 5; rv++) {
+            size_t w = 19, h = 9 * rv - rv / 2, cw = (w + rh - 1) / rh, ch = 9;
+            for (uint32_t way = 0; way < 4; way++) {
+                uint32_t kernel = way % 2;
+                size_t size = 3 + way / 2;
+                refill_is_fill(w, h, rh, rv, rectangle_of(0, 0, 1, 1), kernel, size);
+                refill_is_fill(w, h, rh, rv, rectangle_of(cw - 1, ch - 1, 1, 1), kernel, size);
+                refill_is_fill(w, h, rh, rv, rectangle_of(1, 3, 2, 2), kernel, size);
+                refill_is_fill(w, h, rh, rv, rectangle_of(0, 0, cw, ch), kernel, size);
+                refill_is_fill(w, h, rh, rv, rectangle_of(2, 4, 0, 3), kernel, size);
+                refill_is_fill(w, h, rh, rv, rectangle_of(SIZE_MAX, SIZE_MAX, 1, 0), kernel, size);
+            }
+        }
+}
+
+static void test_refill_refusals(void) {
+    ChromaRectangle cells = rectangle_of(3, 1, 2, 1);
+    Strip p = strip_of(21, 6, 2, 2);
+    Strip q = changed_strip(&p, cells);
+    Strip r = q;
+    float *scratch = (float *)watch(4 * p.need);
+    uint8_t *out = (uint8_t *)watch(4 * 126);
+
+#define REFILL(cells, kernel, size, scratch_len, out_len)                             \
+    refill_strip(&p, &r, cells, kernel, size, scratch, scratch_len, out, out_len)
+    REFUSED(REFILL(cells, 2, 4, p.need, 504), 255);
+    r.l.siting_down = 2;
+    REFUSED(REFILL(cells, 0, 4, p.need, 504), 255);
+    r.l.siting_down = 1;
+    REFUSED(REFILL(cells, 0, 4, p.need, 504), 16);
+    r.l = p.l, r.l.maxval = 254;
+    REFUSED(REFILL(cells, 1, 4, p.need, 504), 4);
+    REFUSED(REFILL(cells, 0, 4, p.need, 504), 17);
+    for (int n = 2; n < 6; n++) {
+        r.l = faulty(&p, n);
+        REFUSED(REFILL(cells, 0, 4, p.need, 504), n);
+    }
+    /* Of either set a plane that is short. */
+    r = q, r.c_len--;
+    REFUSED(REFILL(cells, 0, 4, p.need, 504), 7);
+    r = q, p.s.y--;
+    REFUSED(REFILL(cells, 0, 4, p.need, 504), 7);
+    p.s.y++;
+    REFUSED(REFILL(cells, 0, 5, p.need, 504), 8);
+    REFUSED(REFILL(cells, 0, 4, p.need - 1, 504), 9);
+    REFUSED(REFILL(rectangle_of(10, 1, 2, 1), 0, 4, p.need, 503), 19);
+    REFUSED(REFILL(rectangle_of(3, 3, 2, 1), 0, 4, p.need, 504), 19);
+    REFUSED(REFILL(rectangle_of(SIZE_MAX, 1, 2, 1), 0, 4, p.need, 504), 19);
+    REFUSED(REFILL(rectangle_of(3, 1, 2, SIZE_MAX), 0, 4, p.need, 504), 19);
+    REFUSED(REFILL(cells, 0, 4, p.need, 503), 10);
+    /* A rectangle that leaves out a cell that was changed, and one that has none. */
+    REFUSED(REFILL(rectangle_of(4, 1, 1, 1), 0, 4, p.need, 504), 21);
+    REFUSED(REFILL(rectangle_of(3, 1, 1, 1), 0, 4, p.need, 504), 21);
+    REFUSED(REFILL(rectangle_of(3, 1, 2, 0), 0, 4, p.need, 504), 21);
+    r.y = lend_bytes(r.y_len), memcpy(r.y, p.y, r.y_len), r.y[r.y_len - 1] ^= 1;
+    REFUSED(REFILL(cells, 0, 4, p.need, 504), 21);
+    /* With no cell nothing is written, scratch neither. */
+    r = p;
+    REFUSED(REFILL(rectangle_of(7, 1, 2, 0), 0, 4, p.need, 504), 0);
+    r = q;
+    SAME(REFILL(cells, 0, 4, p.need, 504), 0);
+    CHECK(!kept());
+#undef REFILL
+    end_watched();
+}
+
 /* No mean: all is 0 but the refusal. */
 static void no_patch(ChromaPatch p, uint32_t refusal) {
     SAME(p.refusal, refusal);
@@ -1504,6 +1627,8 @@ int main(void) {
     test_bits_of_fill();
     test_bits_of_picture();
     test_surplus();
+    test_refills();
+    test_refill_refusals();
     test_patches();
     test_largest_patch();
     test_charts();

@@ -251,6 +251,61 @@ static ChromaRectangle rectangle(void) {
     return r;
 }
 
+/* A slice that holds what another one does. */
+static Slice copy(Slice s) {
+    Slice t = s;
+    t.all = malloc(s.bytes + 2 * ROUND);
+    t.before = malloc(s.bytes + 2 * ROUND);
+    check(t.all && t.before, "no memory");
+    memcpy(t.all, s.all, s.bytes + 2 * ROUND);
+    memcpy(t.before, s.all, s.bytes + 2 * ROUND);
+    return t;
+}
+
+/* Planes before and after a change of a few bytes, and a rectangle that mostly lies in the plane. An accepted
+ * refill of the fill before gives the fill after; a refused one changes nothing. */
+static void refill(void) {
+    ChromaLayout l = layout();
+    size_t size = take(1) % 8 == 0 ? take(1) % 6 : 3 + take(1) % 2;
+    uint32_t kernel = (uint32_t)take(1) % 17 % 3;
+    ChromaRectangle r = rectangle();
+    Planes p = planes(l), q = p;
+    q.y = copy(p.y), q.cb = copy(p.cb), q.cr = copy(p.cr);
+    for (size_t k = take(1) % 8; k > 0; k--) {
+        Slice s = k == 7 ? q.y : k % 2 ? q.cb : q.cr;
+        if (s.bytes > 0) {
+            s.all[ROUND + number() % s.bytes] ^= (uint8_t)take(1);
+        }
+    }
+    memcpy(q.y.before, q.y.all, q.y.bytes + 2 * ROUND);
+    memcpy(q.cb.before, q.cb.all, q.cb.bytes + 2 * ROUND);
+    memcpy(q.cr.before, q.cr.all, q.cr.bytes + 2 * ROUND);
+    if (take(1) % 4 && l.cw && l.ch) {
+        r.left %= l.cw;
+        r.top %= l.ch;
+        r.width %= l.cw - r.left + 1;
+        r.height %= l.ch - r.top + 1;
+    }
+    Slice s = lend(room(chroma_scratch_need(l.cw, l.w)), sizeof(float));
+    Slice out = lend(room(l.w * l.h * size), 1);
+    uint32_t held = chroma_fill(l, at(p.y), p.y.bytes, at(p.cb), p.cb.bytes, at(p.cr), p.cr.bytes, p.strides, 1, kernel, size, at(s), s.bytes / 4, at(out), out.bytes);
+    Slice after = copy(out);
+    uint32_t filled = chroma_fill(l, at(q.y), q.y.bytes, at(q.cb), q.cb.bytes, at(q.cr), q.cr.bytes, q.strides, 1, kernel, size, at(s), s.bytes / 4, at(after), after.bytes);
+    memcpy(out.before, out.all, out.bytes + 2 * ROUND);
+    memcpy(s.before, s.all, s.bytes + 2 * ROUND);
+    uint32_t refusal = chroma_refill(l, at(p.y), p.y.bytes, at(p.cb), p.cb.bytes, at(p.cr), p.cr.bytes, p.strides, at(q.y), q.y.bytes, at(q.cb), q.cb.bytes, at(q.cr), q.cr.bytes, q.strides, r, kernel, size, at(s), s.bytes / 4, at(out), out.bytes);
+    check(refusal != 0 || (held == 0 && filled == 0), "a refill of what is not filled");
+    check(refusal != 0 || memcmp(at(out), at(after), out.bytes) == 0, "a refill that is not the fill");
+    int wrote = refusal == 0 && r.width > 0 && r.height > 0;
+    done(s, wrote);
+    done(out, wrote);
+    done(after, 1);
+    Slice lent[] = {p.y, p.cb, p.cr, q.y, q.cb, q.cr};
+    for (int k = 0; k < 6; k++) {
+        done(lent[k], 0);
+    }
+}
+
 static void patch(void) {
     ChromaRectangle r = rectangle();
     size_t w = number(), h = number();
@@ -285,7 +340,7 @@ static void chart(void) {
 int LLVMFuzzerTestOneInput(const uint8_t *data, size_t size) {
     next = data;
     left = size;
-    switch (take(1) % 6) {
+    switch (take(1) % 7) {
     case 0:
         reader();
         break;
@@ -301,6 +356,9 @@ int LLVMFuzzerTestOneInput(const uint8_t *data, size_t size) {
         break;
     case 5:
         chart();
+        break;
+    case 6:
+        refill();
         break;
     default:
         program();

@@ -211,6 +211,44 @@ pub(crate) fn fill(
     })
 }
 
+pub(crate) fn refill(
+    layout: Layout,
+    (old, new): (&Planes, &Planes),
+    cells: Rectangle,
+    kernel: u32,
+    size: usize,
+    scratch: &mut [f32],
+    out: &mut [u8],
+) -> Result<(), Refusal> {
+    // SAFETY: each pointer and length are one slice's; those that are written are `&mut`.
+    Refusal::check(unsafe {
+        raw::chroma_refill(
+            layout.into(),
+            old[0].data.as_ptr(),
+            old[0].data.len(),
+            old[1].data.as_ptr(),
+            old[1].data.len(),
+            old[2].data.as_ptr(),
+            old[2].data.len(),
+            strides(old),
+            new[0].data.as_ptr(),
+            new[0].data.len(),
+            new[1].data.as_ptr(),
+            new[1].data.len(),
+            new[2].data.as_ptr(),
+            new[2].data.len(),
+            strides(new),
+            cells.into(),
+            kernel,
+            size,
+            scratch.as_mut_ptr(),
+            scratch.len(),
+            out.as_mut_ptr(),
+            out.len(),
+        )
+    })
+}
+
 fn colour(p: raw::ChromaPixel) -> Result<[u8; 3], Refusal> {
     Refusal::check(p.refusal)?;
     Ok([p.r, p.g, p.b])

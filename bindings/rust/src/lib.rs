@@ -6,7 +6,8 @@
 //! it, or from the folder that CHROMA_LIB_DIR names when cargo runs. A crate of your own needs
 //! `chroma = { path = "…/bindings/rust" }` among its dependencies and nothing else.
 //!
-//! [`fill`] gives a whole picture as RGB, a [`Reader`] rows of chroma, [`linear_plane`] and the
+//! [`fill`] gives a whole picture as RGB and [`refill`] brings one up to date where a few cells of
+//! chroma were replaced, a [`Reader`] gives rows of chroma, [`linear_plane`] and the
 //! like one plane of chroma. [`patch`] reads the colour of a rectangle from a picture of RGB rows,
 //! and [`chart_reading`] finds that colour on a chart.
 //!
@@ -97,6 +98,58 @@ pub fn fill(
         layout,
         picture.planes(),
         (upsampling as u32, kernel as u32),
+        size,
+        scratch.of(&layout),
+        out,
+    )
+}
+
+/// Brings `out` up to date where a rectangle of chroma cells was replaced: `old` are the planes before
+/// the change (Y, Cb, Cr), `picture` is the one after it, and `out` the picture before it, as a guided
+/// [`fill`] with the same kernel and size leaves it. Only the rows whose cell row, `y / rv`, is within
+/// two of the rectangle are written, as that fill would write them now; then `out` is the guided fill
+/// of `picture`. An empty rectangle writes nothing. Luma may not differ, nor chroma outside the
+/// rectangle. Refusals 4 (fixed kernel, maxval not 255), 16 (chroma co-sited), 7 and 17 (`old`), 8,
+/// 19 (a cell outside the chroma plane), 10 and 21, in this order.
+///
+/// ```
+/// use chroma::{fill, refill, Kernel, Layout, Picture, Plane, Rectangle, Refusal, Scratch, Upsampling};
+///
+/// // One pixel in a row of 4 shines; its cell gets the colour of its neighbour.
+/// let layout = Layout::new(4, 1, 1, 1);
+/// let (y, cb, cr) = ([90; 4], [128, 255, 128, 128], [128; 4]);
+/// let old = [Plane::new(&y, 4), Plane::new(&cb, 4), Plane::new(&cr, 4)];
+/// let (kernel, mut scratch, mut rgb) = (Kernel::Exact, Scratch::new(), [0; 12]);
+/// let picture = Picture::new(layout, old[0], old[1], old[2])?;
+/// fill(&picture, Upsampling::LumaGuided, kernel, 3, &mut scratch, &mut rgb)?;
+/// assert_ne!(rgb, [90; 12]);
+///
+/// let mended = [128; 4];
+/// let picture = Picture::new(layout, old[0], Plane::new(&mended, 4), old[2])?;
+/// let cells = Rectangle { left: 1, top: 0, width: 1, height: 1 };
+/// refill(old, &picture, cells, kernel, 3, &mut scratch, &mut rgb)?;
+/// assert_eq!(rgb, [90; 12]);
+///
+/// let beside = Rectangle { left: 2, ..cells };
+/// let other = refill(old, &picture, beside, kernel, 3, &mut scratch, &mut rgb);
+/// assert_eq!(other, Err(Refusal::OtherChange));
+/// # Ok::<(), Refusal>(())
+/// ```
+pub fn refill(
+    old: [Plane; 3],
+    picture: &Picture,
+    cells: Rectangle,
+    kernel: Kernel,
+    size: usize,
+    scratch: &mut Scratch,
+    out: &mut [u8],
+) -> Result<(), Refusal> {
+    let layout = *picture.layout();
+    ffi::refill(
+        layout,
+        (&old, picture.planes()),
+        cells,
+        kernel as u32,
         size,
         scratch.of(&layout),
         out,

@@ -2,7 +2,8 @@
 
 use crate::{ffi, Refusal};
 
-/// Part of a picture, in pixels: its first column and row, and its sides.
+/// Part of a picture: its first column and row, and its sides. In pixels for [`patch`] and
+/// [`chart_reading`](crate::chart_reading), in chroma cells for [`refill`](crate::refill).
 #[derive(Clone, Copy, Debug, PartialEq, Eq, Hash)]
 pub struct Rectangle {
     /// The first column.

@@ -5,7 +5,7 @@ use std::mem::{offset_of, size_of};
 
 /// CHROMA_VERSION of the header that this file follows.
 #[allow(dead_code)]
-pub(super) const VERSION: u32 = 0x00_08_00;
+pub(super) const VERSION: u32 = 0x00_09_00;
 
 #[repr(C)]
 #[derive(Clone, Copy)]
@@ -275,6 +275,30 @@ extern "C" {
         cr_len: usize,
         strides: ChromaStrides,
         upsampling: u32,
+        kernel: u32,
+        size: usize,
+        scratch: *mut f32,
+        scratch_len: usize,
+        out: *mut u8,
+        out_len: usize,
+    ) -> u32;
+    pub(super) fn chroma_refill(
+        layout: ChromaLayout,
+        old_y: *const u8,
+        old_y_len: usize,
+        old_cb: *const u8,
+        old_cb_len: usize,
+        old_cr: *const u8,
+        old_cr_len: usize,
+        old_strides: ChromaStrides,
+        y: *const u8,
+        y_len: usize,
+        cb: *const u8,
+        cb_len: usize,
+        cr: *const u8,
+        cr_len: usize,
+        strides: ChromaStrides,
+        cells: ChromaRectangle,
         kernel: u32,
         size: usize,
         scratch: *mut f32,

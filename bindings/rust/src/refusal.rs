@@ -72,17 +72,20 @@ pub enum Refusal {
     AboveMaxval,
     /// Studio range with another maxval than 255, or with the fixed kernel.
     BadRange,
-    /// A rectangle whose end passes 65,535.
+    /// A rectangle whose end passes 65,535, or, for [`refill`](crate::refill), one with a cell outside
+    /// the chroma plane.
     BadRectangle,
     /// A chart that is not 2 to 24 shades of three bytes, or that has bytes over.
     BadChart,
+    /// Luma that differs from that before the change, or chroma that differs outside the rectangle.
+    OtherChange,
     /// A number that this crate has no name for, from a library that is newer than the crate. The
     /// library of the crate's own version gives none.
     Unknown(u32),
 }
 
 impl Refusal {
-    const NAMED: [Refusal; 20] = [
+    const NAMED: [Refusal; 21] = [
         Refusal::BadState,
         Refusal::BadSize,
         Refusal::BadRatio,
@@ -103,6 +106,7 @@ impl Refusal {
         Refusal::BadRange,
         Refusal::BadRectangle,
         Refusal::BadChart,
+        Refusal::OtherChange,
     ];
 
     /// The number of the reason, as docs/REFUSALS.md and include/chroma.h have it.
@@ -128,6 +132,7 @@ impl Refusal {
             Refusal::BadRange => 18,
             Refusal::BadRectangle => 19,
             Refusal::BadChart => 20,
+            Refusal::OtherChange => 21,
             Refusal::Unknown(number) => number,
         }
     }
@@ -163,8 +168,9 @@ impl fmt::Display for Refusal {
             Refusal::NotCentred => "co-sited chroma, which guided and triangular calls don't take",
             Refusal::AboveMaxval => "a sample that exceeds maxval",
             Refusal::BadRange => "studio range with another maxval than 255, or the fixed kernel",
-            Refusal::BadRectangle => "a rectangle whose end passes 65535",
+            Refusal::BadRectangle => "a rectangle whose end passes what the call takes",
             Refusal::BadChart => "a chart that is not 2 to 24 shades of three bytes",
+            Refusal::OtherChange => "samples that differ where no change was announced",
             Refusal::Unknown(_) => "a reason that this crate has no name for",
         };
         write!(f, "refused {}: {words}", self.number())
@@ -184,7 +190,7 @@ mod tests {
             let refusal = Refusal::check(number).unwrap_err();
             assert_eq!(refusal.number(), number);
             let unknown = matches!(refusal, Refusal::Unknown(_));
-            let named = (1..=17).chain([18, 19, 20]).any(|known| known == number);
+            let named = (1..=17).chain([18, 19, 20, 21]).any(|known| known == number);
             assert_eq!(unknown, !named, "{number}");
         }
     }

@@ -25,8 +25,8 @@ fn to_upsampling(n: u32) -> ChromaUpsampling
     ChromaUpsampling::Linear
 }
 
-// The kernel that C's switch stands for: 1 is fixed. Another number than 0 and 1 was answered before.
-fn to_kernel(n: u32) -> YcbcrKernel
+// Inner: the kernel that C's switch stands for: 1 is fixed. Another number than 0 and 1 was answered before.
+pub fn to_kernel(n: u32) -> YcbcrKernel
     ensures { λ r. ⌜ r ≡ asKernel n ⌝ }
 {
     if n == 1 {
@@ -35,8 +35,8 @@ fn to_kernel(n: u32) -> YcbcrKernel
     YcbcrKernel::Exact
 }
 
-// Whether C's switches, or the layout's sitings or range, stand for no way to fill.
-fn no_such_way(layout: ChromaLayout, upsampling: u32, kernel: u32) -> bool
+// Inner: whether C's switches, or the layout's sitings or range, stand for no way to fill.
+pub fn no_such_way(layout: ChromaLayout, upsampling: u32, kernel: u32) -> bool
     ensures { λ r. ⌜ r ≡ noSuchWay layout upsampling kernel ⌝ }
 {
     either(either(1 < upsampling, 1 < kernel), strange_layout(layout))

@@ -1,7 +1,8 @@
--- "Any lent slice may be longer; its surplus is untouched": scratch after `fill`, behind what the call needs. Out's surplus is `kept-behind` of Bytes.
+-- "Any lent slice may be longer; its surplus is untouched": scratch after `fill` and `refill`, behind what the call needs. Out's surplus is `kept-behind` of Bytes
+-- and of RefillBytes.
 use mathlib.Core.Path.{_≡_, refl, sym, _∙_}
 use mathlib.Core.List.{List, [], _∷_}
-use Prim.Native.Nat.{ℕ, zero, suc, _+_, _≤_, zero-le}
+use Prim.Native.Nat.{ℕ, zero, suc, _+_, _-_, _≤_, zero-le}
 use native.Mathlib.Nat.{le-refl}
 use lib.ListN.{getD}
 use lib.Ieee.{Float, nan}
@@ -19,7 +20,9 @@ use Rattle.fill.specs.declared.options.ChromaUpsampling.{ChromaUpsamplin
 use Rattle.fill.specs.declared.options.ChromaUpsampling.the-variants.{Linear, LumaGuided}
 use Rattle.fill.specs.Fill.{linearPair, linearRows, fillScratch, FillGiven}
 use Rattle.fill.specs.Tests.{FillCall}
+use Rattle.fill.specs.Refill.{RefillCall, RefillGiven, nearFirst, nearEnd}
 use Rattle.fill.proofs.Acceptance.{ready}
+use Rattle.fill.proofs.Taken.{taken}
 
 pairs-behind : (l : Layout) (ps : Planes) (a n : ℕ) (s : List Float) → SameBehind l s (linearRows l ps a n s)
 unfolding linearRows linearPair
@@ -37,3 +40,10 @@ pub fill-surplus : (c : FillCall) {answer : Answer} {scratch' : List Float} {out
 fill-surplus c {answer} {scratch'} g =
     call-behind (c .layout) (accepted answer) (c .scratch) _ scratch' (g .scratches)
     (λ e. chroma-behind (c .upsampling) (c .layout) (ready c (sym (g .answers) ∙ accepted-is answer e) .lent .shaped .cw-most) (c .planes) 0 (c .layout .h) (c .scratch))
+
+pub refill-surplus : (c : RefillCall) {answer : Answer} {scratch' : List Float} {out' : List ℕ} → RefillGiven c answer scratch' out'
+    → (i : ℕ) → scratchNeed (c .layout) ≤ i → getD scratch' i nan ≡ getD (c .scratch) i nan
+refill-surplus c {answer} {scratch'} g =
+    let a = nearFirst (c .layout) (c .cells) in
+    call-behind (c .layout) (accepted answer) (c .scratch) _ scratch' (g .scratches)
+    (λ e. chroma-behind LumaGuided (c .layout) (taken c (sym (g .answers) ∙ accepted-is answer e) .rest .lent .lent .shaped .cw-most) (c .new) a (nearEnd (c .layout) (c .cells) - a) (c .scratch))

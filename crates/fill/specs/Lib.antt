@@ -1,3 +1,4 @@
 pub mod Fill
 pub mod Tests
+pub mod Refill
 pub mod Inner

@@ -12,7 +12,7 @@ use kernels::YcbcrKernel;
 use laws::Answer;
 
 // Whether the kernel is the fixed one, which refusal 4 holds to maxval 255.
-fn is_fixed(kernel: YcbcrKernel) -> bool
+pub(crate) fn is_fixed(kernel: YcbcrKernel) -> bool
     ensures { λ r. ⌜ r ≡ isFixed kernel ⌝ }
 {
     match kernel {

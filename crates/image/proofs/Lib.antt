@@ -1,5 +1,6 @@
 -- Laws that the proofs and other crates cite.
 pub mod Any
+pub mod Blocks
 pub mod Layouts
 pub mod Pictures
 pub mod Planes

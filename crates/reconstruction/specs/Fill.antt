@@ -9,3 +9,5 @@ pub use Rattle.kernel_blocks.specs.Stores.{pixels}
 -- each pixel's colour, and the promise
 pub use Rattle.fill.specs.Tests.{FillCall, fillCall}
 pub use Rattle.fill.specs.Fill.{chromaBy, fillColour, pixelRows, FillGiven}
+-- W13: "convert again in place only the rows whose cell row is within two of it"
+pub use Rattle.fill.specs.Refill.{RefillCall, refillCall, nearRow, rowsWhere, RefillGiven}

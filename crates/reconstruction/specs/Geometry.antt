@@ -5,7 +5,7 @@ pub use Rattle.image.specs.Samples.{Plane, planeOf, sampleOf, sampleAt}
 pub use Rattle.image.specs.Picture.{Picture, Planes, planesOf, chromaPlane, pictureOf}
 -- W7: "Reconstructed samples don't depend on the range"
 pub use Rattle.image.specs.Picture.{ranged, pictureIn, SameButRange}
--- part of a picture, for the calls of crates above
+-- part of a picture: chroma cells for a refill, pixels for the calls of crates above
 pub use Rattle.image.specs.declared.rectangle.Rectangle.{Rectangle}
 -- "A tap is two indices and a fraction."
 pub use Rattle.taps.specs.Taps.{Spot, spotOf, tapOf}

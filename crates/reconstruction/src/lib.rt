@@ -1,7 +1,8 @@
 // The public crate: document 01's calls and their types, and nothing else. The chroma row by `open`, `seek` and `row`, one whole chroma
-// plane three ways, the fill to RGB and the colour of one pixel. What each promises stands at its own definition in the crate named here.
+// plane three ways, the fill to RGB and again of the rows near a change, and the colour of one pixel. What each promises stands at its own definition in the crate named here.
 pub use fill::ChromaUpsampling;
 pub use fill::fill;
+pub use fill::refill;
 pub use guided::Geometry;
 pub use guided::Reader;
 pub use guided::Reply;

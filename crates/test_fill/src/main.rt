@@ -1,4 +1,4 @@
-// Replays the stored list of fills and single pixels on standard input, and writes for each its answer and the sum of what it left.
+// Replays the stored list of fills, refills and single pixels on standard input, and writes for each its answer and the sum of what it left.
 // oracle/fill-cases made the list and what must be written for it: a line of 122 bytes for each call, a kind and 24 words of four hex
 // digits. A fill's:
 // w h rh rv cw ch sample_bytes maxval(2) y_stride cb_stride cr_stride y_len cb_len cr_len seed y_shape cb_shape cr_shape
@@ -6,18 +6,21 @@
 // shape 3 have in the calls behind it. Where a fill's kind is a capital, the words rh and rv have the axis' siting as their first digit, and its numerator less 1 as their
 // second, and the word sample_bytes has the range as its first digit.
 ghost use Prim.Native.Nat.{_<_};
+
+mod refills;
+
 use fill::ChromaUpsampling;
 use kernels::Pixel;
 use kernels::YcbcrKernel;
 use libc::STDIN_FILENO;
 
 // Scratch that holds one value throughout, so that the sum shows a call that writes where it may not.
-fn marked() -> [f32; 600_000] {
+pub fn marked() -> [f32; 600_000] {
     [1.5; 600_000]
 }
 
 // An output that no call has written: it holds one value throughout, so that the sum shows which bytes were written.
-fn unwritten() -> [u8; 65_536] {
+pub fn unwritten() -> [u8; 65_536] {
     [160; 65_536]
 }
 
@@ -69,7 +72,7 @@ fn upsampling(text: &[u8]) -> ChromaUpsampling {
 }
 
 // The kernel that a fill's line names: 0 is the exact one.
-fn kernel(text: &[u8]) -> YcbcrKernel {
+pub fn kernel(text: &[u8]) -> YcbcrKernel {
     if test_support::word(text, 19) == 0 {
         return YcbcrKernel::Exact;
     }
@@ -119,18 +122,21 @@ fn fill(text: &[u8], spelling: &[u8]) {
 }
 
 // Makes the call that a line's kind names.
-fn replay(text: &[u8; 122], spelling: &[u8; 122]) {
+fn replay(text: &[u8; 122], spelling: &[u8; 122], change: &[u8; 122]) {
     match test_support::kind(text) {
         b'e' => exact(text),
         b'f' => fixed(text),
+        b'r' => refills::refill(text, spelling, change),
         _ => fill(text, spelling),
     }
 }
 
-// A line has 122 bytes, its newline too; the list ends where fewer are left. A line of kind `b` is no call: it is kept as the spelling.
+// A line has 122 bytes, its newline too; the list ends where fewer are left. A line of kind `b` is no call: it is kept as the spelling; nor
+// is one of kind `c`, which is kept as the change.
 fn main() {
     let mut text = [0u8; 122];
     let mut spelling = [0u8; 122];
+    let mut change = [0u8; 122];
     for _ in 0..65_536usize {
         if io::read_full(STDIN_FILENO, &mut text) < 122 {
             break;
@@ -139,6 +145,10 @@ fn main() {
             spelling = text;
             continue;
         }
-        replay(&text, &spelling);
+        if test_support::byte(&text, 0) == b'c' {
+            change = text;
+            continue;
+        }
+        replay(&text, &spelling, &change);
     }
 }

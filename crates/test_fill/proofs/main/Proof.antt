@@ -7,10 +7,10 @@ use Rattle.test_fill.proofs.main.Statement.{statement}
 use Rattle.test_fill.proofs.main.Tie as tie
 
 abbrev Inv-loop : tie.InvT-loop
-Inv-loop text₀ spelling₀ counter₀ text spelling counter = (counter ≤ 65536) × (length text ≡ 122)
+Inv-loop text₀ spelling₀ change₀ counter₀ text spelling change counter = (counter ≤ 65536) × (length text ≡ 122)
 
 abbrev μ-loop : tie.MeasureT-loop
-μ-loop text₀ spelling₀ counter₀ text spelling counter = 65536 - counter
+μ-loop text₀ spelling₀ change₀ counter₀ text spelling change counter = 65536 - counter
 
 loop-holds : tie.Need-loop-holds Inv-loop μ-loop
 loop-holds c = omega arith
@@ -36,8 +36,11 @@ loop-less c = omega arith
 loop-again : tie.Need-loop-again Inv-loop μ-loop
 loop-again c = omega arith
 
-replay-requires : tie.Need-replay-requires Inv-loop μ-loop
-replay-requires c κs = search needs
+slice-aggregate-byte-2 : tie.Need-slice-aggregate-byte-2 Inv-loop μ-loop
+slice-aggregate-byte-2 c = omega arith
+
+byte-requires-2 : tie.Need-byte-requires-2 Inv-loop μ-loop
+byte-requires-2 c κs = search needs
 
 add-counter-2 : tie.Need-add-counter-2 Inv-loop μ-loop
 add-counter-2 c = omega arith
@@ -47,6 +50,18 @@ loop-less-2 c = omega arith
 
 loop-again-2 : tie.Need-loop-again-2 Inv-loop μ-loop
 loop-again-2 c = omega arith
+
+replay-requires : tie.Need-replay-requires Inv-loop μ-loop
+replay-requires c κs = search needs
+
+add-counter-3 : tie.Need-add-counter-3 Inv-loop μ-loop
+add-counter-3 c = omega arith
+
+loop-less-3 : tie.Need-loop-less-3 Inv-loop μ-loop
+loop-less-3 c = omega arith
+
+loop-again-3 : tie.Need-loop-again-3 Inv-loop μ-loop
+loop-again-3 c = omega arith
 
 returns : tie.Need-returns Inv-loop μ-loop
 returns c = search needs
@@ -68,9 +83,14 @@ main-spec =
     add-counter
     loop-less
     loop-again
-    replay-requires
+    slice-aggregate-byte-2
+    byte-requires-2
     add-counter-2
     loop-less-2
     loop-again-2
+    replay-requires
+    add-counter-3
+    loop-less-3
+    loop-again-3
     returns
     returns-2)
