@@ -67,6 +67,20 @@ fn input_by(w: usize, h: usize, (nh, rh): (usize, usize), (nv, rv): (usize, usiz
     Input { layout, planes, strides, beside, scratch: vec![0.0; 32 * cw + 8 * w] }
 }
 
+/// A reader of the picture at row 0.
+fn opened(i: &Input, s: &[f32]) -> ChromaReader {
+    let [y, cb, cr] = &i.planes;
+    // SAFETY: each pointer and length are one slice's.
+    let reply = unsafe {
+        raw::chroma_open(
+            i.layout, y.as_ptr(), y.len(), cb.as_ptr(), cb.len(), cr.as_ptr(), cr.len(), i.strides,
+            s.as_ptr(), s.len(), ChromaReader::default(),
+        )
+    };
+    assert!(reply.refusal == 0);
+    reply.reader
+}
+
 /// Best times of both, and whether both gave the same.
 struct Cell {
     turns: usize,
@@ -233,6 +247,73 @@ impl Cell {
         );
     }
 
+    /// Every row as RGB, top to bottom, beside the original's guided exact fill.
+    fn rgb_rows(&self, i: &Input, name: &str) {
+        let l = i.layout;
+        let [y, cb, cr] = &i.planes;
+        let mut s = i.scratch.clone();
+        let out = std::cell::RefCell::new(vec![7u8; 3 * l.w * l.h]);
+        let want = std::cell::RefCell::new(vec![7u8; 3 * l.w * l.h]);
+        self.run(
+            name, l.w * l.h,
+            || {
+                let mut at = opened(i, &s);
+                for (row, out) in out.borrow_mut().chunks_mut(3 * l.w).enumerate() {
+                    // SAFETY: each pointer and length are one slice's.
+                    let reply = unsafe {
+                        raw::chroma_rgb_row(
+                            at, y.as_ptr(), y.len(), cb.as_ptr(), cb.len(), cr.as_ptr(), cr.len(), i.strides, row,
+                            s.as_mut_ptr(), s.len(), out.as_mut_ptr(), out.len(),
+                        )
+                    };
+                    assert!(reply.refusal == 0);
+                    at = reply.reader;
+                }
+            },
+            || oracle::fill(&i.beside, 3, Upsampling::Guided, Kernel::Exact, &mut want.borrow_mut()).expect("a fill"),
+            || *out.borrow() == *want.borrow(),
+        );
+    }
+
+    /// Every row of a blend of two pictures, beside two fills of the original that a plain loop mixes.
+    fn blend(&self, i: &Input, j: &Input, weight: usize, name: &str) {
+        let l = i.layout;
+        let ([y, cb, cr], [v, ub, ur]) = (&i.planes, &j.planes);
+        let (mut s, mut t) = (i.scratch.clone(), j.scratch.clone());
+        let out = std::cell::RefCell::new(vec![7u8; 3 * l.w * l.h]);
+        let want = std::cell::RefCell::new(vec![7u8; 3 * l.w * l.h]);
+        let mut late = vec![7u8; 3 * l.w * l.h];
+        self.run(
+            name, l.w * l.h,
+            || {
+                let (mut a, mut b) = (opened(i, &s), opened(j, &t));
+                for (row, out) in out.borrow_mut().chunks_mut(3 * l.w).enumerate() {
+                    // SAFETY: each pointer and length are one slice's.
+                    let reply = unsafe {
+                        raw::chroma_blend_row(
+                            a, y.as_ptr(), y.len(), cb.as_ptr(), cb.len(), cr.as_ptr(), cr.len(), i.strides,
+                            s.as_mut_ptr(), s.len(),
+                            b, v.as_ptr(), v.len(), ub.as_ptr(), ub.len(), ur.as_ptr(), ur.len(), j.strides,
+                            t.as_mut_ptr(), t.len(), row, weight, out.as_mut_ptr(), out.len(),
+                        )
+                    };
+                    assert!(reply.refusal == 0);
+                    (a, b) = (reply.early, reply.late);
+                }
+            },
+            || {
+                let mut want = want.borrow_mut();
+                oracle::fill(&i.beside, 3, Upsampling::Guided, Kernel::Exact, &mut want).expect("a fill");
+                oracle::fill(&j.beside, 3, Upsampling::Guided, Kernel::Exact, &mut late).expect("a fill");
+                let k = weight as u16;
+                for (a, b) in want.iter_mut().zip(&late) {
+                    *a = (((16 - k) * *a as u16 + k * *b as u16 + 8) / 16) as u8;
+                }
+            },
+            || *out.borrow() == *want.borrow(),
+        );
+    }
+
     fn plane(&self, i: &Input, kind: usize, name: &str) {
         let l = i.layout;
         let [y, cb, _] = &i.planes;
@@ -305,6 +386,15 @@ fn main() {
     cell.rows(&i, &down, "rows, Cb and Cr, top to bottom, 2:2");
     let mixed: Vec<usize> = (0..1_024).map(|k| k * 389 % 1_024).collect();
     cell.rows(&i, &mixed, "rows, Cb and Cr, a seek before each, 2:2");
+    cell.rgb_rows(&i, "RGB rows, top to bottom, 2:2, beside the fill");
+    let mut late = input(1_024, 1_024, 2, 2, 1, 255);
+    for plane in &mut late.planes {
+        plane.reverse();
+    }
+    let [y, cb, cr] = &late.planes;
+    let all = [(y, 1_024), (cb, 512), (cr, 512)].map(|(data, stride)| Bytes { data, stride });
+    late.beside = Picture::new(Numbers { w: 1_024, h: 1_024, nh: 1, nv: 1, rh: 2, rv: 2, bps: 1, maxval: 255 }, all).expect("a picture");
+    cell.blend(&i, &late, 5, "blend rows, weight 5, 2:2, beside two fills and a mix");
     cell.plane(&i, 0, "linear plane, 2:2");
     cell.plane(&i, 1, "guided plane, 2:2");
     cell.plane(&i, 2, "triangular plane, 2:2");

@@ -21,15 +21,15 @@
  *   - Two-byte samples are little-endian in planes.
  *   - Floats are rounded to nearest, and subnormal ones kept, as a program starts. The proofs are
  *     about that arithmetic: after fesetround(FE_UPWARD), say, other values come out.
- *   - For rows that belong to the opened picture: hand chroma_seek and chroma_row the state
- *     that the last accepted call gave, and chroma_row the planes that were opened and, from the
- *     accepted chroma_open on, the same scratch slice at the same length, as the accepted calls
- *     left it. Other states, scratch and planes are safe too; the rows are then not those of the
- *     opened picture.
+ *   - For rows that belong to the opened picture: hand chroma_seek, chroma_row, chroma_rgb_row and
+ *     chroma_blend_row the state that the last accepted call gave, and the row calls the planes
+ *     that were opened and, from the accepted chroma_open on, the same scratch slice at the same
+ *     length, as the accepted calls left it. Each picture has its own state and scratch. Other
+ *     states, scratch and planes are safe too; the rows are then not those of the opened picture.
  *
  * A slice may be longer than needed, but for a chart; its surplus is untouched. chroma_open,
- * chroma_fill, chroma_refill, the calls for a plane and chroma_picture look at every sample inside
- * the planes that they are lent, and turn a picture down by 17 if one exceeds maxval; padding and surplus are not
+ * chroma_fill, the calls for a plane and chroma_picture look at every sample inside the planes that
+ * they are lent, and turn a picture down by 17 if one exceeds maxval; padding and surplus are not
  * looked at. chroma_row doesn't look again: it takes samples as they are.
  *
  * A not-a-number has one form in the logic of the proofs. So for a lent float 'unchanged' and
@@ -48,12 +48,12 @@ extern "C" {
 /* The interface that this header describes, 0xMMmmpp: raised whenever a struct, a number or a call
  * moves. chroma_version gives that of the library that is linked: a program that was compiled
  * against another one should stop. */
-#define CHROMA_VERSION 0x000900
+#define CHROMA_VERSION 0x000a00
 uint32_t chroma_version(void);
 
 /* What a call answers: the first number of its list that applies, where lists follow the order
- * of this table, 18 stands between 4 and 5, 16 between 6 and 7, 17 between 7 and 8, 19 between 9 and 10, and 20 and
- * 255
+ * of this table, 22 stands between 1 and 2, 18 between 4 and 5, 16 between 6 and 7, 17 between 7 and 8, 19 between 9
+ * and 10, and 20 and 255
  * before all else; chroma_picture has its own order.
  * docs/REFUSALS.md has each number's example and definition, and each call's list. */
 enum ChromaRefusal {
@@ -90,8 +90,10 @@ enum ChromaRefusal {
     CHROMA_BAD_CHART = 20,    /* a chart that is not 2 to 24 shades of three bytes, no byte over */
     CHROMA_OTHER_CHANGE = 21, /* chroma_refill: luma that differs between the two sets of planes, or
                                  chroma that differs outside the rectangle */
-    CHROMA_NO_SUCH_WAY = 255  /* a siting, a range, or a switch of chroma_fill or chroma_refill, that is
-                                 neither
+    CHROMA_UNLIKE = 22,       /* chroma_blend_row: two pictures of unequal geometry (sizes, ratios,
+                                 range), or a weight above 16 */
+    CHROMA_NO_SUCH_WAY = 255  /* a siting, a range, or a switch of chroma_fill or chroma_refill, that
+                                 is neither
                                  0 nor 1 */
 };
 
@@ -208,6 +210,12 @@ typedef struct ChromaChartReading {
     uint8_t whole[3];
 } ChromaChartReading;
 
+/* A refusal and both states afterwards. A refused call gives back the states it was handed. */
+typedef struct ChromaBlendReply {
+    uint32_t refusal;
+    ChromaReader early, late;
+} ChromaBlendReply;
+
 /* How many floats (not bytes) of scratch every call with a `scratch` asks for (chroma_picture
  * too, where CHROMA_PICTURE_SCRATCH always suffices). Scratch may hold anything at first; calloc
  * gives memory that counts as written. */
@@ -249,6 +257,20 @@ ChromaReply chroma_row(ChromaReader reader,
                        float *scratch, size_t scratch_len,
                        float *out_cb, size_t out_cb_len,
                        float *out_cr, size_t out_cr_len);
+
+/* Row `row` as RGB, guided by luma and exact: w pixels of three bytes into out, as chroma_fill gives
+ * that row at size 3 with guided chroma and the exact kernel, in the range of the picture. The
+ * reader and scratch are left as chroma_row leaves them, and the row may be the place or any after
+ * it.
+ * Refusals 1, 7, 9, 10 (out shorter than 3 * w), 11, 12. */
+ChromaReply chroma_rgb_row(ChromaReader reader,
+                           const uint8_t *y, size_t y_len,
+                           const uint8_t *cb, size_t cb_len,
+                           const uint8_t *cr, size_t cr_len,
+                           ChromaStrides strides,
+                           size_t row,
+                           float *scratch, size_t scratch_len,
+                           uint8_t *out, size_t out_len);
 
 /* One whole chroma plane, interpolated linearly: w * h values into out, row by row without gaps,
  * rounded halves up and limited to 0..maxval. `plane` is Cb or Cr, by either siting
@@ -359,6 +381,32 @@ ChromaChartReading chroma_chart_reading(const uint8_t *chart, size_t chart_len,
                                         ChromaRectangle rectangle,
                                         size_t w, size_t h,
                                         const uint8_t *rgb, size_t rgb_len);
+
+/* A row between two pictures of equal geometry, each with its own reader and scratch: w pixels of
+ * three bytes into out, each byte (16 - weight) sixteenths of the early picture's and `weight` of
+ * the late one's as chroma_rgb_row gives them, rounded halves up; the early one at weight 0, the
+ * late one at 16. Both readers are moved and both scratches left as by chroma_row, and each place
+ * may be the row or any before it. Rows written one after another, each 3 * w bytes behind the one
+ * before, are a picture that chroma_patch and chroma_chart_reading read. Sample bytes and maxval
+ * may differ between the two.
+ * Refusals 1 (either state), 22 (w, h, rh, rv, cw, ch or the range differ, or weight is above 16),
+ * then 7, 9, 10 (out shorter than 3 * w), 11, 12 for either picture, the lowest first. A refusal
+ * leaves both states, both scratches and out. */
+ChromaBlendReply chroma_blend_row(ChromaReader early,
+                                  const uint8_t *early_y, size_t early_y_len,
+                                  const uint8_t *early_cb, size_t early_cb_len,
+                                  const uint8_t *early_cr, size_t early_cr_len,
+                                  ChromaStrides early_strides,
+                                  float *early_scratch, size_t early_scratch_len,
+                                  ChromaReader late,
+                                  const uint8_t *late_y, size_t late_y_len,
+                                  const uint8_t *late_cb, size_t late_cb_len,
+                                  const uint8_t *late_cr, size_t late_cr_len,
+                                  ChromaStrides late_strides,
+                                  float *late_scratch, size_t late_scratch_len,
+                                  size_t row,
+                                  size_t weight,
+                                  uint8_t *out, size_t out_len);
 
 #ifdef __cplusplus
 }

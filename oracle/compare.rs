@@ -1,14 +1,16 @@
 //! Random pictures and call lists, the crates' sources beside the original; pairs that aren't whole
-//! beside it too, co-sited pictures beside sited.rs, studio range beside studio.rs, and refills beside
-//! refills.rs. No sample of theirs exceeds its maxval, and one does in pictures of their own, which
-//! must be turned down.
-//! Usage: compare PICTURES LISTS PIXELS FILLS SITED STUDIO REFILLS; it ends with status 1 where anything differs.
+//! beside it too, co-sited pictures beside sited.rs, studio range beside studio.rs, refills beside
+//! refills.rs, and rows as RGB and blends of two pictures beside the original's fill, in studio range
+//! beside studio.rs. No sample of theirs exceeds its maxval, and one does in pictures of their own,
+//! which must be turned down.
+//! Usage: compare PICTURES LISTS PIXELS FILLS SITED STUDIO REFILLS BLENDS; it ends with status 1 where anything differs.
 mod refills;
 mod sited;
 mod studio;
 
 use oracle::{Bytes, Chroma, GuidedReader, Numbers};
-// The one path into what is compared: the public crate, which through-c.rs has under the same name.
+// The paths into what is compared: the public crates, which through-c.rs has under the same names.
+use sources::colorimetry::blend_row;
 use sources::reconstruction::{
     self as ours, Answer, Axis, ChromaUpsampling, Geometry, Layout, Phase, Pixel, Range, Reader,
     Siting, Strides, YcbcrKernel,
@@ -430,6 +432,7 @@ fn studio_calls(r: &mut Random, t: usize) -> [usize; 2] {
     let siting = |bit: usize| if kind & bit != 0 { Siting::CoSited } else { Siting::Centred };
     (p.layout.across.siting, p.layout.down.siting) = (siting(1), siting(2));
     (p.layout.maxval, p.layout.range) = (255, Range::Studio);
+    hold(r, &mut p);
     let l = p.layout;
     let axes = (
         sited::Axis { co_sited: kind & 1 != 0, num: 1, ratio: l.rh },
@@ -542,6 +545,175 @@ fn above(r: &mut Random, t: usize) -> [usize; 2] {
     [same, row].map(|same| !same as usize)
 }
 
+/// One of two readers: the pictures that it may open, each with its rows as RGB, the current one of them, its
+/// state, scratch and place.
+struct Side {
+    pictures: Vec<(Picture, Vec<u8>)>,
+    current: Option<usize>,
+    state: Reader,
+    scratch: Vec<f32>,
+    place: usize,
+}
+
+/// The picture as RGB, guided and exact: the original's fill, or in studio range studio.rs on the original's rows.
+fn as_rgb(p: &Picture) -> Vec<u8> {
+    let (l, q) = (p.layout, original(p));
+    let mut want = vec![0; 3 * l.w * l.h];
+    if l.range == Range::Full {
+        oracle::fill(&q, 3, oracle::Upsampling::Guided, oracle::Kernel::Exact, &mut want).expect("a fill of the original's");
+        return want;
+    }
+    let mut beside = GuidedReader::new();
+    beside.open(&q);
+    let luma = cells(&p.y, l.sample_bytes);
+    for y in 0..l.h {
+        let (cb, cr) = beside.row(y).unwrap_or_else(|_| panic!("a row of the original's"));
+        for x in 0..l.w {
+            let in_256ths = |v: f32| sited::halves_up(v as f64 * 256.0, 65_536);
+            let colour = studio::colour(luma(y, x) as u32, in_256ths(cb[x]), in_256ths(cr[x]));
+            want[3 * (y * l.w + x)..][..3].copy_from_slice(&colour);
+        }
+    }
+    want
+}
+
+impl Side {
+    /// Two pictures of the geometry of `l` with samples of their own, a third one at times of another geometry.
+    fn new(r: &mut Random, t: usize, l: Layout) -> Side {
+        let mut pictures: Vec<Picture> = (0..3).map(|_| picture(r, t)).collect();
+        let other = r.below(3) == 0;
+        for (k, p) in pictures.iter_mut().enumerate() {
+            if k == 2 && other {
+                continue;
+            }
+            let sample_bytes = 1 + r.below(2);
+            let most = if sample_bytes == 1 { 255 } else { 65_535 };
+            let maxval = if l.range == Range::Studio { 255 } else { 1 + r.below(most) as u32 };
+            p.layout = Layout { sample_bytes, maxval, ..l };
+            let kind = r.below(3);
+            p.y = plane(r, kind, l.w * sample_bytes, l.h);
+            p.cb = plane(r, kind, l.cw * sample_bytes, l.ch);
+            p.cr = plane(r, kind, l.cw * sample_bytes, l.ch);
+            hold(r, p);
+        }
+        let need = pictures.iter().map(|p| scratch_need(p.layout)).max().unwrap_or(0);
+        Side {
+            pictures: pictures.into_iter().map(|p| { let rgb = as_rgb(&p); (p, rgb) }).collect(),
+            current: None,
+            state: closed(),
+            scratch: vec![f32::NAN; need + r.below(3)],
+            place: 0,
+        }
+    }
+
+    fn open(&mut self, k: usize) -> bool {
+        let p = &self.pictures[k].0;
+        let a = ours::open(p.layout, &p.y.data, &p.cb.data, &p.cr.data, strides(p), &self.scratch, self.state);
+        (self.state, self.current, self.place) = (a.reader, Some(k), 0);
+        a.answer == Answer::Accepted
+    }
+
+    fn seek(&mut self, y: usize) -> bool {
+        let a = ours::seek(self.state, y);
+        let Some(k) = self.current else {
+            return a.answer == Answer::Refused(1) && a.reader == self.state;
+        };
+        if self.pictures[k].0.layout.h <= y {
+            return a.answer == Answer::Refused(11) && a.reader == self.state;
+        }
+        (self.state, self.place) = (a.reader, y);
+        a.answer == Answer::Accepted
+    }
+
+    /// What a row call of this reader is refused for, but for its planes and scratch.
+    fn refusals(&self, y: usize, room: usize) -> Vec<u8> {
+        let Some(k) = self.current else { return vec![1] };
+        let l = self.pictures[k].0.layout;
+        [(10, room < 3 * l.w), (11, l.h <= y), (12, y < self.place)].iter().filter(|n| n.1).map(|n| n.0).collect()
+    }
+
+    fn row(&self, y: usize) -> &[u8] {
+        let (p, rgb) = &self.pictures[self.current.expect("a picture")];
+        &rgb[3 * p.layout.w * y..3 * p.layout.w * (y + 1)]
+    }
+
+    fn rgb_row(&mut self, y: usize, room: usize) -> bool {
+        let p = &self.pictures[self.current.unwrap_or(0)].0;
+        let (mut out, before) = (vec![165; room], self.scratch.clone());
+        let a = ours::rgb_row(
+            self.state, &p.y.data, &p.cb.data, &p.cr.data, strides(p), y, &mut self.scratch, &mut out,
+        );
+        if let Some(&n) = self.refusals(y, room).iter().min() {
+            return a.answer == Answer::Refused(n) && a.reader == self.state && out == vec![165; room]
+                && same_bits(&self.scratch, &before);
+        }
+        (self.state, self.place) = (a.reader, y);
+        let (given, rest) = out.split_at(self.row(y).len());
+        a.answer == Answer::Accepted && given == self.row(y) && rest.iter().all(|b| *b == 165)
+    }
+}
+
+fn same_bits(a: &[f32], b: &[f32]) -> bool {
+    a.iter().zip(b).all(|(x, y)| x.to_bits() == y.to_bits())
+}
+
+/// A blend of two readers; whether it is as it should be.
+fn blend(a: &mut Side, b: &mut Side, y: usize, weight: usize, room: usize) -> (bool, bool) {
+    let (p, q) = (&a.pictures[a.current.unwrap_or(0)].0, &b.pictures[b.current.unwrap_or(0)].0);
+    let (mut out, before) = (vec![165; room], (a.scratch.clone(), b.scratch.clone()));
+    let g = blend_row(
+        a.state, &p.y.data, &p.cb.data, &p.cr.data, strides(p), &mut a.scratch,
+        b.state, &q.y.data, &q.cb.data, &q.cr.data, strides(q), &mut b.scratch, y, weight, &mut out,
+    );
+    let (l, m) = (p.layout, q.layout);
+    let like = (l.w, l.h, l.rh, l.rv, l.cw, l.ch, l.range) == (m.w, m.h, m.rh, m.rv, m.cw, m.ch, m.range);
+    let mut found = [a.refusals(y, room), b.refusals(y, room)].concat();
+    if !found.contains(&1) && (!like || weight > 16) {
+        found = vec![22];
+    }
+    if let Some(&n) = found.iter().min() {
+        let same = g.answer == Answer::Refused(n) && g.early == a.state && g.late == b.state && out == vec![165; room]
+            && same_bits(&a.scratch, &before.0) && same_bits(&b.scratch, &before.1);
+        return (same, false);
+    }
+    (a.state, a.place, b.state, b.place) = (g.early, y, g.late, y);
+    let mixed = a.row(y).iter().zip(b.row(y)).map(|(a, b)| ((16 - weight) * *a as usize + weight * *b as usize + 8) / 16);
+    let n = a.row(y).len();
+    let same = g.answer == Answer::Accepted && out[..n].iter().map(|b| *b as usize).eq(mixed) && out[n..].iter().all(|b| *b == 165);
+    (same, true)
+}
+
+/// 24 calls on two readers, each over its own scratch: how many blends were given, how many calls differ.
+fn blends(r: &mut Random, t: usize) -> [usize; 2] {
+    let mut l = picture(r, t).layout;
+    if r.below(3) == 0 {
+        (l.range, l.maxval) = (Range::Studio, 255);
+    }
+    let (mut a, mut b) = (Side::new(r, t, l), Side::new(r, t, l));
+    let (mut given, mut differ) = (0, 0);
+    for step in 0..24 {
+        let y = match r.below(3) {
+            0 => r.below(l.h + 2),
+            _ => a.place.max(b.place) + r.below(2),
+        };
+        let room = 3 * l.w + r.below(3) - (r.below(12) == 0) as usize;
+        let first = r.below(2) == 0;
+        let side = if first { &mut a } else { &mut b };
+        let same = match if step == 1 { 0 } else { r.below(10) } {
+            0 => side.open(r.below(3)),
+            1 => side.seek(r.below(l.h + 1)),
+            2 | 3 => side.rgb_row(y, room),
+            _ => {
+                let (same, gave) = blend(&mut a, &mut b, y, r.below(18), room);
+                given += gave as usize;
+                same
+            }
+        };
+        differ += !same as usize;
+    }
+    [given, differ]
+}
+
 /// The fixed kernel at every pair of whole chroma, at Y 0 and 255.
 fn pairs() -> usize {
     let mut differ = 0;
@@ -605,7 +777,14 @@ fn main() {
     }
     let [calls, lone_rows] = lent;
     println!("{} pictures with a sample above the maxval, in a plane or beside it; differ: calls {calls}, rows {lone_rows}", counts[4]);
-    let all = linear + guided + triangular + lists + exact + other + fixed + every + fills
+    let mut found = [0; 2];
+    for t in 0..counts[7] {
+        let list = blends(&mut r, t);
+        (0..2).for_each(|i| found[i] += list[i]);
+    }
+    let [given, unlike] = found;
+    println!("{} lists of 24 calls on two readers, {given} blends given; calls that differ: {unlike}", counts[7]);
+    let all = unlike + linear + guided + triangular + lists + exact + other + fixed + every + fills
         + planes + filled + refused + differ + coloured + kept + calls + lone_rows + refilled;
     std::process::exit((all != 0) as i32);
 }

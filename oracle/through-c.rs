@@ -28,8 +28,8 @@ fn guarded_floats<R>(slice: &mut [f32], f: impl FnOnce(&mut [f32]) -> R) -> R {
 pub mod reconstruction {
     use crate::raw::{
         chroma_exact_pixel, chroma_fill, chroma_fixed_pixel, chroma_guided_plane, chroma_linear_plane,
-        chroma_open, chroma_refill, chroma_row, chroma_seek, chroma_triangular_plane, ChromaLayout, ChromaPhase,
-        ChromaPixel, ChromaReader, ChromaRectangle, ChromaReply, ChromaStrides,
+        chroma_open, chroma_refill, chroma_rgb_row, chroma_row, chroma_seek, chroma_triangular_plane, ChromaLayout,
+        ChromaPhase, ChromaPixel, ChromaReader, ChromaRectangle, ChromaReply, ChromaStrides,
     };
     use crate::{guarded, guarded_floats};
 
@@ -83,7 +83,7 @@ pub mod reconstruction {
         pub cr: usize,
     }
 
-    fn raw_strides(s: Strides) -> ChromaStrides {
+    pub(crate) fn raw_strides(s: Strides) -> ChromaStrides {
         ChromaStrides { y: s.y, cb: s.cb, cr: s.cr }
     }
 
@@ -146,7 +146,7 @@ pub mod reconstruction {
         FixedPoint16 = 1,
     }
 
-    fn answer(refusal: u32) -> Answer {
+    pub(crate) fn answer(refusal: u32) -> Answer {
         match refusal {
             0 => Answer::Accepted,
             n => Answer::Refused(n as u8),
@@ -162,7 +162,7 @@ pub mod reconstruction {
     }
 
     /// The state as C has it.
-    fn raw_reader(r: Reader) -> ChromaReader {
+    pub(crate) fn raw_reader(r: Reader) -> ChromaReader {
         let g = r.geometry;
         ChromaReader {
             w: g.w,
@@ -182,7 +182,11 @@ pub mod reconstruction {
     }
 
     fn reply(r: ChromaReply) -> Reply {
-        let s = r.reader;
+        Reply { answer: answer(r.refusal), reader: state(r.reader) }
+    }
+
+    /// The state that C's stands for.
+    pub(crate) fn state(s: ChromaReader) -> Reader {
         let phases = s.phases.map(|p| {
             assert!(p.left < 2, "a phase that is neither");
             Phase { left: p.left == 1, f: p.f }
@@ -190,15 +194,14 @@ pub mod reconstruction {
         assert!(s.range < 2, "a range that is neither");
         let range = if s.range == 1 { Range::Studio } else { Range::Full };
         let geometry = Geometry { w: s.w, h: s.h, rh: s.rh, rv: s.rv, cw: s.cw, ch: s.ch, phases, range };
-        let reader = Reader {
+        Reader {
             geometry,
             sample_bytes: s.sample_bytes,
             maxval: s.maxval,
             place: s.place,
             h_next: s.h_next,
             f_next: s.f_next,
-        };
-        Reply { answer: answer(r.refusal), reader }
+        }
     }
 
     fn pixel(p: ChromaPixel) -> Pixel {
@@ -291,6 +294,25 @@ pub mod reconstruction {
         })
     }
 
+    #[allow(clippy::too_many_arguments)]
+    pub fn rgb_row(
+        reader: Reader, y: &[u8], cb: &[u8], cr: &[u8], strides: Strides,
+        row: usize, s: &mut [f32], out: &mut [u8],
+    ) -> Reply {
+        let strides = raw_strides(strides);
+        guarded_floats(s, |s| {
+            guarded(out, 165, |out| {
+                // SAFETY: each pointer and length are one slice's; the copies overlap nothing.
+                reply(unsafe {
+                    chroma_rgb_row(
+                        raw_reader(reader), y.as_ptr(), y.len(), cb.as_ptr(), cb.len(), cr.as_ptr(), cr.len(),
+                        strides, row, s.as_mut_ptr(), s.len(), out.as_mut_ptr(), out.len(),
+                    )
+                })
+            })
+        })
+    }
+
     pub fn ycbcr_frac_to_rgb8(y: u32, cb256: u32, cr256: u32, maxval: u32, range: Range) -> Pixel {
         // SAFETY: no pointer is passed.
         pixel(unsafe { chroma_exact_pixel(y, cb256, cr256, maxval, range as u32) })
@@ -340,6 +362,43 @@ pub mod reconstruction {
                         ChromaRectangle { left, top, width, height }, kernel as u32, size,
                         s.as_mut_ptr(), s.len(), out.as_mut_ptr(), out.len(),
                     )
+                })
+            })
+        })
+    }
+}
+
+pub mod colorimetry {
+    use crate::raw::chroma_blend_row;
+    use crate::reconstruction::{answer, raw_reader, raw_strides, state, Answer, Reader, Strides};
+    use crate::{guarded, guarded_floats};
+
+    pub struct BlendReply {
+        pub answer: Answer,
+        pub early: Reader,
+        pub late: Reader,
+    }
+
+    #[allow(clippy::too_many_arguments)]
+    pub fn blend_row(
+        early: Reader, y: &[u8], cb: &[u8], cr: &[u8], strides: Strides, s: &mut [f32],
+        late: Reader, late_y: &[u8], late_cb: &[u8], late_cr: &[u8], late_strides: Strides, t: &mut [f32],
+        row: usize, weight: usize, out: &mut [u8],
+    ) -> BlendReply {
+        guarded_floats(s, |s| {
+            guarded_floats(t, |t| {
+                guarded(out, 165, |out| {
+                    // SAFETY: each pointer and length are one slice's; the copies overlap nothing.
+                    let r = unsafe {
+                        chroma_blend_row(
+                            raw_reader(early), y.as_ptr(), y.len(), cb.as_ptr(), cb.len(), cr.as_ptr(), cr.len(),
+                            raw_strides(strides), s.as_mut_ptr(), s.len(),
+                            raw_reader(late), late_y.as_ptr(), late_y.len(), late_cb.as_ptr(), late_cb.len(),
+                            late_cr.as_ptr(), late_cr.len(), raw_strides(late_strides), t.as_mut_ptr(), t.len(),
+                            row, weight, out.as_mut_ptr(), out.len(),
+                        )
+                    };
+                    BlendReply { answer: answer(r.refusal), early: state(r.early), late: state(r.late) }
                 })
             })
         })

@@ -178,6 +178,10 @@ static void test_structs(void) {
     STANDS(ChromaChartReading, nearest_off, 40);
     STANDS(ChromaChartReading, between_off, 44);
     STANDS(ChromaChartReading, whole, 48);
+    CHECK(sizeof(ChromaBlendReply) == 248);
+    STANDS(ChromaBlendReply, refusal, 0);
+    STANDS(ChromaBlendReply, early, 8);
+    STANDS(ChromaBlendReply, late, 128);
     CHECK(sizeof(ChromaWritten) == 16);
     STANDS(ChromaWritten, refusal, 0);
     STANDS(ChromaWritten, len, 8);
@@ -1600,6 +1604,192 @@ static void test_charts(void) {
     no_reading(chroma_chart_reading(chart, 12, first, 3, 1, grey, 8), 10);
 }
 
+/* ---- rows as RGB, and blends */
+
+static ChromaReply rgb_row_of(const Strip *p, ChromaReader r, ChromaStrides s, size_t row, float *scratch,
+                              size_t scratch_len, uint8_t *out, size_t out_len) {
+    return chroma_rgb_row(r, p->y, p->y_len, p->cb, p->c_len, p->cr, p->c_len, s, row, scratch, scratch_len,
+                          out, out_len);
+}
+
+/* A whole picture, guided and exact: what the rows are held to. */
+static uint8_t *filled(const Strip *p) {
+    uint8_t *out = lend_bytes(3 * p->l.w * p->l.h);
+    float *scratch = lend_floats(p->need);
+    SAME(chroma_fill(p->l, p->y, p->y_len, p->cb, p->c_len, p->cr, p->c_len, p->s, 1, 0, 3, scratch, p->need, out,
+                     3 * p->l.w * p->l.h), 0);
+    return out;
+}
+
+static void test_rgb_rows(void) {
+    for (uint32_t range = 0; range < 2; range++) {
+        Strip p = strip_of(21, 6, 2, 2);
+        p.l.range = range;
+        const uint8_t *whole = filled(&p);
+        ChromaStrides narrow = strides_of(20, 11, 11);
+        float *scratch = (float *)watch(4 * p.need);
+        uint8_t *out = (uint8_t *)watch(63);
+        ChromaReader any, strange;
+        ChromaReply q;
+
+        signalling(&any, sizeof any);
+        REPLIED(rgb_row_of(&p, any, p.s, 3, scratch, p.need, out, 63), 1, &any);
+        q = open_strip(&p, p.l, p.s, scratch, p.need, any);
+        q = chroma_seek(q.reader, 3);
+        SAME(q.refusal, 0);
+        strange = q.reader;
+        strange.phases[1].left = 2;
+        REPLIED(rgb_row_of(&p, strange, p.s, 3, scratch, p.need, out, 63), 1, &strange);
+        strange = q.reader;
+        strange.range = 2;
+        REPLIED(rgb_row_of(&p, strange, p.s, 9, scratch, 0, out, 0), 1, &strange);
+        REPLIED(rgb_row_of(&p, q.reader, narrow, 3, scratch, p.need, out, 63), 7, &q.reader);
+        REPLIED(rgb_row_of(&p, q.reader, p.s, 3, scratch, p.need - 1, out, 63), 9, &q.reader);
+        REPLIED(rgb_row_of(&p, q.reader, p.s, 3, scratch, p.need, out, 62), 10, &q.reader);
+        REPLIED(rgb_row_of(&p, q.reader, p.s, 6, scratch, p.need, out, 63), 11, &q.reader);
+        REPLIED(rgb_row_of(&p, q.reader, p.s, 2, scratch, p.need, out, 63), 12, &q.reader);
+        q = chroma_seek(q.reader, 0);
+        for (size_t row = 0; row < 6; row += 1 + row % 2) {
+            q = rgb_row_of(&p, q.reader, p.s, row, scratch, p.need, out, 63);
+            SAME(q.refusal, 0);
+            SAME(q.reader.place, row);
+            CHECK(memcmp(out, whole + 63 * row, 63) == 0);
+        }
+        end_watched();
+    }
+}
+
+/* A reader of each of two pictures, and what they are lent. */
+typedef struct Both {
+    Strip early, late;
+    ChromaReader readers[2];
+    float *scratch[2];
+    uint8_t *out;
+} Both;
+
+static ChromaBlendReply blended(const Both *b, size_t row, size_t weight, size_t early_need, size_t late_need,
+                                size_t room) {
+    const Strip *e = &b->early, *l = &b->late;
+    return chroma_blend_row(b->readers[0], e->y, e->y_len, e->cb, e->c_len, e->cr, e->c_len, e->s, b->scratch[0],
+                            early_need, b->readers[1], l->y, l->y_len, l->cb, l->c_len, l->cr, l->c_len, l->s,
+                            b->scratch[1], late_need, row, weight, b->out, room);
+}
+
+/* Refused: both states come back, and every watched slice has kept its bits. */
+static void not_blended(const Both *b, ChromaBlendReply q, uint32_t refusal) {
+    SAME(q.refusal, refusal);
+    CHECK(same_state(&q.early, &b->readers[0]) && same_state(&q.late, &b->readers[1]));
+    CHECK(kept());
+}
+
+static Both open_both(Strip early, Strip late) {
+    Both b;
+    ChromaReply q;
+    b.early = early, b.late = late;
+    b.scratch[0] = (float *)watch(4 * early.need);
+    b.scratch[1] = (float *)watch(4 * late.need);
+    b.out = (uint8_t *)watch(3 * early.l.w);
+    q = open_strip(&early, early.l, early.s, b.scratch[0], early.need, garbage(1));
+    SAME(q.refusal, 0);
+    b.readers[0] = q.reader;
+    q = open_strip(&late, late.l, late.s, b.scratch[1], late.need, garbage(2));
+    SAME(q.refusal, 0);
+    b.readers[1] = q.reader;
+    return b;
+}
+
+/* A strip with other samples than strip_of has. */
+static Strip other_strip(size_t w, size_t h, size_t rh, size_t rv) {
+    Strip p = strip_of(w, h, rh, rv);
+    for (size_t i = 0; i < p.y_len; i++)
+        p.y[i] = (uint8_t)(200 - 37 * i);
+    for (size_t i = 0; i < p.c_len; i++)
+        p.cb[i] = (uint8_t)(120 + 5 * i), p.cr[i] = (uint8_t)(3 + 11 * i);
+    return p;
+}
+
+static void test_refused_blends(void) {
+    Both b = open_both(strip_of(21, 6, 2, 2), other_strip(21, 6, 2, 2));
+    size_t need = b.early.need;
+    Both odd = b;
+    ChromaReply q = chroma_seek(b.readers[1], 4);
+
+    for (int k = 0; k < 2; k++) {
+        odd = b;
+        odd.readers[k].h_next++;
+        not_blended(&odd, blended(&odd, 9, 17, 0, 0, 0), 1);
+        odd = b;
+        odd.readers[k].phases[3].left = 7;
+        not_blended(&odd, blended(&odd, 9, 17, 0, 0, 0), 1);
+        odd = b;
+        odd.readers[k].range = 3;
+        not_blended(&odd, blended(&odd, 9, 17, 0, 0, 0), 1);
+        odd = b;
+        odd.readers[k].range = 1;
+        not_blended(&odd, blended(&odd, 9, 8, 0, 0, 0), 22);
+    }
+    not_blended(&b, blended(&b, 9, 17, 0, 0, 0), 22);
+    not_blended(&b, blended(&b, 9, SIZE_MAX, 0, 0, 0), 22);
+    odd = b;
+    odd.late.s.cr = 10;
+    not_blended(&odd, blended(&odd, 9, 16, 0, need, 0), 7);
+    odd = b;
+    odd.early.c_len--;
+    not_blended(&odd, blended(&odd, 9, 16, need, 0, 0), 7);
+    not_blended(&b, blended(&b, 9, 16, need, need - 1, 0), 9);
+    not_blended(&b, blended(&b, 9, 16, need - 1, need, 0), 9);
+    not_blended(&b, blended(&b, 9, 16, need, need, 62), 10);
+    not_blended(&b, blended(&b, 6, 16, need, need, 63), 11);
+    odd = b;
+    odd.readers[1] = q.reader;
+    not_blended(&odd, blended(&odd, 3, 16, need, need, 63), 12);
+    odd.readers[1] = b.readers[0], odd.readers[0] = q.reader;
+    not_blended(&odd, blended(&odd, 3, 16, need, need, 63), 12);
+    end_watched();
+
+    /* Another geometry, by its sizes. */
+    b = open_both(strip_of(21, 6, 2, 2), other_strip(21, 5, 2, 2));
+    not_blended(&b, blended(&b, 3, 8, b.early.need, b.late.need, 63), 22);
+    end_watched();
+}
+
+/* From two pictures to a shade: every row of a blend, and its reading on a chart of two greys. */
+static void test_blends(void) {
+    static const uint8_t chart[] = {0, 0, 0, 255, 255, 255};
+    for (size_t weight = 0; weight <= 16; weight++) {
+        Both b = open_both(strip_of(21, 6, 2, 2), other_strip(21, 6, 2, 2));
+        const uint8_t *early = filled(&b.early), *late = filled(&b.late);
+        uint8_t *rgb = lend_bytes(3 * 21 * 6);
+        uint64_t sums[3] = {0, 0, 0};
+        /* A jump in one reader alone. */
+        ChromaReply q = chroma_seek(b.readers[1], 5);
+        q = chroma_seek(q.reader, 0);
+        b.readers[1] = q.reader;
+        for (size_t row = 0; row < 6; row++) {
+            b.out = rgb + 63 * row;
+            ChromaBlendReply r = blended(&b, row, weight, b.early.need, b.late.need, 63);
+            SAME(r.refusal, 0);
+            SAME(r.early.place, row);
+            SAME(r.late.place, row);
+            b.readers[0] = r.early, b.readers[1] = r.late;
+        }
+        int all = 1;
+        for (size_t i = 0; i < 3 * 21 * 6; i++) {
+            all = all && rgb[i] == ((16 - weight) * early[i] + weight * late[i] + 8) / 16;
+            sums[i % 3] += rgb[i];
+        }
+        CHECK(all);
+        CHECK(weight != 0 || memcmp(rgb, early, 3 * 21 * 6) == 0);
+        CHECK(weight != 16 || memcmp(rgb, late, 3 * 21 * 6) == 0);
+        ChromaChartReading c = chroma_chart_reading(chart, 6, rectangle_of(0, 0, 21, 6), 21, 6, rgb, 3 * 21 * 6);
+        SAME(c.given, 1);
+        SAME(c.pixels, 126);
+        for (int k = 0; k < 3; k++)
+            SAME(c.whole[k], (2 * sums[k] + 126) / 252);
+        end_watched();
+    }
+}
+
 int main(void) {
     test_structs();
     test_fields();
@@ -1632,6 +1822,9 @@ int main(void) {
     test_patches();
     test_largest_patch();
     test_charts();
+    test_rgb_rows();
+    test_refused_blends();
+    test_blends();
     printf("%d checks, %d failed\n", checks, failures);
     return failures == 0 ? 0 : 1;
 }

@@ -181,6 +181,15 @@ static void reader(void) {
             check(at_row.refusal == 0 || same(&at_row.reader, &now), "a refused seek gave another state");
             continue;
         }
+        if (take(1) % 2 == 0) {
+            Slice rgb = lend(room(3 * l.w), 1);
+            memcpy(s.before, s.all, s.bytes + 2 * ROUND);
+            at_row = chroma_rgb_row(now, at(y), y.bytes, at(cb), cb.bytes, at(cr), cr.bytes, strides, number(), at(s), s.bytes / 4, at(rgb), rgb.bytes);
+            check(at_row.refusal == 0 || same(&at_row.reader, &now), "a refused RGB row gave another state");
+            check(at_row.refusal == 0 || memcmp(s.all, s.before, s.bytes + 2 * ROUND) == 0, "a refused RGB row changed scratch");
+            done(rgb, at_row.refusal == 0);
+            continue;
+        }
         Slice b = lend(room(l.w), sizeof(float));
         Slice r = lend(room(l.w), sizeof(float));
         memcpy(s.before, s.all, s.bytes + 2 * ROUND);
@@ -194,6 +203,51 @@ static void reader(void) {
     done(y, 0);
     done(cb, 0);
     done(cr, 0);
+}
+
+/* Two readers, mostly of one geometry, and blends of their rows; at times one of them jumps. */
+static void blends(void) {
+    ChromaLayout l[2];
+    Planes p[2];
+    Slice s[2];
+    ChromaReader now[2];
+    l[0] = l[1] = layout();
+    if (take(1) % 8 == 0) {
+        l[1] = layout();
+    }
+    for (int k = 0; k < 2; k++) {
+        p[k] = planes(l[k]);
+        s[k] = lend(room(chroma_scratch_need(l[k].cw, l[k].w)), sizeof(float));
+        now[k] = chroma_open(l[k], at(p[k].y), p[k].y.bytes, at(p[k].cb), p[k].cb.bytes, at(p[k].cr), p[k].cr.bytes, p[k].strides, at(s[k]), s[k].bytes / 4, state()).reader;
+    }
+    for (int n = 0; n < 6; n++) {
+        uint8_t kind = (uint8_t)take(1);
+        if (kind % 4 == 0) {
+            now[kind / 4 % 2] = chroma_seek(now[kind / 4 % 2], number()).reader;
+            continue;
+        }
+        Slice out = lend(room(3 * l[0].w), 1);
+        for (int k = 0; k < 2; k++) {
+            memcpy(s[k].before, s[k].all, s[k].bytes + 2 * ROUND);
+        }
+        ChromaBlendReply q = chroma_blend_row(now[0], at(p[0].y), p[0].y.bytes, at(p[0].cb), p[0].cb.bytes, at(p[0].cr), p[0].cr.bytes, p[0].strides, at(s[0]), s[0].bytes / 4,
+                                              now[1], at(p[1].y), p[1].y.bytes, at(p[1].cb), p[1].cb.bytes, at(p[1].cr), p[1].cr.bytes, p[1].strides, at(s[1]), s[1].bytes / 4,
+                                              number(), take(1) % 19, at(out), out.bytes);
+        check(q.refusal == 0 || (same(&q.early, &now[0]) && same(&q.late, &now[1])), "a refused blend gave another state");
+        for (int k = 0; k < 2; k++) {
+            check(q.refusal == 0 || memcmp(s[k].all, s[k].before, s[k].bytes + 2 * ROUND) == 0, "a refused blend changed scratch");
+        }
+        check(q.refusal != 0 || q.early.place == q.late.place, "a blend that left its readers at two rows");
+        now[0] = q.early;
+        now[1] = q.late;
+        done(out, q.refusal == 0);
+    }
+    for (int k = 0; k < 2; k++) {
+        done(s[k], 1);
+        done(p[k].y, 0);
+        done(p[k].cb, 0);
+        done(p[k].cr, 0);
+    }
 }
 
 static void whole(void) {
@@ -262,30 +316,35 @@ static Slice copy(Slice s) {
     return t;
 }
 
-/* Planes before and after a change of a few bytes, and a rectangle that mostly lies in the plane. An accepted
- * refill of the fill before gives the fill after; a refused one changes nothing. */
+/* Planes before and after a change of a few cells, and a rectangle that mostly lies in the plane and mostly has
+ * them. An accepted refill of the fill before gives the fill after; a refused one changes nothing. */
 static void refill(void) {
     ChromaLayout l = layout();
     size_t size = take(1) % 8 == 0 ? take(1) % 6 : 3 + take(1) % 2;
     uint32_t kernel = (uint32_t)take(1) % 17 % 3;
     ChromaRectangle r = rectangle();
-    Planes p = planes(l), q = p;
-    q.y = copy(p.y), q.cb = copy(p.cb), q.cr = copy(p.cr);
-    for (size_t k = take(1) % 8; k > 0; k--) {
-        Slice s = k == 7 ? q.y : k % 2 ? q.cb : q.cr;
-        if (s.bytes > 0) {
-            s.all[ROUND + number() % s.bytes] ^= (uint8_t)take(1);
-        }
-    }
-    memcpy(q.y.before, q.y.all, q.y.bytes + 2 * ROUND);
-    memcpy(q.cb.before, q.cb.all, q.cb.bytes + 2 * ROUND);
-    memcpy(q.cr.before, q.cr.all, q.cr.bytes + 2 * ROUND);
-    if (take(1) % 4 && l.cw && l.ch) {
+    if (take(1) % 8 && l.cw && l.ch) {
         r.left %= l.cw;
         r.top %= l.ch;
         r.width %= l.cw - r.left + 1;
         r.height %= l.ch - r.top + 1;
     }
+    Planes p = planes(l), q = p;
+    q.y = copy(p.y), q.cb = copy(p.cb), q.cr = copy(p.cr);
+    for (size_t k = take(1) % 8; k > 0; k--) {
+        uint8_t kind = (uint8_t)take(1);
+        Slice s = kind == 0 ? q.y : k % 2 ? q.cb : q.cr;
+        size_t place = number();
+        if (kind > 16 && r.width && r.height) {
+            place = (r.top + place % r.height) * (k % 2 ? q.strides.cb : q.strides.cr) + (r.left + place / 5 % r.width) * l.sample_bytes;
+        }
+        if (s.bytes > 0) {
+            s.all[ROUND + place % s.bytes] ^= (uint8_t)take(1);
+        }
+    }
+    memcpy(q.y.before, q.y.all, q.y.bytes + 2 * ROUND);
+    memcpy(q.cb.before, q.cb.all, q.cb.bytes + 2 * ROUND);
+    memcpy(q.cr.before, q.cr.all, q.cr.bytes + 2 * ROUND);
     Slice s = lend(room(chroma_scratch_need(l.cw, l.w)), sizeof(float));
     Slice out = lend(room(l.w * l.h * size), 1);
     uint32_t held = chroma_fill(l, at(p.y), p.y.bytes, at(p.cb), p.cb.bytes, at(p.cr), p.cr.bytes, p.strides, 1, kernel, size, at(s), s.bytes / 4, at(out), out.bytes);
@@ -340,7 +399,7 @@ static void chart(void) {
 int LLVMFuzzerTestOneInput(const uint8_t *data, size_t size) {
     next = data;
     left = size;
-    switch (take(1) % 7) {
+    switch (take(1) % 8) {
     case 0:
         reader();
         break;
@@ -359,6 +418,9 @@ int LLVMFuzzerTestOneInput(const uint8_t *data, size_t size) {
         break;
     case 6:
         refill();
+        break;
+    case 7:
+        blends();
         break;
     default:
         program();

@@ -117,6 +117,79 @@ pub(crate) fn row(
     })
 }
 
+pub(crate) fn rgb_row(
+    state: State,
+    p: &Planes,
+    row: usize,
+    scratch: &mut [f32],
+    out: &mut [u8],
+) -> Result<State, Refusal> {
+    // SAFETY: each pointer and length are one slice's; the two that are written are `&mut`.
+    State::of(unsafe {
+        raw::chroma_rgb_row(
+            state.0,
+            p[0].data.as_ptr(),
+            p[0].data.len(),
+            p[1].data.as_ptr(),
+            p[1].data.len(),
+            p[2].data.as_ptr(),
+            p[2].data.len(),
+            strides(p),
+            row,
+            scratch.as_mut_ptr(),
+            scratch.len(),
+            out.as_mut_ptr(),
+            out.len(),
+        )
+    })
+}
+
+/// What a reader brings to a blend: its state, its picture's planes and its scratch.
+pub(crate) type Side<'a, 'b> = (State, &'a Planes<'b>, &'a mut [f32]);
+
+/// Both states afterwards, the early one first.
+pub(crate) fn blend_row(
+    early: Side,
+    late: Side,
+    row: usize,
+    weight: usize,
+    out: &mut [u8],
+) -> Result<(State, State), Refusal> {
+    let ((first, p, s), (second, q, t)) = (early, late);
+    // SAFETY: each pointer and length are one slice's; the three that are written are `&mut`,
+    // so they overlap nothing.
+    let reply = unsafe {
+        raw::chroma_blend_row(
+            first.0,
+            p[0].data.as_ptr(),
+            p[0].data.len(),
+            p[1].data.as_ptr(),
+            p[1].data.len(),
+            p[2].data.as_ptr(),
+            p[2].data.len(),
+            strides(p),
+            s.as_mut_ptr(),
+            s.len(),
+            second.0,
+            q[0].data.as_ptr(),
+            q[0].data.len(),
+            q[1].data.as_ptr(),
+            q[1].data.len(),
+            q[2].data.as_ptr(),
+            q[2].data.len(),
+            strides(q),
+            t.as_mut_ptr(),
+            t.len(),
+            row,
+            weight,
+            out.as_mut_ptr(),
+            out.len(),
+        )
+    };
+    Refusal::check(reply.refusal)?;
+    Ok((State(reply.early), State(reply.late)))
+}
+
 pub(crate) fn linear_plane(
     layout: Layout,
     plane: Plane,

@@ -9,7 +9,8 @@
 //! [`fill`] gives a whole picture as RGB and [`refill`] brings one up to date where a few cells of
 //! chroma were replaced, a [`Reader`] gives rows of chroma, [`linear_plane`] and the
 //! like one plane of chroma. [`patch`] reads the colour of a rectangle from a picture of RGB rows,
-//! and [`chart_reading`] finds that colour on a chart.
+//! and [`chart_reading`] finds that colour on a chart. A [`Blend`] gives the rows between two
+//! photographs, to be read in the same way.
 //!
 //! ```
 //! use chroma::{fill, Kernel, Layout, Picture, Plane, Scratch, Upsampling};
@@ -29,6 +30,7 @@
 #![deny(missing_docs)]
 #![deny(unsafe_code)]
 
+mod blend;
 mod chart;
 #[allow(unsafe_code)]
 mod ffi;
@@ -37,6 +39,7 @@ mod picture;
 mod reader;
 mod refusal;
 
+pub use blend::Blend;
 pub use chart::{chart_reading, ChartReading};
 pub use patch::{patch, Patch, Rectangle};
 pub use picture::{Layout, Picture, Plane, Range, Scratch, Siting};

@@ -5,7 +5,7 @@ use std::mem::{offset_of, size_of};
 
 /// CHROMA_VERSION of the header that this file follows.
 #[allow(dead_code)]
-pub(super) const VERSION: u32 = 0x00_09_00;
+pub(super) const VERSION: u32 = 0x00_0a_00;
 
 #[repr(C)]
 #[derive(Clone, Copy)]
@@ -109,6 +109,13 @@ pub(super) struct ChromaChartReading {
     pub(super) whole: [u8; 3],
 }
 
+#[repr(C)]
+pub(super) struct ChromaBlendReply {
+    pub(super) refusal: u32,
+    pub(super) early: ChromaReader,
+    pub(super) late: ChromaReader,
+}
+
 // Where each field stands, as tests/c has it of the header.
 const _: () = {
     assert!(size_of::<ChromaLayout>() == 96);
@@ -200,6 +207,13 @@ const _: () = {
     assert!(offset_of!(ChromaChartReading, whole) == 48);
 };
 
+const _: () = {
+    assert!(size_of::<ChromaBlendReply>() == 248);
+    assert!(offset_of!(ChromaBlendReply, refusal) == 0);
+    assert!(offset_of!(ChromaBlendReply, early) == 8);
+    assert!(offset_of!(ChromaBlendReply, late) == 128);
+};
+
 extern "C" {
     #[allow(dead_code)]
     pub(super) fn chroma_version() -> u32;
@@ -233,6 +247,21 @@ extern "C" {
         out_cb_len: usize,
         out_cr: *mut f32,
         out_cr_len: usize,
+    ) -> ChromaReply;
+    pub(super) fn chroma_rgb_row(
+        reader: ChromaReader,
+        y: *const u8,
+        y_len: usize,
+        cb: *const u8,
+        cb_len: usize,
+        cr: *const u8,
+        cr_len: usize,
+        strides: ChromaStrides,
+        row: usize,
+        scratch: *mut f32,
+        scratch_len: usize,
+        out: *mut u8,
+        out_len: usize,
     ) -> ChromaReply;
     pub(super) fn chroma_linear_plane(
         layout: ChromaLayout,
@@ -306,7 +335,13 @@ extern "C" {
         out: *mut u8,
         out_len: usize,
     ) -> u32;
-    pub(super) fn chroma_exact_pixel(y: u32, cb256: u32, cr256: u32, maxval: u32, range: u32) -> ChromaPixel;
+    pub(super) fn chroma_exact_pixel(
+        y: u32,
+        cb256: u32,
+        cr256: u32,
+        maxval: u32,
+        range: u32,
+    ) -> ChromaPixel;
     pub(super) fn chroma_fixed_pixel(y: u32, cb: u32, cr: u32) -> ChromaPixel;
     pub(super) fn chroma_picture(
         input: *const u8,
@@ -332,4 +367,30 @@ extern "C" {
         rgb: *const u8,
         rgb_len: usize,
     ) -> ChromaChartReading;
+    pub(super) fn chroma_blend_row(
+        early: ChromaReader,
+        early_y: *const u8,
+        early_y_len: usize,
+        early_cb: *const u8,
+        early_cb_len: usize,
+        early_cr: *const u8,
+        early_cr_len: usize,
+        early_strides: ChromaStrides,
+        early_scratch: *mut f32,
+        early_scratch_len: usize,
+        late: ChromaReader,
+        late_y: *const u8,
+        late_y_len: usize,
+        late_cb: *const u8,
+        late_cb_len: usize,
+        late_cr: *const u8,
+        late_cr_len: usize,
+        late_strides: ChromaStrides,
+        late_scratch: *mut f32,
+        late_scratch_len: usize,
+        row: usize,
+        weight: usize,
+        out: *mut u8,
+        out_len: usize,
+    ) -> ChromaBlendReply;
 }

@@ -84,8 +84,13 @@ impl<'a> Reader<'a> {
 
     /// Moves to any row, back as well. Refusal 11.
     pub fn seek(&mut self, row: usize) -> Result<(), Refusal> {
-        self.state = ffi::seek(self.state, row)?;
+        self.state = self.sought(row)?;
         Ok(())
+    }
+
+    /// The state at another row.
+    pub(crate) fn sought(&self, row: usize) -> Result<State, Refusal> {
+        ffi::seek(self.state, row)
     }
 
     /// Row `row` of Cb and of Cr into the first `w` values of `cb` and of `cr`, in the samples'
@@ -96,5 +101,38 @@ impl<'a> Reader<'a> {
         let scratch = self.scratch.of(&layout);
         self.state = ffi::row(self.state, self.picture.planes(), row, scratch, cb, cr)?;
         Ok(())
+    }
+
+    /// Row `row` as RGB, guided and exact: `w` pixels of three bytes into `out`, as
+    /// [`fill`](crate::fill) gives that row, and the reader moved as by [`row`](Reader::row).
+    /// Refusals 10 (`out` shorter than `3 * w`), 11 and 12, after which everything is as it was.
+    ///
+    /// ```
+    /// use chroma::{Layout, Picture, Plane};
+    ///
+    /// let (y, cb, cr) = ([230; 2], [3; 2], [128; 2]);
+    /// let (a, b) = (Plane::new(&cb, 1), Plane::new(&cr, 1));
+    /// let picture = Picture::new(Layout::new(1, 2, 1, 1), Plane::new(&y, 1), a, b)?;
+    /// let mut rgb = [0; 3];
+    /// picture.reader()?.rgb_row(1, &mut rgb)?;
+    /// assert_eq!(rgb, [230, 255, 9]);
+    /// # Ok::<(), chroma::Refusal>(())
+    /// ```
+    pub fn rgb_row(&mut self, row: usize, out: &mut [u8]) -> Result<(), Refusal> {
+        let layout = *self.picture.layout();
+        let scratch = self.scratch.of(&layout);
+        self.state = ffi::rgb_row(self.state, self.picture.planes(), row, scratch, out)?;
+        Ok(())
+    }
+
+    /// What it brings to a blend.
+    pub(crate) fn side(&mut self) -> ffi::Side<'_, 'a> {
+        let layout = *self.picture.layout();
+        (self.state, self.picture.planes(), self.scratch.of(&layout))
+    }
+
+    /// The state that a blend left.
+    pub(crate) fn moved(&mut self, state: State) {
+        self.state = state;
     }
 }

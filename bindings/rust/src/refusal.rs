@@ -79,13 +79,15 @@ pub enum Refusal {
     BadChart,
     /// Luma that differs from that before the change, or chroma that differs outside the rectangle.
     OtherChange,
+    /// A blend of pictures whose geometry (sizes, ratios, range) is not equal, or a weight above 16.
+    Unlike,
     /// A number that this crate has no name for, from a library that is newer than the crate. The
     /// library of the crate's own version gives none.
     Unknown(u32),
 }
 
 impl Refusal {
-    const NAMED: [Refusal; 21] = [
+    const NAMED: [Refusal; 22] = [
         Refusal::BadState,
         Refusal::BadSize,
         Refusal::BadRatio,
@@ -107,6 +109,7 @@ impl Refusal {
         Refusal::BadRectangle,
         Refusal::BadChart,
         Refusal::OtherChange,
+        Refusal::Unlike,
     ];
 
     /// The number of the reason, as docs/REFUSALS.md and include/chroma.h have it.
@@ -133,6 +136,7 @@ impl Refusal {
             Refusal::BadRectangle => 19,
             Refusal::BadChart => 20,
             Refusal::OtherChange => 21,
+            Refusal::Unlike => 22,
             Refusal::Unknown(number) => number,
         }
     }
@@ -171,6 +175,7 @@ impl fmt::Display for Refusal {
             Refusal::BadRectangle => "a rectangle whose end passes what the call takes",
             Refusal::BadChart => "a chart that is not 2 to 24 shades of three bytes",
             Refusal::OtherChange => "samples that differ where no change was announced",
+            Refusal::Unlike => "two pictures of unequal geometry, or a weight above 16",
             Refusal::Unknown(_) => "a reason that this crate has no name for",
         };
         write!(f, "refused {}: {words}", self.number())
@@ -190,7 +195,7 @@ mod tests {
             let refusal = Refusal::check(number).unwrap_err();
             assert_eq!(refusal.number(), number);
             let unknown = matches!(refusal, Refusal::Unknown(_));
-            let named = (1..=17).chain([18, 19, 20, 21]).any(|known| known == number);
+            let named = number <= 22;
             assert_eq!(unknown, !named, "{number}");
         }
     }

@@ -245,9 +245,19 @@ fn studio_range_is_for_maxval_255_and_the_exact_kernel() {
     let mut scratch = Scratch::new();
     let mut rgb = vec![7; 21 * 6 * 3];
     let mut filled = |picture, kernel| {
-        fill(picture, Upsampling::LumaGuided, kernel, 3, &mut scratch, &mut rgb)
+        fill(
+            picture,
+            Upsampling::LumaGuided,
+            kernel,
+            3,
+            &mut scratch,
+            &mut rgb,
+        )
     };
-    assert_eq!(filled(&ranged, Kernel::FixedPoint16), Err(Refusal::BadRange));
+    assert_eq!(
+        filled(&ranged, Kernel::FixedPoint16),
+        Err(Refusal::BadRange)
+    );
     assert_eq!(filled(&full, Kernel::FixedPoint16), Ok(()));
     assert_eq!(filled(&ranged, Kernel::Exact), Ok(()));
     // The rows are those of full range, and each pixel is the pixel call's.

@@ -1,2 +1,4 @@
+pub mod Blending
 pub mod Search
+pub mod Settled
 pub mod Sums

@@ -3,4 +3,6 @@ pub mod PatchClaims
 pub mod Mixes
 pub mod Charts
 pub mod ChartClaims
+pub mod Blends
+pub mod BlendClaims
 pub mod Inner

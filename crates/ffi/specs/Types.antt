@@ -22,9 +22,9 @@ use Rattle.ffi.specs.declared.types.ChromaStrides.{ChromaStrides}
 use Rattle.ffi.specs.declared.types.ChromaPhase.{ChromaPhase}
 use Rattle.ffi.specs.declared.types.ChromaReader.{ChromaReader}
 
--- CHROMA_VERSION: 0.9.0 as major, minor and patch, a byte each
+-- CHROMA_VERSION: 0.10.0 as major, minor and patch, a byte each
 abbrev pub version : ℕ
-version = 0x00_0900
+version = 0x00_0a00
 
 -- 0 for accepted, else the papers' number
 abbrev pub numberOf : Answer → ℕ

@@ -1,6 +1,7 @@
 // The calls for C and Rust (include/chroma.h): each translates what it is handed, makes the Rattle call and translates what that gives.
 // None has a `requires`: what stands for nothing is answered. What C's structs and numbers stand for is said in specs/Types, what the
 // calls promise in specs/Calls.
+mod blends;
 mod charts;
 mod filling;
 mod patches;
@@ -13,6 +14,8 @@ mod replies;
 mod types;
 mod version;
 
+pub use blends::ChromaBlendReply;
+pub use blends::chroma_blend_row;
 pub use charts::ChromaChartReading;
 pub use charts::chroma_chart_reading;
 pub use filling::chroma_fill;
@@ -26,6 +29,7 @@ pub use planes::chroma_guided_plane;
 pub use planes::chroma_linear_plane;
 pub use planes::chroma_triangular_plane;
 pub use reading::chroma_open;
+pub use reading::chroma_rgb_row;
 pub use reading::chroma_row;
 pub use reading::chroma_seek;
 pub use refilling::chroma_refill;

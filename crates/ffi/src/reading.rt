@@ -1,6 +1,7 @@
-// The reader's calls for C: open, seek and row.
+// The reader's calls for C: open, seek, row, and a row as RGB.
 ghost use mathlib.Core.Path.{_≡_};
 ghost use Rattle.guided.specs.Calls.{openCall, seekCall, rowCall, OpenGiven, SeekGiven, RowGiven};
+ghost use Rattle.rgb_rows.specs.RgbRows.{sideOf, rgbRowCall, RgbRowGiven};
 ghost use Rattle.ffi.specs.Types.{asStrides, asLayout, asReader, strangeLayout, strangeReader};
 ghost use Rattle.ffi.specs.Calls.{Checked};
 ghost use Rattle.image.specs.Picture.{planesOf};
@@ -98,6 +99,43 @@ pub extern "C" fn chroma_row(
         s,
         out_cb,
         out_cr,
+    );
+    reply_to(reader, reply)
+}
+
+// `rgb_row`: one row as RGB, guided and exact.
+#[no_mangle]
+pub extern "C" fn chroma_rgb_row(
+    reader: ChromaReader,
+    y: &[u8],
+    cb: &[u8],
+    cr: &[u8],
+    strides: ChromaStrides,
+    row: usize,
+    s: &mut [f32],
+    out: &mut [u8],
+) -> ChromaReply
+    ensures { λ r. ⌜ Checked (strangeReader reader) 1 reader
+        ((now (s .exit) ≡ now (s .entry)) × (now (out .exit) ≡ now (out .entry)))
+        (λ p. RgbRowGiven
+        (rgbRowCall row
+        (sideOf (asReader reader) (planesOf (now (y .entry)) (now (cb .entry)) (now (cr .entry)) (asStrides strides)) (now (s .entry)))
+        (now (out .entry)))
+        p (now (s .exit)) (now (out .exit)))
+        r ⌝ }
+{
+    if strange_reader(reader) {
+        return ChromaReply { refusal: 1, reader };
+    }
+    let reply = rgb_rows::rgb_row(
+        to_reader(reader),
+        y,
+        cb,
+        cr,
+        to_strides(strides),
+        row,
+        s,
+        out,
     );
     reply_to(reader, reply)
 }

@@ -7,5 +7,5 @@ ghost use Rattle.ffi.specs.Types.{version};
 pub extern "C" fn chroma_version() -> u32
     ensures { λ r. ⌜ r ≡ version ⌝ }
 {
-    2_304
+    2_560
 }

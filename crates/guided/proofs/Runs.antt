@@ -26,7 +26,7 @@ use Rattle.guided.specs.declared.state.Reader.{Reader}
 use Rattle.guided.specs.Guided.{guidedSample, guidedRow}
 use Rattle.guided.specs.Scratch.{finishedAt, rowSteps}
 use Rattle.guided.specs.Calls.{readerLayout, geometryOf, topOf, freshH, freshF, doneH, doneF, readerAt, afterOpen, afterSeek, afterRow, badState, OpenCall, SeekCall, RowCall, openTests, seekTests, rowTests, rowScratch, rowOut, Bytes}
-use Rattle.guided.specs.Events.{RowEvent, Event, Opened, Sought, Rowed, Ran, AllRan, done, Since, Course, Start, After, pictureBy, moved, next, Shows, Handed, Premise, Gives, here, later, outOf, given}
+use Rattle.guided.specs.Events.{RowEvent, Event, Opened, Sought, Rowed, RanRow, Ran, AllRan, done, Since, Course, Start, After, pictureBy, moved, next, Shows, Handed, Premise, Gives, here, later, outOf, given}
 use Rattle.guided.proofs.Held.{Has}
 use Rattle.guided.proofs.Window.{Win, Counters, win-fresh}
 use Rattle.guided.proofs.FinishedRows.{row-window, row-finished}
@@ -169,7 +169,7 @@ seek-ok s ok k h e = record {
 
 -- an accepted event keeps what is known
 moved-ok : (t : Course) (e : Event) → Ran e → T (done e) → Good t → Handed t e → Good (moved t e)
-unfolding Ran done moved Handed
+unfolding Ran RanRow done moved Handed
 moved-ok t (Opened o r) h a g d =
     subst (λ (z : Reader). Ok (record { by = o; reader = z; scratch = o .scratch })) (sym (h .leaves ∙ pick (accepted (r .answer)) (afterOpen (o .layout)) (o .reader) a))
     (open-ok o (h .bytes) (open-handed o (all-failed (openTests o) (r .answer) (h .answers) a)))
@@ -181,9 +181,9 @@ moved-ok (After s) (Sought k r) h a g d =
 moved-ok (After s) (Rowed e) h a g d =
     let c = e .call in
     let r = e .reply in
-    let er : r .reader ≡ afterRow (c .reader) (c .y) = h .leaves ∙ pick (accepted (r .answer)) (afterRow (c .reader) (c .y)) (c .reader) a in
-    let es : e .scratch ≡ rowScratch c = h .scratches ∙ pick (accepted (r .answer)) (rowScratch c) (c .scratch) a in
-    rw (er, es) (row-ok s g c (row-handed c (all-failed (rowTests c) (r .answer) (h .answers) a)) (d .0) (d .1) (d .2))
+    let er : r .reader ≡ afterRow (c .reader) (c .y) = h a .leaves ∙ pick (accepted (r .answer)) (afterRow (c .reader) (c .y)) (c .reader) a in
+    let es : e .scratch ≡ rowScratch c = h a .scratches ∙ pick (accepted (r .answer)) (rowScratch c) (c .scratch) a in
+    rw (er, es) (row-ok s g c (row-handed c (all-failed (rowTests c) (r .answer) (h a .answers) a)) (d .0) (d .1) (d .2))
 
 -- and so does every event
 pub next-ok : (t : Course) (e : Event) → Ran e → Good t → (T (done e) → Handed t e) → Good (next t e)
@@ -201,6 +201,8 @@ pub record Gave (o : OpenCall) (e : RowEvent) : Type 0 where
   pub sound : Sound (o .layout)
   pub inside : e .call .y < o .layout .h
   pub bytes : Bytes o
+  pub layout : readerLayout (e .call .reader) ≡ o .layout
+  pub shows : Shows (pictureBy o) (e .call .planes)
   pub is : (k : Chroma) → given o e k ≡ guidedRow (pictureBy o) k (e .call .y)
 
 -- the output that a call is lent for component k, and what is left there
@@ -213,13 +215,13 @@ lent-room c h Cb = h .cb
 lent-room c h Cr = h .cr
 
 out-left : (e : RowEvent) → Ran (Rowed e) → T (done (Rowed e)) → (k : Chroma) → outOf e k ≡ rowOut (e .call) k (lent (e .call) k)
-unfolding Ran done outOf
-out-left e h a Cb = h .cbs ∙ pick (accepted (e .reply .answer)) (rowOut (e .call) Cb (e .call .outCb)) (e .call .outCb) a
-out-left e h a Cr = h .crs ∙ pick (accepted (e .reply .answer)) (rowOut (e .call) Cr (e .call .outCr)) (e .call .outCr) a
+unfolding Ran RanRow done outOf
+out-left e h a Cb = h a .cbs ∙ pick (accepted (e .reply .answer)) (rowOut (e .call) Cb (e .call .outCb)) (e .call .outCb) a
+out-left e h a Cr = h a .crs ∙ pick (accepted (e .reply .answer)) (rowOut (e .call) Cr (e .call .outCr)) (e .call .outCr) a
 
 handed-row : (e : RowEvent) → Ran (Rowed e) → T (done (Rowed e)) → RowHanded (e .call)
-unfolding Ran done
-handed-row e h a = row-handed (e .call) (all-failed (rowTests (e .call)) (e .reply .answer) (h .answers) a)
+unfolding Ran RanRow done
+handed-row e h a = row-handed (e .call) (all-failed (rowTests (e .call)) (e .reply .answer) (h a .answers) a)
 
 gave-here : (s : Since) (e : RowEvent) → Ran (Rowed e) → T (done (Rowed e)) → Ok s → Handed (After s) (Rowed e) → Gave (s .by) e
 unfolding Handed given
@@ -230,6 +232,8 @@ gave-here s e h a ok d =
       sound = sound-by s ok;
       inside = within s ok c hd (d .0) (d .1) (d .2);
       bytes = ok .bytes;
+      layout = lay s ok c hd (d .0) (d .1) (d .2);
+      shows = d .0;
       is = λ k. ap (take (s .by .layout .w)) (out-left e h a k) ∙ row-given s ok c hd (d .0) (d .1) (d .2) k (lent c k) (lent-room c hd k);
     }
 

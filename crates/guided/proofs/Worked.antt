@@ -1,5 +1,5 @@
--- A list that meets the premise, with refused calls among accepted ones and a second picture, in studio range, over the first one's scratch;
--- and a list of its own with that picture in full range, whose row is the same.
+-- A list that meets the premise, with refused calls among accepted ones, a refused blend where a row call would be accepted, and a second
+-- picture, in studio range, over the first one's scratch; and a list of its own with that picture in full range, whose row is the same.
 -- Each answer is computed from its tests; what a call leaves passes by LeftStates. The long computations are the guided rows of both pictures,
 -- whose numbers come from the original; their slopes are computed first, since each sample takes its slope several times.
 use mathlib.Core.Path.{_≡_, refl, _∙_}
@@ -30,7 +30,7 @@ use Rattle.image.specs.Scratch.{scratchNeed}
 use Rattle.guided.specs.declared.state.Reader.{Reader}
 use Rattle.guided.specs.Guided.{three, lumaOf, extremeOf, cellLuma, cellOf, acrossVal, extreme, epsilon, mean, slopeOf, downTo, acrossTo, detailOf, valueOf, slope, guidedSample, guidedRow}
 use Rattle.guided.specs.Calls.{geometryOf, readerLayout, readerAt, afterOpen, afterSeek, afterRow, badState, OpenCall, SeekCall, RowCall, openTests, seekTests, rowTests, rowScratch, rowOut, Bytes}
-use Rattle.guided.specs.Events.{RowEvent, Event, Opened, Sought, Rowed, Ran, AllRan, done, Start, pictureBy, moved, next, Handed, Premise, Gives, here, later, given, Run}
+use Rattle.guided.specs.Events.{RowEvent, Event, Opened, Sought, Rowed, RanRow, Ran, AllRan, done, Start, pictureBy, moved, next, Handed, Premise, Gives, here, later, given, Run}
 use Rattle.guided.proofs.FinishedRows.{length-row}
 use Rattle.guided.proofs.LeftStates.{after-open-passes, after-seek-passes, after-row-passes}
 use Rattle.guided.proofs.Runs.{shows-own}
@@ -38,10 +38,10 @@ use Rattle.guided.proofs.Demand.{demand-3}
 
 -- ---- what the code gives, by its contracts
 
-abbrev openEvent : OpenCall → Event
+abbrev pub openEvent : OpenCall → Event
 openEvent o = Opened o (record { answer = first (openTests o); reader = cond (accepted (first (openTests o))) (afterOpen (o .layout)) (o .reader) })
 
-abbrev seekEvent : SeekCall → Event
+abbrev pub seekEvent : SeekCall → Event
 seekEvent k = Sought k (record { answer = first (seekTests k); reader = cond (accepted (first (seekTests k))) (afterSeek (k .reader) (k .y)) (k .reader) })
 
 abbrev rowEvent : RowCall → RowEvent
@@ -57,14 +57,14 @@ rowEvent c =
 
 -- ---- the calls
 
-abbrev junk : Reader
+abbrev pub junk : Reader
 junk = record { geometry = record { w = 9; h = 9; rh = 0; rv = 7; cw = 1; ch = 1; phases = []; range = Full }; «sample_bytes» = 3; maxval = 0; place = 7; «h_next» = 7; «f_next» = 7 }
 
 -- 2 by 2, ratio 2 across and 1 down, luma at a stride of 3 and Cr at one of 2
-abbrev layoutA : Layout
+abbrev pub layoutA : Layout
 layoutA = record { w = 2; h = 2; rh = 2; rv = 1; cw = 1; ch = 2; across = plain; down = plain; «sample_bytes» = 1; maxval = 255; range = Full }
 
-abbrev planesA : Planes
+abbrev pub planesA : Planes
 planesA = record { y = record { bytes = 10 ∷ 20 ∷ 99 ∷ 30 ∷ 40 ∷ []; stride = 3 }; cb = record { bytes = 100 ∷ 60 ∷ []; stride = 1 }; cr = record { bytes = 200 ∷ 9 ∷ 77 ∷ []; stride = 2 } }
 
 -- 1 by 1, in studio range
@@ -74,7 +74,7 @@ layoutB = record { w = 1; h = 1; rh = 1; rv = 1; cw = 1; ch = 1; across = plain;
 abbrev planesB : Planes
 planesB = record { y = record { bytes = 230 ∷ []; stride = 1 }; cb = record { bytes = 3 ∷ []; stride = 1 }; cr = record { bytes = 128 ∷ []; stride = 1 } }
 
-abbrev openA : OpenCall
+abbrev pub openA : OpenCall
 openA = record { layout = layoutA; planes = planesA; scratch = replicate 80 nan; reader = junk }
 
 -- refused as 2, over any state and scratch
@@ -87,6 +87,16 @@ badRow = record { y = 0; planes = planesB; reader = junk; scratch = []; outCb = 
 
 abbrev row0 : RowCall
 row0 = record { y = 0; planes = planesA; reader = afterOpen layoutA; scratch = replicate 80 nan; outCb = nan ∷ nan ∷ nan ∷ []; outCr = nan ∷ nan ∷ [] }
+
+-- a blend that is refused as 22, where row 0 given again would be accepted
+abbrev refusedBlend : RowEvent
+refusedBlend = record {
+  call = record { y = 0; planes = planesA; reader = afterRow (afterOpen layoutA) 0; scratch = rowScratch row0; outCb = nan ∷ nan ∷ []; outCr = nan ∷ nan ∷ [] };
+  reply = record { answer = Refused 22; reader = afterRow (afterOpen layoutA) 0 };
+  scratch = rowScratch row0;
+  outCb = nan ∷ nan ∷ [];
+  outCr = nan ∷ nan ∷ [];
+}
 
 abbrev seek1 : SeekCall
 seek1 = record { y = 1; reader = afterRow (afterOpen layoutA) 0 }
@@ -101,15 +111,15 @@ abbrev row2 : RowCall
 row2 = record { y = 0; planes = planesB; reader = afterOpen layoutB; scratch = rowScratch row1; outCb = nan ∷ []; outCr = nan ∷ [] }
 
 abbrev events : List Event
-events = openEvent openA ∷ Rowed (rowEvent badRow) ∷ openEvent badOpen ∷ Rowed (rowEvent row0) ∷ seekEvent seek1 ∷ Rowed (rowEvent row1) ∷ openEvent openB ∷ Rowed (rowEvent row2) ∷ []
+events = openEvent openA ∷ Rowed (rowEvent badRow) ∷ openEvent badOpen ∷ Rowed (rowEvent row0) ∷ Rowed refusedBlend ∷ seekEvent seek1 ∷ Rowed (rowEvent row1) ∷ openEvent openB ∷ Rowed (rowEvent row2) ∷ []
 
 -- ---- their answers
 
-length-scratch : (c : RowCall) → length (rowScratch c) ≡ length (c .scratch)
+pub length-scratch : (c : RowCall) → length (rowScratch c) ≡ length (c .scratch)
 unfolding rowScratch
 length-scratch c = length-row _ _ _ _ _ _ (c .scratch)
 
-openA-answer : first (openTests openA) ≡ Accepted
+pub openA-answer : first (openTests openA) ≡ Accepted
 unfolding openTests first testsFor badSize badRatio badSamples badRange divCeil badChroma badSiting badPlane shortPlane badPlanes sampleOf sampleAt anyOf above aboveAny scratchNeed
 openA-answer = refl
 
@@ -121,7 +131,7 @@ badRow-answer : first (rowTests badRow) ≡ Refused 1
 unfolding rowTests first badState readerLayout testsFor badSize badRatio badSamples badRange
 badRow-answer = refl
 
-layoutA-sound : Failed (layoutTests false layoutA)
+pub layoutA-sound : Failed (layoutTests false layoutA)
 unfolding testsFor badSize badRatio badSamples badRange divCeil badChroma
 layoutA-sound = (refl, (refl, (refl, (refl, (refl, tt)))))
 
@@ -129,7 +139,7 @@ layoutB-sound : Failed (layoutTests false layoutB)
 unfolding testsFor badSize badRatio badSamples badRange divCeil badChroma
 layoutB-sound = (refl, (refl, (refl, (refl, (refl, tt)))))
 
-state0 : badState (afterOpen layoutA) ≡ false
+pub state0 : badState (afterOpen layoutA) ≡ false
 unfolding badSiting
 state0 = after-open-passes layoutA layoutA-sound refl
 
@@ -169,11 +179,11 @@ row2-answer = failed-accepted (rowTests row2) (after-open-passes layoutB layoutB
 
 -- ---- the list meets the premise
 
-abbrev allBytes : List ℕ → Bool
+abbrev pub allBytes : List ℕ → Bool
 allBytes [] = true
 allBytes (x ∷ l) = ltb x 256 && allBytes l
 
-bytes-are : (l : List ℕ) → T (allBytes l) → (i : ℕ) → getD l i 0 < 256
+pub bytes-are : (l : List ℕ) → T (allBytes l) → (i : ℕ) → getD l i 0 < 256
 bytes-are [] t i = lit< tt
 bytes-are (x ∷ l) t i = go (ltb x 256) (ltb→lt x 256) (bytes-are l) t i
   where
@@ -182,7 +192,7 @@ bytes-are (x ∷ l) t i = go (ltb x 256) (ltb→lt x 256) (bytes-are l) t i
     go true f g t (suc i) = g t i
     go false f g t i = absurd t
 
-bytesA : Bytes openA
+pub bytesA : Bytes openA
 unfolding Bytes
 bytesA Cb = bytes-are (chromaPlane planesA Cb .bytes) tt
 bytesA Cr = bytes-are (chromaPlane planesA Cr .bytes) tt
@@ -192,27 +202,31 @@ unfolding Bytes
 bytesB o e Cb = rw e (bytes-are (chromaPlane planesB Cb .bytes) tt)
 bytesB o e Cr = rw e (bytes-are (chromaPlane planesB Cr .bytes) tt)
 
-open-ran : (o : OpenCall) → Bytes o → Ran (openEvent o)
+pub open-ran : (o : OpenCall) → Bytes o → Ran (openEvent o)
 unfolding Ran
 open-ran o b = record { answers = refl; leaves = refl; bytes = b }
 
-seek-ran : (k : SeekCall) → Ran (seekEvent k)
+pub seek-ran : (k : SeekCall) → Ran (seekEvent k)
 unfolding Ran
 seek-ran k = record { answers = refl; leaves = refl }
 
 row-ran : (c : RowCall) → Ran (Rowed (rowEvent c))
-unfolding Ran
-row-ran c = record { answers = refl; leaves = refl; scratches = refl; cbs = refl; crs = refl }
+unfolding Ran RanRow
+row-ran c = λ _. record { answers = refl; leaves = refl; scratches = refl; cbs = refl; crs = refl }
+
+blend-ran : Ran (Rowed refusedBlend)
+unfolding Ran RanRow
+blend-ran = λ t. absurd t
 
 all-ran : AllRan events
 unfolding AllRan
-all-ran = (open-ran openA bytesA, (row-ran badRow, (open-ran badOpen (bytesB badOpen refl), (row-ran row0, (seek-ran seek1, (row-ran row1, (open-ran openB (bytesB openB refl), (row-ran row2, tt))))))))
+all-ran = (open-ran openA bytesA, (row-ran badRow, (open-ran badOpen (bytesB badOpen refl), (row-ran row0, (blend-ran, (seek-ran seek1, (row-ran row1, (open-ran openB (bytesB openB refl), (row-ran row2, tt)))))))))
 
 premise : Premise Start events
 unfolding Premise next moved Handed done
 premise =
     rw (openA-answer, badRow-answer, badOpen-answer, row0-answer, seek1-answer, row1-answer, openB-answer, row2-answer)
-    ((λ _. tt), ((λ t. absurd t), ((λ t. absurd t), ((λ _. (shows-own openA, refl, refl)), ((λ _. refl), ((λ _. (shows-own openA, refl, refl)), ((λ _. tt), ((λ _. (shows-own openB, refl, refl)), tt))))))))
+    ((λ _. tt), ((λ t. absurd t), ((λ t. absurd t), ((λ _. (shows-own openA, refl, refl)), ((λ t. absurd t), ((λ _. refl), ((λ _. (shows-own openA, refl, refl)), ((λ _. tt), ((λ _. (shows-own openB, refl, refl)), tt)))))))))
 
 -- each accepted row of it, with the open that is then current
 gives-0 : Gives openA (rowEvent row0) Start events
@@ -221,42 +235,42 @@ gives-0 = rw (openA-answer, badRow-answer, badOpen-answer, row0-answer) (later (
 
 gives-1 : Gives openA (rowEvent row1) Start events
 unfolding next moved done
-gives-1 = rw (openA-answer, badRow-answer, badOpen-answer, row0-answer, seek1-answer, row1-answer) (later (later (later (later (later (here tt refl))))))
+gives-1 = rw (openA-answer, badRow-answer, badOpen-answer, row0-answer, seek1-answer, row1-answer) (later (later (later (later (later (later (here tt refl)))))))
 
 gives-2 : Gives openB (rowEvent row2) Start events
 unfolding next moved done
 gives-2 =
     rw (openA-answer, badRow-answer, badOpen-answer, row0-answer, seek1-answer, row1-answer, openB-answer, row2-answer)
-    (later (later (later (later (later (later (later (here tt refl))))))))
+    (later (later (later (later (later (later (later (later (here tt refl)))))))))
 
 -- ---- and the rows given are the pictures', by their numbers
 
-abbrev bits : ℕ → Float
+abbrev pub bits : ℕ → Float
 bits n = ofBits binary32 n
 
 -- the first picture's rows: Cb 100 and 91.525429, Cr 200 and 173.94067; below them Cb 68.474579 and 60, Cr 103.05933 and 77
-abbrev cb0 : List Float
+abbrev pub cb0 : List Float
 cb0 = bits 1120403456 ∷ bits 1119292677 ∷ []
 
-abbrev cr0 : List Float
+abbrev pub cr0 : List Float
 cr0 = bits 1128792064 ∷ bits 1127084240 ∷ []
 
-abbrev cb1 : List Float
+abbrev pub cb1 : List Float
 cb1 = bits 1116271356 ∷ bits 1114636288 ∷ []
 
-abbrev cr1 : List Float
+abbrev pub cr1 : List Float
 cr1 = bits 1120804449 ∷ bits 1117388800 ∷ []
 
 -- the first picture's slopes, as f32: about −1.7 for Cb and −5.2 for Cr
-slopes : (slope (pictureBy openA) Cb 0 0 ≡ bits 3218666231) × (slope (pictureBy openA) Cr 0 0 ≡ bits 3232155546) × (slope (pictureBy openA) Cb 1 0 ≡ bits 3218666245) × (slope (pictureBy openA) Cr 1 0 ≡ bits 3232155549)
+pub slopes : (slope (pictureBy openA) Cb 0 0 ≡ bits 3218666231) × (slope (pictureBy openA) Cr 0 0 ≡ bits 3232155546) × (slope (pictureBy openA) Cb 1 0 ≡ bits 3218666245) × (slope (pictureBy openA) Cr 1 0 ≡ bits 3232155549)
 unfolding slope slopeOf mean epsilon acrossVal cellOf cellLuma lumaOf three sumTo pictureOf inside sampleAt sampleOf add sub mul div sum neg round size span climb units odd lt ofInt trailingZeros ofBits ofFields
 slopes = (refl, refl, refl, refl)
 
-computed-0 : (guidedRow (pictureBy openA) Cb 0 ≡ cb0) × (guidedRow (pictureBy openA) Cr 0 ≡ cr0)
+pub computed-0 : (guidedRow (pictureBy openA) Cb 0 ≡ cb0) × (guidedRow (pictureBy openA) Cr 0 ≡ cr0)
 unfolding guidedRow table guidedSample valueOf detailOf acrossTo downTo extreme extremeOf acrossVal cellOf cellLuma lumaOf three sumTo phaseOf tapBy spotOf sitedAt spotAt pictureOf inside sampleAt sampleOf add sub mul div sum neg round size span climb units odd lt ofInt trailingZeros ofBits ofFields
 computed-0 = (rw (slopes .0) refl, rw (slopes .1) refl)
 
-computed-1 : (guidedRow (pictureBy openA) Cb 1 ≡ cb1) × (guidedRow (pictureBy openA) Cr 1 ≡ cr1)
+pub computed-1 : (guidedRow (pictureBy openA) Cb 1 ≡ cb1) × (guidedRow (pictureBy openA) Cr 1 ≡ cr1)
 unfolding guidedRow table guidedSample valueOf detailOf acrossTo downTo extreme extremeOf acrossVal cellOf cellLuma lumaOf three sumTo phaseOf tapBy spotOf sitedAt spotAt pictureOf inside sampleAt sampleOf add sub mul div sum neg round size span climb units odd lt ofInt trailingZeros ofBits ofFields
 computed-1 = (rw (slopes .2) refl, rw (slopes .3) refl)
 

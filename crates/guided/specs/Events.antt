@@ -32,11 +32,16 @@ pub data Event : Type 0 where
   Sought : SeekCall → Reply → Event
   Rowed : RowEvent → Event
 
+-- a row call, or W14's blend, which "counts as a row call whose Cb and Cr go to the kernel instead of out, accepted or refused as it is answered": what row's contract says, where it was accepted.
+-- Of a refused one nothing is claimed: a blend may be refused for the other reader's sake, where a row call would not be
+unfoldable pub RanRow : RowEvent → Type 0
+RanRow e = T (accepted (e .reply .answer)) → RowGiven (e .call) (e .reply) (e .scratch) (e .outCb) (e .outCr)
+
 -- the event is one of the code's: its contract holds of it
 unfoldable pub Ran : Event → Type 0
 Ran (Opened o r) = OpenGiven o r
 Ran (Sought k r) = SeekGiven k r
-Ran (Rowed e) = RowGiven (e .call) (e .reply) (e .scratch) (e .outCb) (e .outCr)
+Ran (Rowed e) = RanRow e
 
 unfoldable pub AllRan : List Event → Type 0
 AllRan [] = Unit {0}

@@ -26,9 +26,9 @@ unfoldable pub first : List Test → Answer
 first [] = Accepted
 first (t ∷ ts) = pickAnswer (t .0) (Refused (t .1)) (first ts)
 
--- the place of a number in the table: ten apart, since requests put their numbers between. 16 is "looked at right after 6", 17 "after 7 and before 8", 18 comes "right after 4", 19 "checked before the RGB buffer's length, which keeps 10", 20 comes "before anything else is looked at" and 21 "after all others"
+-- the place of a number in the table: ten apart, since requests put their numbers between. 16 is "looked at right after 6", 17 "after 7 and before 8", 18 comes "right after 4", 19 "checked before the RGB buffer's length, which keeps 10", 20 comes "before anything else is looked at", 21 "after all others" and 22 "right after the two states are checked"
 unfoldable pub placeOf : ℕ → ℕ
-placeOf n = cond (eqb n 16) 65 (cond (eqb n 17) 75 (cond (eqb n 18) 45 (cond (eqb n 19) 95 (cond (eqb n 20) 5 (cond (eqb n 21) 1000 (10 * n))))))
+placeOf n = cond (eqb n 16) 65 (cond (eqb n 17) 75 (cond (eqb n 18) 45 (cond (eqb n 19) 95 (cond (eqb n 20) 5 (cond (eqb n 21) 1000 (cond (eqb n 22) 15 (10 * n)))))))
 
 -- the list stands in the table's order: every place is greater than those before it and than `least`, so that the first test that applies is the lowest
 unfoldable pub Ascending : ℕ → List Test → Type 0

@@ -5,7 +5,7 @@ pub use Rattle.colour_rows.specs.Colours.{colourBy}
 -- W7: in studio range
 pub use Rattle.colour_rows.specs.Colours.{studioBy, colourIn}
 -- "A pixel has 3 or 4 bytes. The fourth keeps what it held."
-pub use Rattle.kernel_blocks.specs.Stores.{pixels}
+unfoldable pub use Rattle.kernel_blocks.specs.Stores.{pixel, pixels}
 -- each pixel's colour, and the promise
 pub use Rattle.fill.specs.Tests.{FillCall, fillCall}
 pub use Rattle.fill.specs.Fill.{chromaBy, fillColour, pixelRows, FillGiven}

@@ -16,3 +16,5 @@ pub use Rattle.upsample.specs.Triangular.{badTriangular, triangularTests}
 pub use Rattle.fill.specs.Tests.{fillTests}
 pub use Rattle.fill.specs.Refill.{refillTests}
 pub use Rattle.kernels.specs.Pixels.{badExact, exactTests, fixedTests}
+pub use Rattle.image.specs.Picture.{badPlanes}
+unfoldable pub use Rattle.rgb_rows.specs.RgbRows.{rgbRowTests}

@@ -1,5 +1,6 @@
-// The public crate: document 01's calls and their types, and nothing else. The chroma row by `open`, `seek` and `row`, one whole chroma
-// plane three ways, the fill to RGB and again of the rows near a change, and the colour of one pixel. What each promises stands at its own definition in the crate named here.
+// The public crate: document 01's calls and their types, and nothing else but a reader's row as RGB. The chroma row by `open`, `seek` and
+// `row`, the same row as colour by `rgb_row`, one whole chroma plane three ways, the fill to RGB and again of the rows near a change, and the colour of one pixel. What each
+// promises stands at its own definition in the crate named here.
 pub use fill::ChromaUpsampling;
 pub use fill::fill;
 pub use fill::refill;
@@ -22,5 +23,7 @@ pub use linear::linear_plane;
 pub use reader::open;
 pub use reader::row;
 pub use reader::seek;
+pub use rgb_rows::rgb_row;
+pub use rgb_rows::rgb_row_answer;
 pub use taps::Phase;
 pub use upsample::triangular_plane;
