@@ -7,8 +7,9 @@
  * nothing between calls (so threads may call at once), allocates nothing, and always returns. A
  * call that is refused changes no slice.
  *
- * Link target/staticlib/libffi.a, which `rt staticlib ffi` writes (x86-64). Of other libraries it
- * needs memcpy alone.
+ * Link target/staticlib/libffi.a, which `rt staticlib ffi` writes (x86-64), or libchroma.a, as
+ * tools/install names it (`pkg-config --cflags --libs chroma`). Of other libraries it needs memcpy
+ * and memset alone.
  *
  * What a caller must keep, since no proof can see it:
  *   - A slice is a pointer and, right behind it, how many elements it has (not bytes). The
