@@ -326,8 +326,8 @@ static void refill(void) {
     if (take(1) % 8 && l.cw && l.ch) {
         r.left %= l.cw;
         r.top %= l.ch;
-        r.width %= l.cw - r.left + 1;
-        r.height %= l.ch - r.top + 1;
+        r.width %= l.cw - r.left == SIZE_MAX ? SIZE_MAX : l.cw - r.left + 1;
+        r.height %= l.ch - r.top == SIZE_MAX ? SIZE_MAX : l.ch - r.top + 1;
     }
     Planes p = planes(l), q = p;
     q.y = copy(p.y), q.cb = copy(p.cb), q.cr = copy(p.cr);
