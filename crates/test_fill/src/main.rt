@@ -14,12 +14,12 @@ use kernels::Pixel;
 use kernels::YcbcrKernel;
 use libc::STDIN_FILENO;
 
-// Scratch that holds one value throughout, so that the sum shows a call that writes where it may not.
+// Inner: scratch that holds one value throughout, so that the sum shows a call that writes where it may not.
 pub fn marked() -> [f32; 600_000] {
     [1.5; 600_000]
 }
 
-// An output that no call has written: it holds one value throughout, so that the sum shows which bytes were written.
+// Inner: an output that no call has written: it holds one value throughout, so that the sum shows which bytes were written.
 pub fn unwritten() -> [u8; 65_536] {
     [160; 65_536]
 }
@@ -71,7 +71,7 @@ fn upsampling(text: &[u8]) -> ChromaUpsampling {
     ChromaUpsampling::LumaGuided
 }
 
-// The kernel that a fill's line names: 0 is the exact one.
+// Inner: the kernel that a fill's line names, 0 for the exact one.
 pub fn kernel(text: &[u8]) -> YcbcrKernel {
     if test_support::word(text, 19) == 0 {
         return YcbcrKernel::Exact;

@@ -261,7 +261,8 @@ fn refill_after(text: &[u8], change: &[u8], y: &[u8], cb: &[u8], cr: &[u8]) {
     );
 }
 
-// Makes the call of a refill with the planes that its line and the change's speak of.
+// Inner: makes the call of a refill with the planes that its line and the change's speak of, and writes its line, which rt compares with the
+// stored one. It gives nothing and is lent nothing to write, so that there is nothing else to promise.
 pub fn refill(text: &[u8], spelling: &[u8], change: &[u8]) {
     let y = test_support::plane(text, spelling, 0);
     let cb = test_support::plane(text, spelling, 1);
