@@ -13,7 +13,7 @@ use crate::mix::mix_bytes;
 use reconstruction::{Answer, Reader, Strides};
 
 // What `blend_row` answers, with both states after it.
-#[derive(Drop)]
+#[derive(Clone, Copy)]
 pub struct BlendReply {
     pub answer: Answer,
     pub early: Reader,

@@ -5,6 +5,8 @@
 // What they give and why they turn a call down stands in specs/Patches, specs/Charts and specs/Blends, what follows from that in
 // specs/PatchClaims, specs/ChartClaims and specs/BlendClaims. Pictures are rows of three bytes a pixel, one behind another, as `fill` leaves
 // them, and as the rows of a blend are when each is lent its place in one buffer.
+#![tactic(auto)]
+
 mod blend;
 mod mix;
 mod patch;

@@ -11,7 +11,7 @@ use laws::{Answer, either, outside, then};
 use reconstruction::{Layout, Rectangle};
 
 // The mean of the pixels that a rectangle and a picture share: red, green and blue; `Nothing` where they share none.
-#[derive(Drop)]
+#[derive(Clone, Copy)]
 pub enum Patch {
     Mean(f64, f64, f64),
     Nothing,
@@ -19,7 +19,7 @@ pub enum Patch {
 
 // What `patch_mean` answers: the mean, beside it the whole-number mean, and how many pixels it is of. `Nothing` and zeros where no pixel is
 // shared or the call was refused.
-#[derive(Drop)]
+#[derive(Clone, Copy)]
 pub struct Patched {
     pub answer: Answer,
     pub patch: Patch,

@@ -11,14 +11,14 @@ use laws::{Answer, either, outside};
 use reconstruction::Rectangle;
 
 // The nearest shade by its index, counted from 0; `Nothing` where the patch is nothing.
-#[derive(Drop)]
+#[derive(Clone, Copy)]
 pub enum Nearest {
     Shade(usize),
     Nothing,
 }
 
 // The nearest mix: the index of its first shade, and its weight in sixteenths; `Nothing` where the patch is nothing.
-#[derive(Drop)]
+#[derive(Clone, Copy)]
 pub enum Between {
     Mix(usize, usize),
     Nothing,
@@ -26,7 +26,7 @@ pub enum Between {
 
 // What `chart_reading` answers: the nearest shade and the nearest mix, each with its sum of squared differences, beside the patch's
 // whole-number mean and its number of pixels. `Nothing` and zeros where the patch is nothing or the call was refused.
-#[derive(Drop)]
+#[derive(Clone, Copy)]
 pub struct ChartReading {
     pub answer: Answer,
     pub nearest: Nearest,
@@ -113,7 +113,7 @@ fn candidate_off(chart: &[u8], q: usize, colour: [u8; 3]) -> u32
 }
 
 // What a search found: the first among the least, and how far it is.
-#[derive(Drop)]
+#[derive(Clone, Copy)]
 struct Found {
     index: usize,
     off: u32,

@@ -3,7 +3,7 @@ ghost use Rattle.std.specs.Prelude.{◌≡◌, ◌+◌, ◌*◌, ◌≤◌, ◌<
 ghost use Rattle.colorimetry.specs.Inner.Sums.{row_sum, area_sum, Totals, Inside};
 
 // Inner: the sums of red, green and blue.
-#[derive(Drop)]
+#[derive(Clone, Copy)]
 pub struct Sums {
     pub r: u64,
     pub g: u64,

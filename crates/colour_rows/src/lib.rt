@@ -3,6 +3,8 @@
 //
 // `colour_row` serves fill. It takes a row by blocks of sixteen where its kernel has a block (`exact_blocks`, `studio_blocks`,
 // `fixed_blocks`), and otherwise pixel by pixel (`pixels`); both give the same bytes, those of `ranged_row` in specs/Inner/Colours.
+#![tactic(auto)]
+
 mod exact_blocks;
 mod fixed_blocks;
 mod pixels;

@@ -3,6 +3,8 @@
 // Its contract cites the promises through reconstruction's index of what must be believed, and through nothing else. crates.txt names four
 // crates besides for the types that it makes (`Layout`, `ChromaUpsampling` and the like), as the toolchain asks; no definition and no
 // function of them is used.
+#![tactic(auto)]
+
 ghost use Rattle.reconstruction.specs.Geometry.{plain, planes_of};
 ghost use Rattle.reconstruction.specs.Fill.{fill_call, FillGiven};
 

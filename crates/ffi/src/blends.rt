@@ -13,7 +13,7 @@ use colorimetry::BlendReply;
 
 // What `chroma_blend_row` answers, with both states after it.
 #[repr(C)]
-#[derive(Drop)]
+#[derive(Clone, Copy)]
 pub struct ChromaBlendReply {
     pub refusal: u32,
     pub early: ChromaReader,

@@ -11,7 +11,7 @@ use colorimetry::{Between, ChartReading, Nearest};
 // A reading: the nearest shade by its index, the nearest mix by its pair's first index and its weight, and how far each is. `given` is 1
 // where there is one, and else 0, as are all numbers behind it.
 #[repr(C)]
-#[derive(Drop)]
+#[derive(Clone, Copy)]
 pub struct ChromaChartReading {
     pub refusal: u32,
     pub given: u32,

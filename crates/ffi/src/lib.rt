@@ -1,6 +1,8 @@
 // The calls for C and Rust (include/chroma.h): each translates what it is handed, makes the Rattle call and translates what that gives.
 // None has a `requires`: what stands for nothing is answered. What C's structs and numbers stand for is said in specs/Types, what the
 // calls promise in specs/Calls.
+#![tactic(auto)]
+
 mod blends;
 mod charts;
 mod filling;

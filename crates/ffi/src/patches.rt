@@ -9,7 +9,7 @@ use image::Rectangle;
 
 // A rectangle, as `Rectangle` has it.
 #[repr(C)]
-#[derive(Drop)]
+#[derive(Clone, Copy)]
 pub struct ChromaRectangle {
     pub left: usize,
     pub top: usize,
@@ -19,7 +19,7 @@ pub struct ChromaRectangle {
 
 // A patch's mean and the whole-number mean. `given` is 1 where there is a mean, and else 0, as are all numbers behind it.
 #[repr(C)]
-#[derive(Drop)]
+#[derive(Clone, Copy)]
 pub struct ChromaPatch {
     pub refusal: u32,
     pub given: u32,

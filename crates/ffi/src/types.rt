@@ -11,7 +11,7 @@ use taps::Phase;
 // A picture's numbers, as `Layout` has them: rh pixels to num_across cells, and rv to num_down. A siting is 0 for centred and 1 for co-sited,
 // the range 0 for full and 1 for studio; another number stands for none.
 #[repr(C)]
-#[derive(Drop)]
+#[derive(Clone, Copy)]
 pub struct ChromaLayout {
     pub w: usize,
     pub h: usize,
@@ -30,7 +30,7 @@ pub struct ChromaLayout {
 
 // How many bytes apart the rows of each plane begin.
 #[repr(C)]
-#[derive(Drop)]
+#[derive(Clone, Copy)]
 pub struct ChromaStrides {
     pub y: usize,
     pub cb: usize,
@@ -39,7 +39,7 @@ pub struct ChromaStrides {
 
 // `left` is 1 for true and 0 for false; another number stands for none.
 #[repr(C)]
-#[derive(Drop)]
+#[derive(Clone, Copy)]
 pub struct ChromaPhase {
     pub left: u32,
     pub f: f32,
@@ -47,7 +47,7 @@ pub struct ChromaPhase {
 
 // A reader's state, its geometry spread out: C passes it from call to call and needn't look at it.
 #[repr(C)]
-#[derive(Drop)]
+#[derive(Clone, Copy)]
 pub struct ChromaReader {
     pub w: usize,
     pub h: usize,
@@ -66,7 +66,7 @@ pub struct ChromaReader {
 
 // What open, seek and row answer: the state afterwards, and 0 as `refusal` where the call was accepted.
 #[repr(C)]
-#[derive(Drop)]
+#[derive(Clone, Copy)]
 pub struct ChromaReply {
     pub refusal: u32,
     pub reader: ChromaReader,
@@ -74,7 +74,7 @@ pub struct ChromaReply {
 
 // Three bytes of colour, 0 where the call was refused.
 #[repr(C)]
-#[derive(Drop)]
+#[derive(Clone, Copy)]
 pub struct ChromaPixel {
     pub refusal: u32,
     pub r: u8,
@@ -84,7 +84,7 @@ pub struct ChromaPixel {
 
 // How many bytes were written, 0 where the call was refused.
 #[repr(C)]
-#[derive(Drop)]
+#[derive(Clone, Copy)]
 pub struct ChromaWritten {
     pub refusal: u32,
     pub len: usize,

@@ -3,6 +3,8 @@
 // It gives two roundings that limit, by the grid and from the bits, a third for chroma in 256ths, and fmin and fmax by comparison.
 // Roundings are inner in document 01, so no public crate passes them on. specs/Rounding says what each gives, proofs/Laws has what
 // callers ask of it.
+#![tactic(auto)]
+
 ghost use Rattle.std.specs.Prelude.{◌≡◌, ◌≤◌, min};
 ghost use Rattle.std.specs.Float.Ieee.{add};
 ghost use Rattle.std.specs.Float.{binary32};
@@ -11,7 +13,7 @@ ghost use Rattle.fround.specs.Rounding.{fmin, fmax, round_clamped, is_same_float
 ghost use Rattle.fround.specs.Inner.Rounding.{clamped, Rounded};
 
 // The constants of the roundings.
-#[derive(Drop)]
+#[derive(Clone, Copy)]
 pub struct Rounding;
 
 impl Rounding {

@@ -4,7 +4,7 @@ use taps::Phase;
 
 // A picture's size, ratios and chroma size, the phase of each pixel of a cell, and the range, on which no row depends. Phases past the ratio
 // are not left and have fraction 0, so that a state has one form and can be compared bit for bit.
-#[derive(Drop)]
+#[derive(Clone, Copy)]
 pub struct Geometry {
     pub w: usize,
     pub h: usize,

@@ -3,6 +3,8 @@
 //
 // No function is here, only the state that the reader's calls pass round. Look first at specs/Guided, then specs/Calls and
 // specs/Events; the code stands in guided_window, guided_across, guided_down, guided_pixels, guided_rows and reader.
+#![tactic(auto)]
+
 mod geometry;
 mod state;
 

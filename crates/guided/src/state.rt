@@ -3,7 +3,7 @@ use crate::geometry::Geometry;
 use laws::Answer;
 
 // Where a reader is: its picture's numbers, the row it is at, the next chroma row to sum across and the next to finish.
-#[derive(Drop)]
+#[derive(Clone, Copy)]
 pub struct Reader {
     pub geometry: Geometry,
     pub sample_bytes: usize,
@@ -14,7 +14,7 @@ pub struct Reader {
 }
 
 // What open, seek and row answer, with the state afterwards.
-#[derive(Drop)]
+#[derive(Clone, Copy)]
 pub struct Reply {
     pub answer: Answer,
     pub reader: Reader,

@@ -16,7 +16,7 @@ use guided_window::{ChromaBuffer, LumaBuffer, first_of, slot_at};
 use image::{Chroma, Components, Layout, Strides};
 
 // Where luma's three row buffers begin: of its cells, of their sums, and of the sums of their squares.
-#[derive(Drop)]
+#[derive(Clone, Copy)]
 pub struct LumaRows {
     pub at: usize,
     pub sums: usize,

@@ -2,6 +2,8 @@
 //
 // `horizontal` puts the row's cells, their sums of three neighbours and the sums of squares and of products into the window's buffers.
 // The modules go by steps: luma and byte_cells make cell luma, sums the rows of sums. guided's specs/Scratch says what `horizontal` leaves.
+#![tactic(auto)]
+
 mod across;
 mod byte_cells;
 mod luma;

@@ -2,6 +2,8 @@
 //
 // `finish`, named as in the original's `GuidedRows` (src/jpeg/resample.rs), puts these rows into the window's buffers. The modules slopes,
 // slope_rows and slope_pairs read what guided_across left; extremes and nines read the plane. guided's specs/Scratch says what `finish` leaves.
+#![tactic(auto)]
+
 mod extremes;
 mod finishing;
 mod nines;

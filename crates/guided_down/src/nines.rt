@@ -8,7 +8,7 @@ ghost use Rattle.laws.specs.Lists.{put};
 ghost use Rattle.guided_down.specs.Inner.Nines.{whole_op, three_from, nine_from};
 
 // The cells of a chroma row, as these loops take them.
-#[derive(Drop)]
+#[derive(Clone, Copy)]
 pub struct Cells;
 
 impl Cells {

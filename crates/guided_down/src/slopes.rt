@@ -16,7 +16,7 @@ use image::{Chroma, Layout};
 
 // Where the rows begin that slopes are made of: the sums of luma, of its squares and of a component's products with luma, and the
 // component's samples, whose sums are formed again.
-#[derive(Drop)]
+#[derive(Clone, Copy)]
 pub struct Stats {
     pub y: Window,
     pub yy: Window,

@@ -9,7 +9,7 @@ use image::Layout;
 
 // The rows of cells by number. Luma's is dead once the detail is made, and a component's are dead once its finished row is, so that the
 // first serves luma and then the samples of each component.
-#[derive(Drop)]
+#[derive(Clone, Copy)]
 pub struct RowOfCells;
 
 impl RowOfCells {

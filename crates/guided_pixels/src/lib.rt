@@ -3,6 +3,8 @@
 // `guided_row` leaves the finished rows of Cb and Cr in scratch; it is a step of the original's `GuidedRows` (src/jpeg/resample.rs). The
 // module columns lerps down, pairs across; detail* make luma less what its cells lerp to, value* the limited values, each with loops for
 // single pixels (runs), ratio 2 (twos) and all ratios. guided's specs/Scratch says what is left, specs/Inner/Row in which steps.
+#![tactic(auto)]
+
 mod columns;
 mod detail_runs;
 mod detail_twos;

@@ -69,7 +69,7 @@ pub fn cell_at(layout: Layout, s: &[f32], src: usize, phases: [Phase; 4], i: usi
 }
 
 // The two pixels of a cell at ratio 2.
-#[derive(Drop)]
+#[derive(Clone, Copy)]
 pub struct Pair {
     pub left: f32,
     pub right: f32,

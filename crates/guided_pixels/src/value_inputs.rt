@@ -11,7 +11,7 @@ use image::{Chroma, Layout};
 
 // Where the rows begin that a component's values are made of: its cells and slopes, lerped down for a picture row, and the least and
 // greatest samples of a chroma row.
-#[derive(Drop)]
+#[derive(Clone, Copy)]
 pub struct ValueInputs {
     pub cells: usize,
     pub slopes: usize,

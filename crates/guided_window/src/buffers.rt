@@ -8,7 +8,7 @@ use crate::neighbours::{next, prev};
 use image::{Chroma, Layout};
 
 // Where one of the row buffers begins for chroma rows r - 1, r and r + 1, edges repeated.
-#[derive(Drop)]
+#[derive(Clone, Copy)]
 pub struct Window {
     pub up: usize,
     pub at: usize,
@@ -36,7 +36,7 @@ impl Window {
 }
 
 // The buffers of a slot that are luma's, by their number in it.
-#[derive(Drop)]
+#[derive(Clone, Copy)]
 pub struct LumaBuffer;
 
 impl LumaBuffer {
@@ -48,7 +48,7 @@ impl LumaBuffer {
 }
 
 // The buffers of a slot that are a component's, counted from its first, which `first_of` gives.
-#[derive(Drop)]
+#[derive(Clone, Copy)]
 pub struct ChromaBuffer;
 
 impl ChromaBuffer {
@@ -58,7 +58,7 @@ impl ChromaBuffer {
 }
 
 // A component's results, counted from its first, which `result_of` gives.
-#[derive(Drop)]
+#[derive(Clone, Copy)]
 pub struct ResultBuffer;
 
 impl ResultBuffer {

@@ -2,6 +2,8 @@
 //
 // It gives where each row buffer begins, a cell's neighbours with edges repeated, and a plane's samples as floats. The whole of scratch
 // is laid out by guided's specs/Scratch, which `slot_at` follows; guided_across and guided_down fill the window, guided_pixels reads it.
+#![tactic(auto)]
+
 mod buffers;
 mod neighbours;
 mod samples;

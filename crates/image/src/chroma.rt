@@ -1,14 +1,14 @@
 // The chroma components by name.
 
 // One of the two components.
-#[derive(Drop)]
+#[derive(Clone, Copy)]
 pub enum Chroma {
     Cb,
     Cr,
 }
 
 // Which of them a row is made of: the calls for one plane ask for Cb alone, readers and fills for both.
-#[derive(Drop)]
+#[derive(Clone, Copy)]
 pub enum Components {
     CbAlone,
     Both,

@@ -6,7 +6,7 @@ ghost use Rattle.image.specs.Tests.{most_of, div_ceil, bad_size, bad_pair, bad_r
 use laws::{Answer, Axis, Siting, both, either, outside, then};
 
 // What samples span: 0 to maxval, or luma 16 to 235 and chroma 16 to 240, as ITU-R BT.601 has it.
-#[derive(Drop)]
+#[derive(Clone, Copy)]
 pub enum Range {
     Full,
     Studio,
@@ -14,7 +14,7 @@ pub enum Range {
 
 // The numbers of a picture: w by h pixels, rh by rv of them to as many cells as the axes' numerators say, cw by ch cells, where a sample sits in
 // its cell across and down, how it is stored and what it spans.
-#[derive(Drop)]
+#[derive(Clone, Copy)]
 pub struct Layout {
     pub w: usize,
     pub h: usize,

@@ -5,6 +5,8 @@
 // Every function answers for every number that it can be handed, or says in `requires` what it relies on. What a picture is, a plane's
 // samples without padding or surplus, is specs/Picture; the tests stand in specs/Tests in the order of document 01's table, 17's in specs/Limits, 19's
 // in specs/Rectangles, 21's in specs/Differences.
+#![tactic(auto)]
+
 mod chroma;
 mod differences;
 mod layout;

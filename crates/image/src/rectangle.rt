@@ -6,7 +6,7 @@ use crate::layout::Layout;
 use laws::{both, either};
 
 // A rectangle: its first column and row, and its sides. The call that takes one says what is counted.
-#[derive(Drop)]
+#[derive(Clone, Copy)]
 pub struct Rectangle {
     pub left: usize,
     pub top: usize,

@@ -8,7 +8,7 @@ ghost use Rattle.kernel_blocks.specs.Inner.Floating.{Centred, Chroma, Multiplier
 use kernels::Bias;
 
 // Inner: the grid of floats far up, which are 256 apart. Chroma is in 256ths, so that a sum there is rounded to a whole offset.
-#[derive(Drop)]
+#[derive(Clone, Copy)]
 pub struct Grid;
 
 impl Grid {

@@ -10,7 +10,7 @@ use crate::limits::limit_sum;
 use crate::stores::Block;
 
 // What red and blue multiply chroma by, and what sends their halves up: 3/1024 for blue. Red has no halves, and -0 changes nothing.
-#[derive(Drop)]
+#[derive(Clone, Copy)]
 struct Multipliers;
 
 impl Multipliers {

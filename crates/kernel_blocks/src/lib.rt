@@ -3,6 +3,8 @@
 // `rgb_block`, `studio_block` and `fixed_block` give the bytes that the kernels of the crate kernels give, pixel by pixel, in forms that compile to
 // wide instructions; `put_pixel`, `put_block` and `put_words` store pixels. colour_rows puts rows together from them.
 // specs/Inner/Blocks says what a block holds, specs/Stores what stored pixels leave in a slice.
+#![tactic(auto)]
+
 mod chroma_offsets;
 mod exact;
 mod fixed;

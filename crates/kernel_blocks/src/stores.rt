@@ -5,7 +5,7 @@ ghost use Rattle.kernel_blocks.specs.Inner.Stores.{block_pixel};
 ghost use Rattle.kernels.specs.Inner.Kernels.{rgb};
 
 // How many pixels a block has: document 01's block length, named with the thing that it belongs to.
-#[derive(Drop)]
+#[derive(Clone, Copy)]
 pub struct Block;
 
 impl Block {

@@ -13,7 +13,7 @@ use crate::limits::limit_sum;
 use kernels::{studio_chroma, studio_green};
 
 // Inner: the numbers of studio range in 256ths, each the float nearest to its fraction but for the two shifts.
-#[derive(Drop)]
+#[derive(Clone, Copy)]
 pub struct Studio;
 
 impl Studio {

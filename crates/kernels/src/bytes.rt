@@ -2,7 +2,7 @@
 ghost use Rattle.std.specs.Prelude.{◌≡◌, ◌-◌, ◌/◌, ◌<◌, min};
 
 // The colour bytes of a pixel, as a kernel gives them.
-#[derive(Drop)]
+#[derive(Clone, Copy)]
 pub struct Rgb {
     pub r: u8,
     pub g: u8,

@@ -7,7 +7,7 @@ use crate::bytes::{Rgb, limit_quot, limit8};
 use crate::offsets::{Bias, raised};
 
 // What red and blue multiply chroma by, in thousandths.
-#[derive(Drop)]
+#[derive(Clone, Copy)]
 pub struct Multiplier;
 
 impl Multiplier {

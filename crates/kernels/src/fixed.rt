@@ -10,7 +10,7 @@ use crate::offsets::Bias;
 use crate::tables::{blue_raised, green_cb_raised, green_cr_raised, red_raised};
 
 // What chroma is multiplied by, in 65,536ths: document 01's four numbers.
-#[derive(Drop)]
+#[derive(Clone, Copy)]
 struct Fixed;
 
 impl Fixed {

@@ -3,6 +3,8 @@
 // `ycbcr_frac_to_rgb8` and `ycbcr_to_rgb8_fixed16` are public: they look at their arguments and answer a `Pixel`. The kernels behind them,
 // which owe that look to their callers, are for colour_rows. Sixteen pixels at a time are in kernel_blocks; specs/T871 and specs/Kernels
 // have the formulas.
+#![tactic(auto)]
+
 mod bytes;
 mod calls;
 mod entries;

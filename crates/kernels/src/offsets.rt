@@ -3,7 +3,7 @@ ghost use Rattle.std.specs.Prelude.{◌≡◌, ◌≤◌};
 ghost use Rattle.kernels.specs.Inner.Forms.{Suits, raised};
 
 // What is added to an offset, no offset being further below 0.
-#[derive(Drop)]
+#[derive(Clone, Copy)]
 pub struct Bias;
 
 impl Bias {

@@ -14,7 +14,7 @@ ghost use Rattle.kernels.specs.Inner.Tables.{Tabled};
 use crate::entries::{BLUE, GREEN_CB, GREEN_CR, RED};
 
 // What is added to the entries of a table so that none lies below 0.
-#[derive(Drop)]
+#[derive(Clone, Copy)]
 pub struct Raise;
 
 impl Raise {
@@ -116,7 +116,7 @@ pub fn green_cr_raised(c: usize) -> u32
 }
 
 // Where each table stands in `all_tables`.
-#[derive(Drop)]
+#[derive(Clone, Copy)]
 pub struct Table;
 
 impl Table {

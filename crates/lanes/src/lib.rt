@@ -3,13 +3,15 @@
 // The original leaves this to the compiler, which knows that its slices don't overlap. Here a loop that read and stored in turn would
 // not become wide loads and stores, and one over a block by value does. A store's loop is proved by laws' `Run`, for a block of any length;
 // proofs/Filled is the invariant of a loop that makes a block.
+#![tactic(auto)]
+
 ghost use Rattle.std.specs.Prelude.{◌≡◌, ◌+◌, ◌≤◌, length, get_or};
 ghost use Rattle.std.specs.Float.{nan};
 ghost use Rattle.laws.specs.Floats.{f32};
 ghost use Rattle.laws.specs.Lists.{put};
 
 // How much a block has.
-#[derive(Drop)]
+#[derive(Clone, Copy)]
 pub struct Lanes;
 
 impl Lanes {

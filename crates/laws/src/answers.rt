@@ -4,7 +4,7 @@ ghost use Rattle.laws.specs.Refusals.{accepted};
 ghost use Rattle.laws.specs.Inner.Refusals.{then_of};
 
 // What a call answers that gives nothing besides: accepted, or turned down with a number of document 01's table.
-#[derive(Drop)]
+#[derive(Clone, Copy)]
 pub enum Answer {
     Accepted,
     Refused(u8),

@@ -3,6 +3,8 @@
 // specs/ has the definitions, a file a topic, and proofs/ their laws; specs/Refusals is document 01's 'Reasons for turning a call down'.
 // The answer of a call stands here with the small tests that refusals are put together from, so that a crate above the public one
 // needs no inner crate; and the axis of a picture, which layouts and taps both name.
+#![tactic(auto)]
+
 mod answers;
 mod axes;
 mod numbers;

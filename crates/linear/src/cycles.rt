@@ -7,7 +7,7 @@ use laws::Axis;
 use taps::{lerp, tap_at};
 
 // The near cells and the fractions of one turn's outputs. An array has four places, and what stands past the ratio is no output's.
-#[derive(Drop)]
+#[derive(Clone, Copy)]
 pub struct Cycle {
     pub cells: [usize; 4],
     pub parts: [f32; 4],

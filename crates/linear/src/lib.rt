@@ -2,6 +2,8 @@
 //
 // `linear_plane` is public; `linear_row` gives fill its rows, and `store_row` rounds finished rows for the guided plane too. Positions,
 // taps and lerp stand in the crate `taps`, what a linear sample is in specs/Linear, how near it is to the exact value in specs/Bound.
+#![tactic(auto)]
+
 mod across;
 mod cycles;
 mod down;

@@ -7,7 +7,7 @@ use lanes::{Lanes, put_block};
 use taps::lerp;
 
 // Rows at ratio 2, two outputs to a cell.
-#[derive(Drop)]
+#[derive(Clone, Copy)]
 pub struct Twos;
 
 impl Twos {

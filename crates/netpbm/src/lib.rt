@@ -3,6 +3,8 @@
 // `read` gives the layout that three images make and where the rows of each begin, or the number of the refusal; `ppm_header` and
 // `refusal_line` give the lines. What is read and turned down is defined in specs/Reading, over one image in specs/Images; what is
 // written, in specs/Lines. The crate `picture` makes one call of it.
+#![tactic(auto)]
+
 mod ascii;
 mod lines;
 mod pgm;

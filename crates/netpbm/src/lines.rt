@@ -6,7 +6,7 @@ ghost use Rattle.netpbm.specs.Texts.{line_of};
 ghost use Rattle.netpbm.specs.Inner.Texts.{pushed, Put};
 
 // A line to write: its bytes are the first `len` of `bytes`, and the others are 0, so that a text is held in one way only.
-#[derive(Drop)]
+#[derive(Clone, Copy)]
 pub struct Line {
     pub bytes: [u8; Line::ROOM],
     pub len: usize,

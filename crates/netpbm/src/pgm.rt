@@ -8,7 +8,7 @@ use crate::scan::{blank_at, digit_at, magic_at, number_at, skip_spaces, space_at
 use laws::{Answer, then};
 
 // A number of a header: whether whitespace and digits stand where it should, the digits' value, and where they end.
-#[derive(Drop)]
+#[derive(Clone, Copy)]
 pub struct Field {
     pub good: bool,
     pub value: usize,
@@ -16,7 +16,7 @@ pub struct Field {
 }
 
 // The three numbers of a header.
-#[derive(Drop)]
+#[derive(Clone, Copy)]
 pub struct Header {
     pub width: Field,
     pub height: Field,
@@ -24,7 +24,7 @@ pub struct Header {
 }
 
 // An image: the answer to it, its sides, its maxval, and where its rows begin and end. Where it was turned down, its numbers mean nothing.
-#[derive(Drop)]
+#[derive(Clone, Copy)]
 pub struct Image {
     pub answer: Answer,
     pub w: usize,

@@ -9,7 +9,7 @@ use image::Layout;
 use laws::{Answer, then};
 
 // What was read: the layout, and where in the input the rows of Y, Cb and Cr begin; or the number of the refusal.
-#[derive(Drop)]
+#[derive(Clone, Copy)]
 pub enum Reading {
     Read(Layout, usize, usize, usize),
     Refused(u8),

@@ -8,7 +8,7 @@ ghost use Rattle.netpbm.specs.Inner.Held.{number_held, space_held};
 use crate::ascii::{ends_comment, is_blank, is_digit, is_mark};
 
 // A number that was read from its digits, and where they end.
-#[derive(Drop)]
+#[derive(Clone, Copy)]
 pub struct Number {
     pub value: usize,
     pub end: usize,

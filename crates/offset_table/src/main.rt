@@ -2,6 +2,8 @@
 //
 // A line has the chroma c, red's offset where Cr is c, blue's offset where Cb is c, and green's parts before the shift where Cb and where
 // Cr is c, the rounding 32,768 in the last. Green's offset is the floor of its two parts' sum over 65,536.
+#![tactic(auto)]
+
 ghost use Rattle.std.specs.Prelude.{◌<◌};
 
 use kernels::Raise;

@@ -2,6 +2,8 @@
 // users: `ffi` is.
 //
 // oracle/sweep rounds every f32 by both functions and by the original, since no public call takes a float to round.
+#![tactic(auto)]
+
 ghost use Rattle.std.specs.Prelude.{min};
 ghost use Rattle.fround.specs.Inner.Rounding.{Rounded};
 

@@ -3,6 +3,8 @@
 // `picture` is public and promises `PictureGiven` of specs/Picture. netpbm's `read` says what the input holds, the module `turned` turns
 // the bytes of samples that have two, `fill` gives the pixels, and the module `ppm` puts the header before them. `ycbcrtoppm` and ffi call
 // it; `refusal_line` is what the program writes on refusal.
+#![tactic(auto)]
+
 ghost use Rattle.std.specs.Prelude.{◌≡◌};
 ghost use Rattle.image.specs.Limits.{exceeds};
 ghost use Rattle.netpbm.specs.Inner.Reading.{reading_of};
@@ -20,7 +22,7 @@ use netpbm::Reading;
 pub use netpbm::{Line, refusal_line};
 
 // How many bytes were written to the front of `out`, or the number of the refusal, on which none was.
-#[derive(Drop)]
+#[derive(Clone, Copy)]
 pub enum Outcome {
     Written(usize),
     Refused(u8),

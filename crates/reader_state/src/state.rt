@@ -51,7 +51,7 @@ pub fn last_of(layout: Layout, y: usize) -> usize
 }
 
 // A reader's two counters: the next chroma row to sum across, and the next to finish.
-#[derive(Drop)]
+#[derive(Clone, Copy)]
 pub struct Counters {
     pub h_next: usize,
     pub f_next: usize,

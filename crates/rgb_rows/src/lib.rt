@@ -2,6 +2,8 @@
 // `rgb_row_answer` says beforehand what it would answer. Both are public.
 //
 // What they promise, and that such a row counts as a row call in the reader's list of demand 3, stands in specs/RgbRows.
+#![tactic(auto)]
+
 mod answers;
 mod rows;
 

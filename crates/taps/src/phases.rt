@@ -5,7 +5,7 @@ ghost use Rattle.std.specs.Prelude.{◌≡◌, true, false, ◌≤◌, ◌<◌};
 ghost use Rattle.taps.specs.Taps.{phase_of, phase_at, phases_of};
 
 // How a pixel of a cell goes across: from the left neighbour to its own cell, or from its own to the right one, and how far.
-#[derive(Drop)]
+#[derive(Clone, Copy)]
 pub struct Phase {
     pub left: bool,
     pub f: f32,

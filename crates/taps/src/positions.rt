@@ -7,7 +7,7 @@ ghost use Rattle.taps.specs.Inner.Taps.{TapGiven};
 use laws::{Axis, Siting};
 
 // Two cells, and how far an output lies on the way from i0 to i1.
-#[derive(Drop)]
+#[derive(Clone, Copy)]
 pub struct Tap {
     pub i0: usize,
     pub i1: usize,

@@ -6,6 +6,8 @@
 // Of the early reader o is open, s seek and r a row as RGB; of the late one p, t and u. m is a blend: the line speaks of the late picture,
 // and the last line of kind e, which is no call, of the early one. c is a reading on a chart of the picture that the rows given so far are:
 // an accepted row is put into it from byte `at` on.
+#![tactic(auto)]
+
 ghost use Rattle.std.specs.Prelude.{◌≤◌};
 
 use colorimetry::{Between, BlendReply, ChartReading, Nearest};
@@ -15,7 +17,7 @@ use libc::STDIN_FILENO;
 use taps::Phase;
 
 // Both readers.
-#[derive(Drop)]
+#[derive(Clone, Copy)]
 struct Pair {
     early: Reader,
     late: Reader,

@@ -9,20 +9,22 @@
 // The plane of l, g and t is Cb's, and a picture's input is Y's bytes. A pixel, e by the exact kernel and x by the fixed one, has
 // y(2) cb(2) cr(2) maxval(2) range(2), eighteen of 0.
 // A line of kind b is no call: it spells the bytes that planes of shape 3 have in the calls behind it.
+#![tactic(auto)]
+
 ghost use Rattle.std.specs.Prelude.{◌<◌};
 
 use ffi::{ChromaLayout, ChromaPhase, ChromaPixel, ChromaReader, ChromaReply, ChromaStrides};
 use libc::STDIN_FILENO;
 
 // What a call answered, and the sum of its outputs.
-#[derive(Drop)]
+#[derive(Clone, Copy)]
 struct Left {
     answer: u32,
     sum: u32,
 }
 
 // The same, with the state for the calls behind it.
-#[derive(Drop)]
+#[derive(Clone, Copy)]
 struct Done {
     left: Left,
     reader: ChromaReader,

@@ -5,6 +5,8 @@
 // kernel size space(2) room. A pixel's: y(2) cb(2) cr(2) maxval(2) range, fifteen of 0. A line that is no call spells the bytes that planes of
 // shape 3 have in the calls behind it. Where a fill's kind is a capital, the words rh and rv have the axis' siting as their first digit, and its numerator less 1 as their
 // second, and the word sample_bytes has the range as its first digit.
+#![tactic(auto)]
+
 ghost use Rattle.std.specs.Prelude.{◌<◌};
 
 mod refills;

@@ -5,6 +5,8 @@
 // kind p makes Rattle's call and kind q C's. A reading, of kind c by Rattle's call and d by C's, has the same 17 words, then
 // chart_len chart_seed chart_shape, 20 of 0.
 // A line of kind b or k is no call: it spells the bytes that pictures, or charts, of shape 3 have in the calls behind it.
+#![tactic(auto)]
+
 ghost use Rattle.std.specs.Prelude.{◌<◌};
 
 use colorimetry::{Between, ChartReading, Nearest, Patch, Patched};

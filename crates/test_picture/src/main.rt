@@ -2,6 +2,8 @@
 // left. All share one scratch, which is not-a-number at first and never cleared. oracle/picture-cases made the list and what must be written
 // for it: a line of 17 bytes for each piece of an input and for its end, a kind and three words of four hex digits; its head says which kinds
 // there are.
+#![tactic(auto)]
+
 ghost use Rattle.std.specs.Prelude.{◌≤◌, length};
 
 use libc::STDIN_FILENO;

@@ -5,6 +5,8 @@
 // The plane of a line is chroma; in a guided call of kind `y` it is luma. The kinds u, m, h and z are t, l, g and y with planes whose samples
 // are at most the maxval. Where the kind is a capital, the words rh and rv have the axis'
 // siting as their first digit, and its numerator less 1 as their second, and the word sample_bytes has the range as its first digit.
+#![tactic(auto)]
+
 ghost use Rattle.std.specs.Prelude.{◌<◌};
 
 use laws::Answer;

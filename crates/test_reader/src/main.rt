@@ -5,6 +5,8 @@
 // w h rh rv cw ch sample_bytes maxval(2) y_stride cb_stride cr_stride y_len cb_len cr_len seed y_shape cb_shape cr_shape
 // space(2) room_cb room_cr row change value(3).
 // A line that is no call spells the bytes that planes of shape 3 have in the calls behind it.
+#![tactic(auto)]
+
 ghost use Rattle.std.specs.Prelude.{◌≤◌};
 
 use guided::{Geometry, Reader, Reply};
@@ -13,7 +15,7 @@ use libc::STDIN_FILENO;
 use taps::Phase;
 
 // What a call answered, the reader that it gave, and the sum of its outputs.
-#[derive(Drop)]
+#[derive(Clone, Copy)]
 struct Done {
     answer: usize,
     reader: Reader,

@@ -1,5 +1,7 @@
 // Replays the stored list of rounding, fmin, fmax and sample cases on standard input, and writes this library's answer to each.
 // oracle/rounding-cases made the list, lines `K AAAAAAAA BBBBBBBB` of a kind and two operands, and what must be written for it.
+#![tactic(auto)]
+
 use libc::STDIN_FILENO;
 
 // The plane whose four bytes are n's, the highest first.

@@ -56,7 +56,7 @@ pub fn sum_numbers(sum: u32, n: &[usize]) -> u32 {
 }
 
 // Inner: sums of scratch: of all of it, and of what is behind the floats that a call may touch where it is accepted.
-#[derive(Drop)]
+#[derive(Clone, Copy)]
 pub struct ScratchSums {
     all: u32,
     spared: u32,

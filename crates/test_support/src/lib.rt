@@ -3,6 +3,8 @@
 //
 // A line is read by `words` (its numbers) and `lines` (layout, strides), planes are grown or spelled by `planes`, what a call left is
 // summed by `checksums`, and `answer_lines` writes the line. None of it is promised to anyone: contracts say only what keeps it safe.
+#![tactic(auto)]
+
 mod answer_lines;
 mod checksums;
 mod floats;

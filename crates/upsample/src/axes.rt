@@ -10,7 +10,7 @@ pub fn one_axis(near: u32, far: u32, bias: u32) -> u16
 }
 
 // Inner: what is added to a weighed sum before it is divided by 16: at the left output of a cell, 2i, and at the right one, 2i + 1.
-#[derive(Drop)]
+#[derive(Clone, Copy)]
 pub struct Bias {
     pub left: u16,
     pub right: u16,

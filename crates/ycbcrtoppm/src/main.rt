@@ -1,6 +1,8 @@
 // 'The picture program' of document 01: three PGM images on standard input, a PPM or the line of a refusal on standard output.
 //
 // All that it decides is `picture::picture`'s; this reads, lends the memory and writes.
+#![tactic(auto)]
+
 ghost use Rattle.std.specs.Prelude.{◌+◌, ◌≤◌, length};
 ghost use Rattle.ycbcrtoppm.specs.Inner.Lengths.{written_length};
 
@@ -35,7 +37,7 @@ fn write_outcome(outcome: Outcome, out: &[u8]) -> bool
 }
 
 // What reading came to: how many bytes were read, and whether a read failed.
-#[derive(Drop)]
+#[derive(Clone, Copy)]
 struct Taken {
     len: usize,
     failed: bool,
