@@ -6,8 +6,8 @@ use mathlib.Core.Bool.{Bool, true, false, ◌&&◌, ◌||◌, not, cond}
 use Prim.Native.Nat.{ℕ, suc, ◌+◌, ◌-◌, ◌*◌, ◌≤◌, ◌<◌}
 use native.Mathlib.Nat.{mul-le-mul, mul-le-mul_left, mul-pos, mul-one, le_trans, le-div_iff_mul-le, suc-mul}
 use native.Mathlib.Omega.{arith}
-use lib.Dec.{ltb, eqb}
-use borrow.Author.Tests.{ltb-false, eqb-true, not-false}
+use lib.Dec.{eqb}
+use borrow.Author.Tests.{eqb-true, not-false}
 use Rattle.laws.specs.Refusals.{first, accepted, place_of, Ascending}
 use Rattle.laws.proofs.Refusals.{Failed, accepted_failed, accepted_is}
 pub use Rattle.laws.proofs.Limits.{neither, within}

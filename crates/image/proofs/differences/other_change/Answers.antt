@@ -1,0 +1,22 @@
+use mathlib.Core.Path.{refl}
+use Rattle.image.specs.Picture.{planes_of}
+use Rattle.image.specs.Differences.{other_change}
+use Rattle.image.proofs.Planes.{NoneShort, none_short}
+use Rattle.image.proofs.differences.other_change.Goals as goal
+
+pub luma_differs-luma-requires : goal.luma_differs-luma-requires
+luma_differs-luma-requires c =
+    (c.requires.0, ((let it : NoneShort c.args.layout ((let a = c.args in planes_of a.old_y.now a.old_cb.now a.old_cr.now a.old_strides)) = none_short c.args.layout ((let a = c.args in planes_of a.old_y.now a.old_cb.now a.old_cr.now a.old_strides)) c.requires.1 in it)).y, ((let it : NoneShort c.args.layout ((let a = c.args in planes_of a.y.now a.cb.now a.cr.now a.strides)) = none_short c.args.layout ((let a = c.args in planes_of a.y.now a.cb.now a.cr.now a.strides)) c.requires.2 in it)).y)
+
+pub cells_differ-blue-requires : goal.cells_differ-blue-requires
+cells_differ-blue-requires c =
+    (c.requires.0, ((let it : NoneShort c.args.layout ((let a = c.args in planes_of a.old_y.now a.old_cb.now a.old_cr.now a.old_strides)) = none_short c.args.layout ((let a = c.args in planes_of a.old_y.now a.old_cb.now a.old_cr.now a.old_strides)) c.requires.1 in it)).cb, ((let it : NoneShort c.args.layout ((let a = c.args in planes_of a.y.now a.cb.now a.cr.now a.strides)) = none_short c.args.layout ((let a = c.args in planes_of a.y.now a.cb.now a.cr.now a.strides)) c.requires.2 in it)).cb, c.requires.3)
+
+pub cells_differ-red-requires : goal.cells_differ-red-requires
+cells_differ-red-requires c =
+    (c.requires.0, ((let it : NoneShort c.args.layout ((let a = c.args in planes_of a.old_y.now a.old_cb.now a.old_cr.now a.old_strides)) = none_short c.args.layout ((let a = c.args in planes_of a.old_y.now a.old_cb.now a.old_cr.now a.old_strides)) c.requires.1 in it)).cr, ((let it : NoneShort c.args.layout ((let a = c.args in planes_of a.y.now a.cb.now a.cr.now a.strides)) = none_short c.args.layout ((let a = c.args in planes_of a.y.now a.cb.now a.cr.now a.strides)) c.requires.2 in it)).cr, c.requires.3)
+
+pub returns : goal.returns
+unfolding other_change
+returns c =
+    rw (c.either-2.ensures, c.either.ensures, c.cells_differ-red.ensures, c.cells_differ-blue.ensures, c.luma_differs-luma.ensures) refl

@@ -1,0 +1,18 @@
+use mathlib.Core.Path.{refl}
+use native.Mathlib.Omega.{arith}
+use Rattle.image.specs.Inner.Limits.{greatest}
+use Rattle.image.proofs.Any.{greatest_step, greatest_end}
+use Rattle.image.proofs.limits.most_byte.Goals as goal
+
+pub loop-i-init : goal.loop-i-init
+unfolding greatest
+loop-i-init c =
+    (omega arith, refl)
+
+pub loop-i-preserved : goal.loop-i-preserved
+loop-i-preserved c =
+    (omega arith, greatest_step _ _ _ _ c.loop-i.invariant.1 c.greater_byte-m.ensures)
+
+pub returns : goal.returns
+returns c =
+    greatest_end _ _ _ _ c.loop-i.invariant.1 (omega arith)

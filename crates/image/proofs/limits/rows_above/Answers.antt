@@ -1,0 +1,44 @@
+use mathlib.Core.Path.{refl, sym, ◌∙◌}
+use Prim.Native.Nat.{◌+◌, ◌*◌, ◌≤◌}
+use native.Mathlib.Omega.{arith}
+use lib.ListN.{length}
+use Rattle.image.specs.Limits.{any_of}
+use Rattle.image.proofs.Planes.{short_holds, row_inside}
+use Rattle.image.proofs.Any.{rows_found, rows_none, rows_more}
+use Rattle.image.proofs.limits.rows_above.Goals as goal
+
+pub loop-y-init : goal.loop-y-init
+unfolding any_of
+loop-y-init c =
+    (omega arith, refl)
+
+pub overflow_mul-y : goal.overflow_mul-y
+overflow_mul-y c =
+    omega (
+      arith,
+      (let it : (let a = c.args in c.loop-y.y * a.stride + a.w * a.layout.sample_bytes ≤ length a.plane.now) = let a = c.args in
+          row_inside (short_holds a.layout a.w a.h (record { bytes = a.plane.now; stride = a.stride }) c.requires.2) c.loop-y.y c.loop-y-test.true in it),
+    )
+
+pub row_above-requires : goal.row_above-requires
+row_above-requires c = (
+  c.requires.0,
+  c.requires.1,
+  (let it : (let a = c.args in c.loop-y.y * a.stride + a.w * a.layout.sample_bytes ≤ length a.plane.now) = let a = c.args in
+      row_inside (short_holds a.layout a.w a.h (record { bytes = a.plane.now; stride = a.stride }) c.requires.2) c.loop-y.y c.loop-y-test.true in it),
+)
+
+pub returns-then-row_above : goal.returns-then-row_above
+returns-then-row_above c =
+    let a = c.args in
+    rows_found a.layout a.w a.h (record { bytes = a.plane.now; stride = a.stride }) c.loop-y.y c.loop-y-test.true (sym c.row_above.ensures ∙ c.if-row_above.true)
+
+pub loop-y-preserved : goal.loop-y-preserved
+loop-y-preserved c =
+    let a = c.args in
+    (omega arith, rows_more a.layout a.w a.h (record { bytes = a.plane.now; stride = a.stride }) c.loop-y.y c.loop-y.invariant.1 (sym c.row_above.ensures ∙ c.if-row_above.false))
+
+pub returns : goal.returns
+returns c =
+    let a = c.args in
+    rows_none a.layout a.w a.h (record { bytes = a.plane.now; stride = a.stride }) c.loop-y.y (omega arith) c.loop-y.invariant.1

@@ -1,0 +1,16 @@
+use mathlib.Core.Path.{refl, sym, ◌∙◌}
+use borrow.Author.Tests.{not-true, not-false}
+use Rattle.laws.proofs.Refusals.{then_kept}
+use Rattle.image.proofs.limits.then_plane_above.Goals as goal
+
+pub returns-then-refused : goal.returns-then-refused
+returns-then-refused c =
+    then_kept _ _ _ (not-true _ (sym c.refused.ensures ∙ c.if-refused.true))
+
+pub plane_above-requires : goal.plane_above-requires
+plane_above-requires c =
+    c.requires (not-false _ (sym c.refused.ensures ∙ c.if-refused.false))
+
+pub returns : goal.returns
+returns c =
+    rw (c.then.ensures, c.plane_above.ensures) refl
