@@ -1,8 +1,8 @@
 -- The ten phase fractions are what specs/TenFractions says of them, each by computing it.
-use mathlib.Core.Path.{◌≡◌, refl}
+use mathlib.Core.Path.{refl}
 use lib.Ieee.{div, of_int, of_bits, of_fields}
 use Rattle.taps.specs.Taps.{phase_of}
-use Rattle.taps.specs.TenFractions.{PhaseClaims, Divided, Unrounded, Each, ten_fractions}
+use Rattle.taps.specs.TenFractions.{PhaseClaims, Unrounded, Each, ten_fractions}
 
 pub phase_claims : PhaseClaims
 unfolding Each Unrounded ten_fractions phase_of div of_int of_bits of_fields

@@ -1,0 +1,36 @@
+-- The three returns are the cases of `sited_at`: the siting that was matched, then the test that was taken. The products fit by mul-le-mul.
+use Prim.Native.Nat.{ℕ, ◌+◌, ◌*◌, ◌^◌, ◌≤◌, ◌<◌}
+use native.Mathlib.Nat.{mul-le-mul}
+use borrow.Author.Tests.{le-ltb, lt-ltb}
+use Rattle.taps.specs.Taps.{sited_at}
+use native.Mathlib.Omega.{arith}
+use Rattle.taps.proofs.positions.sited_at.Goals as goal
+
+fits_one : (o num : ℕ) → o ≤ 8192 → num ≤ 4 → o * num < 2 ^ 64
+fits_one o num a b = omega (arith, mul-le-mul a b)
+
+fits-two : (o num : ℕ) → o ≤ 8192 → num ≤ 4 → (2 * o + 1) * num < 2 ^ 64
+fits-two o num a b = omega (arith, mul-le-mul a b)
+
+pub overflow_mul-n-in-Centred : goal.overflow_mul-n-in-Centred
+overflow_mul-n-in-Centred c =
+    let a = c.args in let p = c.requires in record { fits = fits-two a.o a.num (omega arith) (omega arith) }
+
+pub returns-then-n-den : goal.returns-then-n-den
+unfolding sited_at
+returns-then-n-den c =
+    simp (c.in-Centred.is, lt-ltb _ _ c.if-n-den.true, c.on_cell.ensures)
+
+pub overflow_mul-o : goal.overflow_mul-o
+overflow_mul-o c =
+    let a = c.args in let p = c.requires in record { fits = fits_one a.o a.num (omega arith) (omega arith) }
+
+pub returns-else-n-den : goal.returns-else-n-den
+unfolding sited_at
+returns-else-n-den c =
+    simp (c.in-Centred.is, le-ltb _ _ c.if-n-den.false, c.spot_at.ensures)
+
+pub returns-in-CoSited : goal.returns-in-CoSited
+unfolding sited_at
+returns-in-CoSited c =
+    simp (c.in-CoSited.is, c.spot_at-in-CoSited.ensures)
