@@ -15,11 +15,9 @@ use kernel_blocks::Block;
 
 // Sixteen pixels by the exact kernel at maxval 255, of luma y and of the chroma of the columns from x on.
 fn exact_pixels(y: [u16; Block::LEN], s: &[f32], w: usize, x: usize) -> [[u8; Block::LEN]; 3]
-    requires* { do n ← ⟦Block::LEN⟧; ⌜ (x + n ≤ w) × (2 * w ≤ length s.now) ⌝ }
-    ensures* { do
-      n ← (⟦Block::LEN⟧).entry
-      ⌜ ((k : ℕ) → k < n → block_pixel result k ≡ colour_by
-          Exact 255 (get_or y k 0) (cell_at s.now 0 (x + k)) (cell_at s.now w (x + k))) ⌝ }
+    requires { (x + Block.LEN ≤ w) × (2 * w ≤ length s.now) }
+    ensures { ((k : ℕ) → k < Block.LEN → block_pixel result k ≡ colour_by
+          Exact 255 (get_or y k 0) (cell_at s.now 0 (x + k)) (cell_at s.now w (x + k))) }
 {
     let cb = chroma_block(s, 0, x);
     let cr = chroma_block(s, w, x);
@@ -36,11 +34,9 @@ fn exact_at(
     x: usize,
 ) -> [[u8; Block::LEN]; 3]
     requires row_lent { RowLent layout (plane_of plane.now stride) row (length s.now) }
-    requires* fact { do n ← ⟦Block::LEN⟧; ⌜ Blocked n Exact layout × (x + n ≤ layout.w) ⌝ }
-    ensures* { do
-      n ← (⟦Block::LEN⟧).entry
-      ⌜ ((k : ℕ) → k < n → block_pixel result k ≡ row_colour
-          Exact layout (plane_of plane.now stride) row s.now (x + k)) ⌝ }
+    requires fact { Blocked Block.LEN Exact layout × (x + Block.LEN ≤ layout.w) }
+    ensures { ((k : ℕ) → k < Block.LEN → block_pixel result k ≡ row_colour
+          Exact layout (plane_of plane.now stride) row s.now (x + k)) }
 {
     let y = luma_block(layout, plane, stride, row, x);
     exact_pixels(y, s, layout.w, x)
@@ -57,7 +53,7 @@ fn exact3(
     at: usize,
 )
     requires row_lent { RowLent layout (plane_of plane.now stride) row (length s.now) }
-    requires* fact { do n ← ⟦Block::LEN⟧; ⌜ Blocked n Exact layout × (at + layout.w * 3 ≤ length out.old) ⌝ }
+    requires fact { Blocked Block.LEN Exact layout × (at + layout.w * 3 ≤ length out.old) }
     ensures { out.new ≡ colour_row
         Exact layout (plane_of plane.now stride) row s.now at 3 out.old }
 {
@@ -83,7 +79,7 @@ fn exact4(
     low: u32,
 )
     requires row_lent { RowLent layout (plane_of plane.now stride) row (length s.now) }
-    requires* fact { do n ← ⟦Block::LEN⟧; ⌜ Blocked n Exact layout × (at + layout.w * 4 ≤ length out.old) × (low ≡ 16777215) ⌝ }
+    requires fact { Blocked Block.LEN Exact layout × (at + layout.w * 4 ≤ length out.old) × (low ≡ 16777215) }
     ensures { out.new ≡ colour_row
         Exact layout (plane_of plane.now stride) row s.now at 4 out.old }
 {
@@ -109,7 +105,7 @@ pub fn exact_row(
     at: usize,
 )
     requires row_lent { RowLent layout (plane_of plane.now stride) row (length s.now) }
-    requires* fact { do n ← ⟦Block::LEN⟧; ⌜ Blocked n Exact layout × (3 ≤ size) × (size ≤ 4) × (at + layout.w * size ≤ length out.old) ⌝ }
+    requires fact { Blocked Block.LEN Exact layout × (3 ≤ size) × (size ≤ 4) × (at + layout.w * size ≤ length out.old) }
     ensures { out.new ≡ colour_row
         Exact layout (plane_of plane.now stride) row s.now at size out.old }
 {

@@ -22,11 +22,9 @@ fn fixed_pixels(
     x: usize,
     tables: &[[i32; 256]],
 ) -> [[u8; Block::LEN]; 3]
-    requires* { do n ← ⟦Block::LEN⟧; ⌜ (x + n ≤ w) × (2 * w ≤ length s.now) × Tabled tables.now ⌝ }
-    ensures* { do
-      n ← (⟦Block::LEN⟧).entry
-      ⌜ ((d k : ℕ) → k < n → block_pixel result k ≡ colour_by
-          FixedPoint16 d (get_or y k 0) (cell_at s.now 0 (x + k)) (cell_at s.now w (x + k))) ⌝ }
+    requires { (x + Block.LEN ≤ w) × (2 * w ≤ length s.now) × Tabled tables.now }
+    ensures { ((d k : ℕ) → k < Block.LEN → block_pixel result k ≡ colour_by
+          FixedPoint16 d (get_or y k 0) (cell_at s.now 0 (x + k)) (cell_at s.now w (x + k))) }
 {
     let cb = whole_chroma_block(s, 0, x);
     let cr = whole_chroma_block(s, w, x);
@@ -44,11 +42,9 @@ fn fixed_at(
     tables: &[[i32; 256]],
 ) -> [[u8; Block::LEN]; 3]
     requires row_lent { RowLent layout (plane_of plane.now stride) row (length s.now) }
-    requires* fact { do n ← ⟦Block::LEN⟧; ⌜ Blocked n FixedPoint16 layout × (x + n ≤ layout.w) × Tabled tables.now ⌝ }
-    ensures* { do
-      n ← (⟦Block::LEN⟧).entry
-      ⌜ ((k : ℕ) → k < n → block_pixel result k ≡ row_colour
-          FixedPoint16 layout (plane_of plane.now stride) row s.now (x + k)) ⌝ }
+    requires fact { Blocked Block.LEN FixedPoint16 layout × (x + Block.LEN ≤ layout.w) × Tabled tables.now }
+    ensures { ((k : ℕ) → k < Block.LEN → block_pixel result k ≡ row_colour
+          FixedPoint16 layout (plane_of plane.now stride) row s.now (x + k)) }
 {
     let y = luma_block(layout, plane, stride, row, x);
     fixed_pixels(y, s, layout.w, x, tables)
@@ -66,7 +62,7 @@ fn fixed3(
     tables: &[[i32; 256]],
 )
     requires row_lent { RowLent layout (plane_of plane.now stride) row (length s.now) }
-    requires* fact { do n ← ⟦Block::LEN⟧; ⌜ Blocked n FixedPoint16 layout × (at + layout.w * 3 ≤ length out.old) × Tabled tables.now ⌝ }
+    requires fact { Blocked Block.LEN FixedPoint16 layout × (at + layout.w * 3 ≤ length out.old) × Tabled tables.now }
     ensures { out.new ≡ colour_row
         FixedPoint16 layout (plane_of plane.now stride) row s.now at 3 out.old }
 {
@@ -93,7 +89,7 @@ fn fixed4(
     tables: &[[i32; 256]],
 )
     requires row_lent { RowLent layout (plane_of plane.now stride) row (length s.now) }
-    requires* fact { do n ← ⟦Block::LEN⟧; ⌜ Blocked n FixedPoint16 layout × (at + layout.w * 4 ≤ length out.old) × (low ≡ 16777215) × Tabled tables.now ⌝ }
+    requires fact { Blocked Block.LEN FixedPoint16 layout × (at + layout.w * 4 ≤ length out.old) × (low ≡ 16777215) × Tabled tables.now }
     ensures { out.new ≡ colour_row
         FixedPoint16 layout (plane_of plane.now stride) row s.now at 4 out.old }
 {
@@ -120,7 +116,7 @@ pub fn fixed_row(
     tables: &[[i32; 256]],
 )
     requires row_lent { RowLent layout (plane_of plane.now stride) row (length s.now) }
-    requires* fact { do n ← ⟦Block::LEN⟧; ⌜ Blocked n FixedPoint16 layout × (3 ≤ size) × (size ≤ 4) × (at + layout.w * size ≤ length out.old) × Tabled tables.now ⌝ }
+    requires fact { Blocked Block.LEN FixedPoint16 layout × (3 ≤ size) × (size ≤ 4) × (at + layout.w * size ≤ length out.old) × Tabled tables.now }
     ensures { out.new ≡ colour_row
         FixedPoint16 layout (plane_of plane.now stride) row s.now at size out.old }
 {

@@ -14,7 +14,7 @@ use kernels::YcbcrKernel;
 
 // Whether a row of full range goes by blocks: it is as wide as one, and its kernel has a block. The exact kernel has one at maxval 255 only.
 fn by_blocks(layout: Layout, kernel: YcbcrKernel) -> bool
-    ensures* { do n ← (⟦Block::LEN⟧).entry; ⌜ (result ≡ true → Blocked n kernel layout) ⌝ }
+    ensures { (result ≡ true → Blocked Block.LEN kernel layout) }
 {
     if layout.w < Block::LEN {
         return false;
@@ -39,7 +39,7 @@ fn block_row(
     tables: &[[i32; 256]],
 )
     requires row_lent { RowLent layout (plane_of plane.now stride) row (length s.now) }
-    requires* fact { do n ← ⟦Block::LEN⟧; ⌜ Blocked n kernel layout × (3 ≤ size) × (size ≤ 4) × (at + layout.w * size ≤ length out.old) × TablesFor kernel tables.now ⌝ }
+    requires fact { Blocked Block.LEN kernel layout × (3 ≤ size) × (size ≤ 4) × (at + layout.w * size ≤ length out.old) × TablesFor kernel tables.now }
     ensures { out.new ≡ colour_row
         kernel layout (plane_of plane.now stride) row s.now at size out.old }
 {

@@ -44,8 +44,8 @@ pub fn whole_chroma(v: f32) -> u8
 
 // The sixteen samples of one byte from byte `at` on. The size is a constant in the loop, so that they compile to loads of many.
 fn one_byte_block(plane: &[u8], at: usize) -> [u16; Block::LEN]
-    requires* { do n ← ⟦Block::LEN⟧; ⌜ at + n ≤ length plane.now ⌝ }
-    ensures* { do n ← (⟦Block::LEN⟧).entry; ⌜ Listed n result (λ k. sample_of 1 plane.now (at + k)) ⌝ }
+    requires { at + Block.LEN ≤ length plane.now }
+    ensures { Listed Block.LEN result (λ k. sample_of 1 plane.now (at + k)) }
 {
     let mut v = [0u16; Block::LEN];
     for k in 0..Block::LEN {
@@ -56,8 +56,8 @@ fn one_byte_block(plane: &[u8], at: usize) -> [u16; Block::LEN]
 
 // The sixteen samples of two bytes from byte `at` on. The size is a constant in the loop, so that they compile to loads of many.
 fn two_byte_block(plane: &[u8], at: usize) -> [u16; Block::LEN]
-    requires* { do n ← ⟦Block::LEN⟧; ⌜ at + n * 2 ≤ length plane.now ⌝ }
-    ensures* { do n ← (⟦Block::LEN⟧).entry; ⌜ Listed n result (λ k. sample_of 2 plane.now (at + k * 2)) ⌝ }
+    requires { at + Block.LEN * 2 ≤ length plane.now }
+    ensures { Listed Block.LEN result (λ k. sample_of 2 plane.now (at + k * 2)) }
 {
     let mut v = [0u16; Block::LEN];
     for k in 0..Block::LEN {
@@ -74,8 +74,8 @@ pub fn luma_block(
     row: usize,
     x: usize,
 ) -> [u16; Block::LEN]
-    requires* { do n ← ⟦Block::LEN⟧; ⌜ LumaRow layout (plane_of plane.now stride) row × (x + n ≤ layout.w) ⌝ }
-    ensures* { do n ← (⟦Block::LEN⟧).entry; ⌜ Listed n result (λ k. sample_at layout.sample_bytes (plane_of plane.now stride) row (x + k)) ⌝ }
+    requires { LumaRow layout (plane_of plane.now stride) row × (x + Block.LEN ≤ layout.w) }
+    ensures { Listed Block.LEN result (λ k. sample_at layout.sample_bytes (plane_of plane.now stride) row (x + k)) }
 {
     if layout.sample_bytes == 1 {
         return one_byte_block(plane, row * stride + x);
@@ -85,7 +85,7 @@ pub fn luma_block(
 
 // Inner: sixteen samples of luma as numbers of 32 bits, which the exact kernel computes with.
 pub fn wide_block(y: [u16; Block::LEN]) -> [u32; Block::LEN]
-    ensures* { do n ← (⟦Block::LEN⟧).entry; ⌜ ((k : ℕ) → k < n → (get_or result k 0 ≡ get_or y k 0) × (get_or result k 0 ≤ 65535)) ⌝ }
+    ensures { ((k : ℕ) → k < Block.LEN → (get_or result k 0 ≡ get_or y k 0) × (get_or result k 0 ≤ 65535)) }
 {
     let mut v = [0u32; Block::LEN];
     for k in 0..Block::LEN {
@@ -97,11 +97,9 @@ pub fn wide_block(y: [u16; Block::LEN]) -> [u32; Block::LEN]
 // Inner: chroma of the sixteen columns from x on of the finished row at src, in 256ths less 32,768 = 128 * 256, as floats for the exact
 // kernel's block.
 pub fn chroma_block(s: &[f32], src: usize, x: usize) -> [f32; Block::LEN]
-    requires* { do n ← ⟦Block::LEN⟧; ⌜ src + (x + n) ≤ length s.now ⌝ }
-    ensures* { do
-      n ← (⟦Block::LEN⟧).entry
-      ⌜ ((k : ℕ) → k < n
-          → Centred (get_or result k nan) (round_clamped 65536 (cell_at s.now src (x + k) ⊗ f32 256))) ⌝ }
+    requires { src + (x + Block.LEN) ≤ length s.now }
+    ensures { ((k : ℕ) → k < Block.LEN
+          → Centred (get_or result k nan) (round_clamped 65536 (cell_at s.now src (x + k) ⊗ f32 256))) }
 {
     let mut v = [0.0f32; Block::LEN];
     for k in 0..Block::LEN {
@@ -112,8 +110,8 @@ pub fn chroma_block(s: &[f32], src: usize, x: usize) -> [f32; Block::LEN]
 
 // Inner: chroma of the sixteen columns from x on of the finished row at src, as whole numbers for the fixed kernel's block.
 pub fn whole_chroma_block(s: &[f32], src: usize, x: usize) -> [u8; Block::LEN]
-    requires* { do n ← ⟦Block::LEN⟧; ⌜ src + (x + n) ≤ length s.now ⌝ }
-    ensures* { do n ← (⟦Block::LEN⟧).entry; ⌜ Listed n result (λ k. round_clamped 255 (cell_at s.now src (x + k))) ⌝ }
+    requires { src + (x + Block.LEN) ≤ length s.now }
+    ensures { Listed Block.LEN result (λ k. round_clamped 255 (cell_at s.now src (x + k))) }
 {
     let mut v = [0u8; Block::LEN];
     for k in 0..Block::LEN {

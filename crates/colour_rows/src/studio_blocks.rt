@@ -14,11 +14,9 @@ use kernel_blocks::Block;
 
 // Sixteen pixels in studio range, of luma y and of the chroma of the columns from x on.
 fn studio_pixels(y: [u16; Block::LEN], s: &[f32], w: usize, x: usize) -> [[u8; Block::LEN]; 3]
-    requires* { do n ← ⟦Block::LEN⟧; ⌜ (x + n ≤ w) × (2 * w ≤ length s.now) ⌝ }
-    ensures* { do
-      n ← (⟦Block::LEN⟧).entry
-      ⌜ ((k : ℕ) → k < n → block_pixel result k ≡ studio_by
-          (get_or y k 0) (cell_at s.now 0 (x + k)) (cell_at s.now w (x + k))) ⌝ }
+    requires { (x + Block.LEN ≤ w) × (2 * w ≤ length s.now) }
+    ensures { ((k : ℕ) → k < Block.LEN → block_pixel result k ≡ studio_by
+          (get_or y k 0) (cell_at s.now 0 (x + k)) (cell_at s.now w (x + k))) }
 {
     let cb = chroma_block(s, 0, x);
     let cr = chroma_block(s, w, x);
@@ -35,11 +33,9 @@ fn studio_at(
     x: usize,
 ) -> [[u8; Block::LEN]; 3]
     requires row_lent { RowLent layout (plane_of plane.now stride) row (length s.now) }
-    requires* n_bound { do n ← ⟦Block::LEN⟧; ⌜ x + n ≤ layout.w ⌝ }
-    ensures* { do
-      n ← (⟦Block::LEN⟧).entry
-      ⌜ ((k : ℕ) → k < n → block_pixel result k ≡ studio_colour
-          layout (plane_of plane.now stride) row s.now (x + k)) ⌝ }
+    requires n_bound { x + Block.LEN ≤ layout.w }
+    ensures { ((k : ℕ) → k < Block.LEN → block_pixel result k ≡ studio_colour
+          layout (plane_of plane.now stride) row s.now (x + k)) }
 {
     let y = luma_block(layout, plane, stride, row, x);
     studio_pixels(y, s, layout.w, x)
@@ -56,7 +52,7 @@ fn studio3(
     at: usize,
 )
     requires row_lent { RowLent layout (plane_of plane.now stride) row (length s.now) }
-    requires* fact { do n ← ⟦Block::LEN⟧; ⌜ (n ≤ layout.w) × (at + layout.w * 3 ≤ length out.old) ⌝ }
+    requires fact { (Block.LEN ≤ layout.w) × (at + layout.w * 3 ≤ length out.old) }
     ensures { out.new ≡ studio_row
         layout (plane_of plane.now stride) row s.now at 3 out.old }
 {
@@ -82,7 +78,7 @@ fn studio4(
     low: u32,
 )
     requires row_lent { RowLent layout (plane_of plane.now stride) row (length s.now) }
-    requires* fact { do n ← ⟦Block::LEN⟧; ⌜ (n ≤ layout.w) × (at + layout.w * 4 ≤ length out.old) × (low ≡ 16777215) ⌝ }
+    requires fact { (Block.LEN ≤ layout.w) × (at + layout.w * 4 ≤ length out.old) × (low ≡ 16777215) }
     ensures { out.new ≡ studio_row
         layout (plane_of plane.now stride) row s.now at 4 out.old }
 {
@@ -108,7 +104,7 @@ pub fn studio_block_row(
     at: usize,
 )
     requires row_lent { RowLent layout (plane_of plane.now stride) row (length s.now) }
-    requires* fact { do n ← ⟦Block::LEN⟧; ⌜ (n ≤ layout.w) × (3 ≤ size) × (size ≤ 4) × (at + layout.w * size ≤ length out.old) ⌝ }
+    requires fact { (Block.LEN ≤ layout.w) × (3 ≤ size) × (size ≤ 4) × (at + layout.w * size ≤ length out.old) }
     ensures { out.new ≡ studio_row
         layout (plane_of plane.now stride) row s.now at size out.old }
 {

@@ -74,7 +74,7 @@ fn clamp(x: f32, max: u32) -> f32
 
 // A value moved onto the grid, where consecutive floats are 1 apart: the sum rounds it to a whole number, ties to even.
 fn on_grid(c: f32) -> f32
-    ensures* { do grid ← (⟦Rounding::GRID⟧).entry; ⌜ result ≡ add binary32 c grid ⌝ }
+    ensures { result ≡ add binary32 c Rounding.GRID }
 {
     c + Rounding::GRID
 }
@@ -84,7 +84,7 @@ fn on_grid(c: f32) -> f32
 // With c the limited value, the digits of c on the grid are the nearest whole number n, a tie's even neighbour.
 // c - n is exact, and 1/2 exactly where a tie went down to the even neighbour.
 pub fn round_clamped_by_grid(x: f32, max: u32) -> u32
-    ensures* { do limit ← (⟦Rounding::LIMIT⟧).entry; ⌜ Rounded (min max limit) x result ⌝ }
+    ensures { Rounded (min max Rounding.LIMIT) x result }
 {
     let c = clamp(x, least(max, Rounding::LIMIT));
     let t = on_grid(c);
@@ -102,7 +102,7 @@ pub fn round_clamped_by_grid(x: f32, max: u32) -> u32
 // 24 digits s lie below one: 150 - e, since 150 is the field of GRID, whose digits are all whole. One more of them is kept, and
 // halved upward. 126 is the field of one half, so that below it the result is 0.
 pub fn round_clamped_by_bits(x: f32, max: u32) -> u32
-    ensures* { do limit ← (⟦Rounding::WIDE⟧).entry; ⌜ Rounded (min max limit) x result ⌝ }
+    ensures { Rounded (min max Rounding.WIDE) x result }
 {
     let b = f32::to_bits(clamp(x, least(max, Rounding::WIDE)));
     let e = b / Rounding::FIELD;

@@ -28,7 +28,7 @@ pub struct Stats {
 // `Geometry::EPSILON`.
 pub fn epsilon_of(layout: Layout) -> f32
     requires { layout.maxval ≤ 65535 }
-    ensures* { do e ← (⟦Geometry::EPSILON⟧).entry; ⌜ result ≡ e ⊗ (f32 layout.maxval ⊘ f32 255) ⊗ (f32 layout.maxval ⊘ f32 255) ⌝ }
+    ensures { result ≡ Geometry.EPSILON ⊗ (f32 layout.maxval ⊘ f32 255) ⊗ (f32 layout.maxval ⊘ f32 255) }
 {
     let s = layout.maxval as f32 / 255.0;
     Geometry::EPSILON * s * s

@@ -38,7 +38,7 @@ fn value_pair(layout: Layout, s: &[f32], t: ValueInputs, i: usize) -> Pair
 fn value_block(layout: Layout, s: &[f32], t: ValueInputs, i: usize) -> [f32; Lanes::PIXELS]
     requires rh_value { (layout.rh ≡ 2) × (i + 10 ≤ layout.cw) × (2 * i + 18 ≤ layout.w) }
     requires inputs_inside { InputsInside t (3 * layout.w) layout.cw (length s.now) }
-    ensures* { do n ← (⟦Lanes::PIXELS⟧).entry; ⌜ ((k : ℕ) → k < n → get_or result k nan ≡ value_at layout s.now t (2 + 2 * i + k)) ⌝ }
+    ensures { ((k : ℕ) → k < Lanes.PIXELS → get_or result k nan ≡ value_at layout s.now t (2 + 2 * i + k)) }
 {
     let mut block = [0.0f32; Lanes::PIXELS];
     for b in 0..Lanes::CELLS {

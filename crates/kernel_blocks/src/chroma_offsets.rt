@@ -68,7 +68,7 @@ pub fn in_256ths(x: f32) -> u32
 // 273 * 75,136,000 - 1 - 20,509,039,104, the last of which is the plain form's first number.
 fn green_whole(cb: u32, cr: u32) -> u32
     requires { (cb ≤ 65536) × (cr ≤ 65536) }
-    ensures* { do bias ← (⟦Bias::GREEN⟧).entry; ⌜ Biased (green_offset (centred cb) (centred cr)) bias result ⌝ }
+    ensures { Biased (green_offset (centred cb) (centred cr)) Bias.GREEN result }
 {
     let both = (cb + cr) as u64;
     let n = 2_956_108_189 * both + 3_178_275_799 * (cr as u64) + 90_403_456_700;

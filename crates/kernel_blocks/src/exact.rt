@@ -33,8 +33,8 @@ pub fn lower(y: u32) -> i32
 
 // The luma of a block less the grid's bits, once for all three rows.
 fn lowered(y: [u32; Block::LEN]) -> [i32; Block::LEN]
-    requires* { do n ← ⟦Block::LEN⟧; ⌜ ((k : ℕ) → k < n → get_or y k 0 ≤ 65535) ⌝ }
-    ensures* { do n ← (⟦Block::LEN⟧).entry; ⌜ ((k : ℕ) → k < n → Lowered (get_or result k (pos 0)) (get_or y k 0)) ⌝ }
+    requires { ((k : ℕ) → k < Block.LEN → get_or y k 0 ≤ 65535) }
+    ensures { ((k : ℕ) → k < Block.LEN → Lowered (get_or result k (pos 0)) (get_or y k 0)) }
 {
     let mut row = [0i32; Block::LEN];
     for i in 0..Block::LEN {
@@ -45,14 +45,12 @@ fn lowered(y: [u32; Block::LEN]) -> [i32; Block::LEN]
 
 // The red or the blue row of a block, by its multiplier k; x is the chroma that it takes.
 fn chroma_row(k: f32, tie: f32, y: [i32; Block::LEN], x: [f32; Block::LEN]) -> [u8; Block::LEN]
-    requires* { do n ← ⟦Block::LEN⟧; ⌜ IsMultiplier k tie × ((i : ℕ) → i < n → Luma (get_or y i (pos 0)) × Chroma (get_or x i nan)) ⌝ }
-    ensures* { do
-      n ← (⟦Block::LEN⟧).entry
-      ⌜ ((i : ℕ) → i < n → (m l c : ℕ)
+    requires { IsMultiplier k tie × ((i : ℕ) → i < Block.LEN → Luma (get_or y i (pos 0)) × Chroma (get_or x i nan)) }
+    ensures { ((i : ℕ) → i < Block.LEN → (m l c : ℕ)
           → Multiplier k tie m
           → Lowered (get_or y i (pos 0)) l
           → Centred (get_or x i nan) c
-          → get_or result i 0 ≡ plus_chroma m l c) ⌝ }
+          → get_or result i 0 ≡ plus_chroma m l c) }
 {
     let mut row = [0u8; Block::LEN];
     for i in 0..Block::LEN {
@@ -63,8 +61,8 @@ fn chroma_row(k: f32, tie: f32, y: [i32; Block::LEN], x: [f32; Block::LEN]) -> [
 
 // 0 where green is sure at every pixel of a block. The pixels' doubts are joined without a branch, sixteen at a time.
 fn doubt(cb: [f32; Block::LEN], cr: [f32; Block::LEN]) -> u32
-    requires* { do n ← ⟦Block::LEN⟧; ⌜ ((i : ℕ) → i < n → Chroma (get_or cb i nan) × Chroma (get_or cr i nan)) ⌝ }
-    ensures* { do n ← (⟦Block::LEN⟧).entry; ⌜ (result ≡ 0 → (i : ℕ) → i < n → Sure (get_or cb i nan) (get_or cr i nan)) ⌝ }
+    requires { ((i : ℕ) → i < Block.LEN → Chroma (get_or cb i nan) × Chroma (get_or cr i nan)) }
+    ensures { (result ≡ 0 → (i : ℕ) → i < Block.LEN → Sure (get_or cb i nan) (get_or cr i nan)) }
 {
     let mut d = 0u32;
     for i in 0..Block::LEN {
@@ -75,8 +73,8 @@ fn doubt(cb: [f32; Block::LEN], cr: [f32; Block::LEN]) -> u32
 
 // The green row of a block, whose doubt decides the form of all sixteen.
 fn green_row(y: [i32; Block::LEN], cb: [f32; Block::LEN], cr: [f32; Block::LEN]) -> [u8; Block::LEN]
-    requires* { do n ← ⟦Block::LEN⟧; ⌜ Pixels n y cb cr ⌝ }
-    ensures* { do n ← (⟦Block::LEN⟧).entry; ⌜ Greens n result y cb cr ⌝ }
+    requires { Pixels Block.LEN y cb cr }
+    ensures { Greens Block.LEN result y cb cr }
 {
     let d = doubt(cb, cr);
     let mut row = [0u8; Block::LEN];
@@ -92,8 +90,8 @@ pub fn rgb_block(
     cb: [f32; Block::LEN],
     cr: [f32; Block::LEN],
 ) -> [[u8; Block::LEN]; 3]
-    requires* { do n ← ⟦Block::LEN⟧; ⌜ InLimits n y cb cr ⌝ }
-    ensures* { do n ← (⟦Block::LEN⟧).entry; ⌜ BlockOf n result y cb cr ⌝ }
+    requires { InLimits Block.LEN y cb cr }
+    ensures { BlockOf Block.LEN result y cb cr }
 {
     let low = lowered(y);
     let red = chroma_row(Multipliers::RED, Multipliers::NO_TIE, low, cr);

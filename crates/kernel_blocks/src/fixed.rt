@@ -25,9 +25,7 @@ fn index(c: u8) -> usize
 // The entries of table n at sixteen whole samples of chroma.
 fn entries(t: &[[i32; 256]], n: usize, chroma: [u8; Block::LEN]) -> [i32; Block::LEN]
     requires { (n < length t.now) × ((v : ℕ) → v < 256 → Small (table_entry t.now n v)) }
-    ensures* { do
-      l ← (⟦Block::LEN⟧).entry
-      ⌜ ((k : ℕ) → k < l → (get_or chroma k 0 < 256) × (get_or result k (pos 0) ≡ table_entry t.now n (get_or chroma k 0))) ⌝ }
+    ensures { ((k : ℕ) → k < Block.LEN → (get_or chroma k 0 < 256) × (get_or result k (pos 0) ≡ table_entry t.now n (get_or chroma k 0))) }
 {
     let mut v = [0i32; Block::LEN];
     for i in 0..Block::LEN {
@@ -54,8 +52,8 @@ fn shifted(cb_part: i32, cr_part: i32) -> i32
 
 // The red or the blue row of a block, from the offsets of its pixels.
 fn offset_row(y: [u16; Block::LEN], offset: [i32; Block::LEN]) -> [u8; Block::LEN]
-    requires* { do n ← ⟦Block::LEN⟧; ⌜ ((k : ℕ) → k < n → Small (get_or offset k (pos 0))) ⌝ }
-    ensures* { do n ← (⟦Block::LEN⟧).entry; ⌜ ((k : ℕ) → k < n → get_or result k 0 ≡ limit 255 (pos (get_or y k 0) +ℤ get_or offset k (pos 0))) ⌝ }
+    requires { ((k : ℕ) → k < Block.LEN → Small (get_or offset k (pos 0))) }
+    ensures { ((k : ℕ) → k < Block.LEN → get_or result k 0 ≡ limit 255 (pos (get_or y k 0) +ℤ get_or offset k (pos 0))) }
 {
     let mut row = [0u8; Block::LEN];
     for i in 0..Block::LEN {
@@ -70,11 +68,9 @@ fn green_row(
     cb_part: [i32; Block::LEN],
     cr_part: [i32; Block::LEN],
 ) -> [u8; Block::LEN]
-    requires* { do n ← ⟦Block::LEN⟧; ⌜ ((k : ℕ) → k < n → Small (get_or cb_part k (pos 0)) × Small (get_or cr_part k (pos 0))) ⌝ }
-    ensures* { do
-      n ← (⟦Block::LEN⟧).entry
-      ⌜ ((k : ℕ) → k < n → get_or result k 0 ≡ limit 255
-          (pos (get_or y k 0) +ℤ floor_div (get_or cb_part k (pos 0) +ℤ get_or cr_part k (pos 0)) 65536)) ⌝ }
+    requires { ((k : ℕ) → k < Block.LEN → Small (get_or cb_part k (pos 0)) × Small (get_or cr_part k (pos 0))) }
+    ensures { ((k : ℕ) → k < Block.LEN → get_or result k 0 ≡ limit 255
+          (pos (get_or y k 0) +ℤ floor_div (get_or cb_part k (pos 0) +ℤ get_or cr_part k (pos 0)) 65536)) }
 {
     let mut row = [0u8; Block::LEN];
     for i in 0..Block::LEN {
@@ -86,7 +82,7 @@ fn green_row(
 // The red row of a block.
 fn fixed_red(y: [u16; Block::LEN], cr: [u8; Block::LEN], t: &[[i32; 256]]) -> [u8; Block::LEN]
     requires { Tabled t.now }
-    ensures* { do n ← (⟦Block::LEN⟧).entry; ⌜ ((k : ℕ) → k < n → get_or result k 0 ≡ plus_fixed 91881 (get_or y k 0) (get_or cr k 0)) ⌝ }
+    ensures { ((k : ℕ) → k < Block.LEN → get_or result k 0 ≡ plus_fixed 91881 (get_or y k 0) (get_or cr k 0)) }
 {
     offset_row(y, entries(t, Table::RED, cr))
 }
@@ -99,7 +95,7 @@ fn fixed_green(
     t: &[[i32; 256]],
 ) -> [u8; Block::LEN]
     requires { Tabled t.now }
-    ensures* { do n ← (⟦Block::LEN⟧).entry; ⌜ ((k : ℕ) → k < n → get_or result k 0 ≡ (fixed255 (get_or y k 0) (get_or cb k 0) (get_or cr k 0)).green) ⌝ }
+    ensures { ((k : ℕ) → k < Block.LEN → get_or result k 0 ≡ (fixed255 (get_or y k 0) (get_or cb k 0) (get_or cr k 0)).green) }
 {
     green_row(
         y,
@@ -111,7 +107,7 @@ fn fixed_green(
 // The blue row of a block.
 fn fixed_blue(y: [u16; Block::LEN], cb: [u8; Block::LEN], t: &[[i32; 256]]) -> [u8; Block::LEN]
     requires { Tabled t.now }
-    ensures* { do n ← (⟦Block::LEN⟧).entry; ⌜ ((k : ℕ) → k < n → get_or result k 0 ≡ plus_fixed 116130 (get_or y k 0) (get_or cb k 0)) ⌝ }
+    ensures { ((k : ℕ) → k < Block.LEN → get_or result k 0 ≡ plus_fixed 116130 (get_or y k 0) (get_or cb k 0)) }
 {
     offset_row(y, entries(t, Table::BLUE, cb))
 }
@@ -124,7 +120,7 @@ pub fn fixed_block(
     t: &[[i32; 256]],
 ) -> [[u8; Block::LEN]; 3]
     requires { Tabled t.now }
-    ensures* { do n ← (⟦Block::LEN⟧).entry; ⌜ ((k : ℕ) → k < n → block_pixel result k ≡ fixed255 (get_or y k 0) (get_or cb k 0) (get_or cr k 0)) ⌝ }
+    ensures { ((k : ℕ) → k < Block.LEN → block_pixel result k ≡ fixed255 (get_or y k 0) (get_or cb k 0) (get_or cr k 0)) }
 {
     [
         fixed_red(y, cr, t),

@@ -24,8 +24,8 @@ pub fn put_pixel(dst: &mut [u8], at: usize, r: u8, g: u8, b: u8)
 
 // Inner: stores the pixels of a block from `at` on, `size` bytes each. Called with the size as a constant, it compiles to wide stores.
 pub fn put_block(dst: &mut [u8], at: usize, size: usize, rows: [[u8; Block::LEN]; 3])
-    requires* { do n ← ⟦Block::LEN⟧; ⌜ (3 ≤ size) × (at + n * size ≤ length dst.old) ⌝ }
-    ensures* { do n ← (⟦Block::LEN⟧).entry; ⌜ dst.new ≡ pixels dst.old at size (block_pixel rows) n ⌝ }
+    requires { (3 ≤ size) × (at + Block.LEN * size ≤ length dst.old) }
+    ensures { dst.new ≡ pixels dst.old at size (block_pixel rows) Block.LEN }
 {
     let mut p = at;
     for i in 0..Block::LEN {

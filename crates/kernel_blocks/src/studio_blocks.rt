@@ -13,7 +13,7 @@ use kernels::Multiplier;
 
 // The luma of a block, limited to 511.
 fn limited(y: [u32; Block::LEN]) -> [u32; Block::LEN]
-    ensures* { do n ← (⟦Block::LEN⟧).entry; ⌜ ((k : ℕ) → k < n → get_or result k 0 ≡ min (get_or y k 0) 511) ⌝ }
+    ensures { ((k : ℕ) → k < Block.LEN → get_or result k 0 ≡ min (get_or y k 0) 511) }
 {
     let mut row = [0u32; Block::LEN];
     for i in 0..Block::LEN {
@@ -24,8 +24,8 @@ fn limited(y: [u32; Block::LEN]) -> [u32; Block::LEN]
 
 // What each luma of a block adds to itself by one of the two shifts. All three rows use it.
 fn parts(l: [u32; Block::LEN], shift: f32) -> [f32; Block::LEN]
-    requires* { do n ← ⟦Block::LEN⟧; ⌜ ((k : ℕ) → k < n → get_or l k 0 ≤ 511) ⌝ }
-    ensures* { do n ← (⟦Block::LEN⟧).entry; ⌜ ((k : ℕ) → k < n → get_or result k nan ≡ luma_part shift (get_or l k 0)) ⌝ }
+    requires { ((k : ℕ) → k < Block.LEN → get_or l k 0 ≤ 511) }
+    ensures { ((k : ℕ) → k < Block.LEN → get_or result k nan ≡ luma_part shift (get_or l k 0)) }
 {
     let mut row = [0.0f32; Block::LEN];
     for i in 0..Block::LEN {
@@ -41,8 +41,8 @@ fn tone_doubts(
     more: [f32; Block::LEN],
     x: [f32; Block::LEN],
 ) -> u32
-    requires* { do n ← ⟦Block::LEN⟧; ⌜ Toned k × ((i : ℕ) → i < n → Parted (get_or less i nan) × Parted (get_or more i nan) × Chroma (get_or x i nan)) ⌝ }
-    ensures* { do n ← (⟦Block::LEN⟧).entry; ⌜ (result ≡ 0 → (i : ℕ) → i < n → tone_bits k (get_or less i nan) (get_or x i nan) ≡ tone_bits k (get_or more i nan) (get_or x i nan)) ⌝ }
+    requires { Toned k × ((i : ℕ) → i < Block.LEN → Parted (get_or less i nan) × Parted (get_or more i nan) × Chroma (get_or x i nan)) }
+    ensures { (result ≡ 0 → (i : ℕ) → i < Block.LEN → tone_bits k (get_or less i nan) (get_or x i nan) ≡ tone_bits k (get_or more i nan) (get_or x i nan)) }
 {
     let mut d = 0u32;
     for i in 0..Block::LEN {
@@ -60,8 +60,8 @@ fn tone_row(
     more: [f32; Block::LEN],
     x: [f32; Block::LEN],
 ) -> [u8; Block::LEN]
-    requires* { do n ← ⟦Block::LEN⟧; ⌜ Tone k m × ((i : ℕ) → i < n → Parts (get_or l i 0) (get_or less i nan) (get_or more i nan) × Chroma (get_or x i nan)) ⌝ }
-    ensures* { do n ← (⟦Block::LEN⟧).entry; ⌜ ((i : ℕ) → i < n → (c : ℕ) → Centred (get_or x i nan) c → get_or result i 0 ≡ studio_chroma m (get_or l i 0) c) ⌝ }
+    requires { Tone k m × ((i : ℕ) → i < Block.LEN → Parts (get_or l i 0) (get_or less i nan) (get_or more i nan) × Chroma (get_or x i nan)) }
+    ensures { ((i : ℕ) → i < Block.LEN → (c : ℕ) → Centred (get_or x i nan) c → get_or result i 0 ≡ studio_chroma m (get_or l i 0) c) }
 {
     let d = tone_doubts(k, less, more, x);
     let mut row = [0u8; Block::LEN];
@@ -78,8 +78,8 @@ fn fall_doubts(
     cb: [f32; Block::LEN],
     cr: [f32; Block::LEN],
 ) -> u32
-    requires* { do n ← ⟦Block::LEN⟧; ⌜ ((i : ℕ) → i < n → Parted (get_or less i nan) × Parted (get_or more i nan) × Chroma (get_or cb i nan) × Chroma (get_or cr i nan)) ⌝ }
-    ensures* { do n ← (⟦Block::LEN⟧).entry; ⌜ (result ≡ 0 → (i : ℕ) → i < n → fall_bits (get_or less i nan) (get_or cb i nan) (get_or cr i nan) ≡ fall_bits (get_or more i nan) (get_or cb i nan) (get_or cr i nan)) ⌝ }
+    requires { ((i : ℕ) → i < Block.LEN → Parted (get_or less i nan) × Parted (get_or more i nan) × Chroma (get_or cb i nan) × Chroma (get_or cr i nan)) }
+    ensures { (result ≡ 0 → (i : ℕ) → i < Block.LEN → fall_bits (get_or less i nan) (get_or cb i nan) (get_or cr i nan) ≡ fall_bits (get_or more i nan) (get_or cb i nan) (get_or cr i nan)) }
 {
     let mut d = 0u32;
     for i in 0..Block::LEN {
@@ -96,8 +96,8 @@ fn fall_row(
     cb: [f32; Block::LEN],
     cr: [f32; Block::LEN],
 ) -> [u8; Block::LEN]
-    requires* { do n ← ⟦Block::LEN⟧; ⌜ ((i : ℕ) → i < n → Parts (get_or l i 0) (get_or less i nan) (get_or more i nan) × Chroma (get_or cb i nan) × Chroma (get_or cr i nan)) ⌝ }
-    ensures* { do n ← (⟦Block::LEN⟧).entry; ⌜ ((i : ℕ) → i < n → (b r : ℕ) → Centred (get_or cb i nan) b → Centred (get_or cr i nan) r → get_or result i 0 ≡ (studio255 (get_or l i 0) b r).green) ⌝ }
+    requires { ((i : ℕ) → i < Block.LEN → Parts (get_or l i 0) (get_or less i nan) (get_or more i nan) × Chroma (get_or cb i nan) × Chroma (get_or cr i nan)) }
+    ensures { ((i : ℕ) → i < Block.LEN → (b r : ℕ) → Centred (get_or cb i nan) b → Centred (get_or cr i nan) r → get_or result i 0 ≡ (studio255 (get_or l i 0) b r).green) }
 {
     let d = fall_doubts(less, more, cb, cr);
     let mut row = [0u8; Block::LEN];
@@ -113,8 +113,8 @@ pub fn studio_block(
     cb: [f32; Block::LEN],
     cr: [f32; Block::LEN],
 ) -> [[u8; Block::LEN]; 3]
-    requires* { do n ← ⟦Block::LEN⟧; ⌜ InLimits n y cb cr ⌝ }
-    ensures* { do n ← (⟦Block::LEN⟧).entry; ⌜ StudioBlock n result y cb cr ⌝ }
+    requires { InLimits Block.LEN y cb cr }
+    ensures { StudioBlock Block.LEN result y cb cr }
 {
     let l = limited(y);
     let less = parts(l, Studio::LESS);

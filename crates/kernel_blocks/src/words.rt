@@ -27,11 +27,9 @@ fn fourth(dst: &[u8], p: usize, low: u32) -> u32
 
 // The words of a block's pixels, with the fourth bytes that dst holds.
 fn words(dst: &[u8], at: usize, low: u32, rows: [[u8; Block::LEN]; 3]) -> [u32; Block::LEN]
-    requires* { do n ← ⟦Block::LEN⟧; ⌜ (low ≡ 16777215) × (at + n * 4 ≤ length dst.now) ⌝ }
-    ensures* { do
-      n ← (⟦Block::LEN⟧).entry
-      ⌜ ((k : ℕ) → k < n
-          → Word (get_or result k 0) (block_pixel rows k) (get_or dst.now (at + k * 4 + 3) 0)) ⌝ }
+    requires { (low ≡ 16777215) × (at + Block.LEN * 4 ≤ length dst.now) }
+    ensures { ((k : ℕ) → k < Block.LEN
+          → Word (get_or result k 0) (block_pixel rows k) (get_or dst.now (at + k * 4 + 3) 0)) }
 {
     let mut w = [0u32; Block::LEN];
     for i in 0..Block::LEN {
@@ -57,8 +55,8 @@ fn put_word(dst: &mut [u8], p: usize, w: u32)
 
 // Inner: stores the pixels of a block from `at` on, four bytes each, by words; `low` is 2^24 - 1, as its caller computed it.
 pub fn put_words(dst: &mut [u8], at: usize, low: u32, rows: [[u8; Block::LEN]; 3])
-    requires* { do n ← ⟦Block::LEN⟧; ⌜ (low ≡ 16777215) × (at + n * 4 ≤ length dst.old) ⌝ }
-    ensures* { do n ← (⟦Block::LEN⟧).entry; ⌜ dst.new ≡ pixels dst.old at 4 (block_pixel rows) n ⌝ }
+    requires { (low ≡ 16777215) × (at + Block.LEN * 4 ≤ length dst.old) }
+    ensures { dst.new ≡ pixels dst.old at 4 (block_pixel rows) Block.LEN }
 {
     let w = words(dst, at, low, rows);
     for i in 0..Block::LEN {

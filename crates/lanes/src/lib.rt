@@ -24,8 +24,8 @@ impl Lanes {
 
 // Inner: stores a block of values in s, from `at` on.
 pub fn put_block(s: &mut [f32], at: usize, block: [f32; Lanes::PIXELS])
-    requires* { do n ← ⟦Lanes::PIXELS⟧; ⌜ at + n ≤ length s.old ⌝ }
-    ensures* { do n ← (⟦Lanes::PIXELS⟧).entry; ⌜ s.new ≡ put s.old at n (λ k. get_or block k nan) ⌝ }
+    requires { at + Lanes.PIXELS ≤ length s.old }
+    ensures { s.new ≡ put s.old at Lanes.PIXELS (λ k. get_or block k nan) }
 {
     for k in 0..Lanes::PIXELS {
         s[at + k] = block[k];

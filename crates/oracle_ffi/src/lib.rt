@@ -12,7 +12,7 @@ use fround::Rounding;
 // Inner: fround's rounding by adding the grid, as it is, for oracle/sweep.
 #[unsafe(no_mangle)]
 pub extern "C" fn chroma_inner_round_clamped_by_grid(x: f32, max: u32) -> u32
-    ensures* { do limit ← (⟦Rounding::LIMIT⟧).entry; ⌜ Rounded (min max limit) x result ⌝ }
+    ensures { Rounded (min max Rounding.LIMIT) x result }
 {
     fround::round_clamped_by_grid(x, max)
 }
@@ -20,7 +20,7 @@ pub extern "C" fn chroma_inner_round_clamped_by_grid(x: f32, max: u32) -> u32
 // Inner: fround's rounding from the float's bits, as it is, for oracle/sweep.
 #[unsafe(no_mangle)]
 pub extern "C" fn chroma_inner_round_clamped_by_bits(x: f32, max: u32) -> u32
-    ensures* { do limit ← (⟦Rounding::WIDE⟧).entry; ⌜ Rounded (min max limit) x result ⌝ }
+    ensures { Rounded (min max Rounding.WIDE) x result }
 {
     fround::round_clamped_by_bits(x, max)
 }
