@@ -1,5 +1,5 @@
 -- 'Rounding' of document 01. Definitions only.
-use Rattle.std.specs.Prelude.{Bool, true, false, not, ◌&&◌, cond, ℕ, ◌*◌, ◌≤◌, min, eqb, Float}
+use Rattle.std.specs.Prelude.{Bool, true, false, not, ◌&&◌, cond, ℕ, ◌*◌, min, eqb, Float}
 use Rattle.std.specs.Float.{nan, inf, fin, binary32}
 use Rattle.std.specs.Float.Ieee.{up, down, lt, is_nan, to_bits}
 use Rattle.laws.specs.Rounding.{half_up}

@@ -1,0 +1,6 @@
+use borrow.Author.Rules.{rules}
+use Rattle.netpbm.proofs.ascii.ends_comment.Goals as goal
+
+pub returns : goal.returns
+returns c =
+    c.either.ensures

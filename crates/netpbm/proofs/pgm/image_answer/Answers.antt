@@ -1,0 +1,19 @@
+use mathlib.Core.Path.{refl}
+use native.Mathlib.Omega.{arith}
+use Rattle.laws.proofs.Refusals.{first_folded}
+use Rattle.netpbm.specs.Inner.Held.{held_tests}
+use borrow.Author.Rules.{rules}
+use Rattle.netpbm.proofs.pgm.image_answer.Goals as goal
+
+pub overflow_add-maxval : goal.overflow_add-maxval
+overflow_add-maxval c =
+    let s = (c.before.before.before.before.before.before.before.before.before.before.before.before.before.before.before.before.before.before.before) in omega (arith, s.pre.2)
+
+pub row_bytes-requires : goal.row_bytes-requires
+row_bytes-requires c =
+    let s = (c.before.before.before.before.before.before.before.before.before.before.before.before.before.before.before.before.before.before.before) in (s.pre.0, s.pre.1)
+
+pub returns : goal.returns
+unfolding held_tests
+returns c =
+    rw (first_folded, c.then.ensures, c.rows_missing-missing.ensures, c.row_bytes.ensures.0, c.then-answer-7.ensures, c.blank_at.ensures, c.then-answer-6.ensures, c.other_maxval.ensures, c.then-answer-5.ensures, c.then-answer-4.ensures, c.then-answer-3.ensures, c.then-answer-2.ensures, c.then-answer.ensures, c.magic_at.ensures) refl

@@ -1,0 +1,6 @@
+use borrow.Author.Rules.{rules}
+use Rattle.netpbm.proofs.scan.is_space.Goals as goal
+
+pub returns : goal.returns
+returns c =
+    cc

@@ -1,0 +1,35 @@
+use mathlib.Core.Path.{◌≡◌, refl, sym, ◌∙◌}
+use mathlib.Core.Bool.{true}
+use Prim.Native.Nat.{◌-◌}
+use native.Mathlib.Omega.{arith}
+use lib.ListN.{length}
+use borrow.Author.Rules.{rules}
+use Rattle.netpbm.specs.Bytes.{has_digit}
+use Rattle.netpbm.proofs.Runs.{digit_inside}
+use Rattle.netpbm.proofs.Numbers.{Counting, counting_none, counting_more, counting_end}
+use Rattle.netpbm.proofs.scan.number_at.Goals as goal
+
+pub loop-value-init : goal.loop-value-init
+loop-value-init c =
+    counting_none _ _
+
+pub digit_value-requires : goal.digit_value-requires
+digit_value-requires c =
+    (let it : has_digit c.args.input.now c.loop-value.end ≡ true = sym c.digit_at.ensures ∙ c.loop-value-test.true in it)
+
+pub overflow_add-end : goal.overflow_add-end
+overflow_add-end c =
+    omega (arith, digit_inside _ _ ((let it : has_digit c.args.input.now c.loop-value.end ≡ true = sym c.digit_at.ensures ∙ c.loop-value-test.true in it)))
+
+pub loop-value-smaller : goal.loop-value-smaller
+loop-value-smaller c =
+    omega (arith, digit_inside _ _ ((let it : has_digit c.args.input.now c.loop-value.end ≡ true = sym c.digit_at.ensures ∙ c.loop-value-test.true in it)))
+
+pub loop-value-preserved : goal.loop-value-preserved
+loop-value-preserved c =
+    let d = c.digit_value.ensures in
+    counting_more c.loop-value.invariant ((let it : has_digit c.args.input.now c.loop-value.end ≡ true = sym c.digit_at.ensures ∙ c.loop-value-test.true in it)) _ _ d.0 c.least-value.ensures
+
+pub returns : goal.returns
+returns c =
+    counting_end c.loop-value.invariant (sym c.digit_at.ensures ∙ c.loop-value-test.false) _ refl refl

@@ -1,0 +1,26 @@
+use mathlib.Core.Path.{refl}
+use native.Mathlib.Omega.{arith}
+use borrow.Author.Rules.{rules}
+use Rattle.laws.proofs.Lists.{run_none}
+use Rattle.upsample.specs.Inner.Pairs.{sums, across_row}
+use Rattle.upsample.proofs.Axis.{pair_left, pair_right}
+use Rattle.upsample.proofs.Inside.{cells_to}
+use Rattle.laws.proofs.Lists.{run_two}
+use Rattle.upsample.proofs.across.first_cell.Goals as goal
+
+pub cell_sum-middle-requires : goal.cell_sum-middle-requires
+cell_sum-middle-requires c =
+    record { row_inside = cells_to c.requires.row_inside 0 (omega arith); row_inside_2 = cells_to c.requires.row_inside_2.0 0 (omega arith) }
+
+pub cell_sum-after-requires : goal.cell_sum-after-requires
+cell_sum-after-requires c =
+    record { row_inside = cells_to c.requires.row_inside 1 (omega arith); row_inside_2 = cells_to c.requires.row_inside_2.0 1 (omega arith) }
+
+pub returns : goal.returns
+returns c =
+    let a = c.args in
+    let v = sums a.sample_bytes a.plane.now a.near a.far in
+    (run_two (run_none a.out.now a.at (across_row a.bias a.cw v)) _ a.at 2 _ _ c.put_pair.ensures (omega arith) refl
+    (omega (arith, pair_left a.cw v a.bias 0 0 0 refl refl, c.cell_sum-middle.ensures.0))
+    (omega (arith, pair_right a.cw v a.bias 0 1 1 (omega arith) refl, c.cell_sum-middle.ensures.0, c.cell_sum-after.ensures.0))
+    ).eq

@@ -1,0 +1,27 @@
+use Prim.Native.Nat.{◌-◌, ◌≤◌}
+use native.Mathlib.Omega.{arith}
+use Rattle.laws.proofs.Lists.{Rows, rows_none, rows_more, rows_end}
+use Rattle.image.specs.Samples.{sample_at, plane_of}
+use Rattle.upsample.specs.Triangular.{triangular_sample, triangular_plane}
+use Rattle.upsample.proofs.plane.triangular.Goals as goal
+
+pub loop-y-init : goal.loop-y-init
+loop-y-init c =
+    (omega arith, rows_none _ _ _)
+
+pub triangular_row-requires : goal.triangular_row-requires
+triangular_row-requires c =
+    record { out_value = rw c.loop-y.invariant.1.len c.requires; y_lt_h = omega arith }
+
+pub loop-y-preserved : goal.loop-y-preserved
+loop-y-preserved c =
+    (omega arith, rows_more c.loop-y.invariant.1 _ c.triangular_row.ensures)
+
+pub shape_of-out : goal.shape_of-out
+shape_of-out c =
+    c.loop-y.invariant.1.len
+
+pub returns : goal.returns
+unfolding triangular_plane
+returns c =
+    rows_end c.loop-y.invariant.1 _ (omega arith) (omega arith)
