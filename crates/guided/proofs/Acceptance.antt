@@ -17,7 +17,7 @@ use Rattle.image.specs.Tests.{bad_siting, layout_tests}
 use Rattle.image.specs.Inner.Tests.{Sound}
 use Rattle.image.specs.Picture.{bad_planes}
 use Rattle.image.specs.Limits.{above_any}
-use Rattle.image.proofs.Layouts.{neither, sound, sound_answer}
+use Rattle.image.proofs.Layouts.{neither, sound_answer}
 use Rattle.image.specs.Scratch.{scratch_need}
 use Rattle.guided.specs.declared.state.Reader.{Reader}
 use Rattle.guided.specs.Calls.{reader_layout, fresh_h, fresh_f, done_h, done_f, bad_phases, bad_counters, bad_state, OpenCall, SeekCall, RowCall, open_tests, seek_tests, row_tests}

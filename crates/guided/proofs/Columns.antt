@@ -2,8 +2,8 @@
 -- Where a put is read back Places says so, and all else is kept. The hard step is `down_part` and `down_slope`: the rows that row y takes from
 -- are among the last three that the window holds, by `Taken`, so that lerping them is lerping the picture's.
 use mathlib.Core.Path.{◌≡◌, refl, ◌∙◌}
-use mathlib.Core.List.{List, []}
-use Prim.Native.Nat.{ℕ, ◌+◌, ◌*◌, ◌/◌, ◌%◌, ◌≤◌, ◌<◌}
+use mathlib.Core.List.{List}
+use Prim.Native.Nat.{ℕ, ◌+◌, ◌*◌, ◌/◌, ◌%◌, ◌<◌}
 use native.Mathlib.Omega.{arith}
 use lib.ListN.{length, get_or}
 use lib.Ieee.{Float, nan}
@@ -12,9 +12,8 @@ use Rattle.laws.specs.Lists.{put}
 use Rattle.laws.proofs.Lists.{length_put, put_inside}
 use Rattle.image.specs.Inner.Tests.{Sound}
 use Rattle.image.specs.declared.chroma.Chroma.{Chroma}
-use Rattle.image.specs.declared.chroma.Chroma.TheVariants.{Cb, Cr}
 use Rattle.image.specs.Picture.{Picture}
-use Rattle.image.specs.Scratch.{scratch_need, cell_at}
+use Rattle.image.specs.Scratch.{cell_at}
 use Rattle.guided.specs.Guided.{Luma, Cell, across_val, down_to, detail_of, slope, guided_sample}
 use Rattle.guided.specs.Scratch.{finished_at, detail_at, slot_at, result_at, column_at, Stored, Lumas, part_of, Down, Slope, num_stored, num_down, read_stored, read_across, read_down, luma_column, detail_row, component_columns}
 use Rattle.guided.specs.Calls.{top_of, done_h, done_f}

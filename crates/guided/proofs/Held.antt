@@ -5,7 +5,7 @@
 use mathlib.Core.Path.{◌≡◌, refl, sym, ap, ◌∙◌, subst}
 use mathlib.Core.Logic.{◌≢◌, ◌⊎◌, inl, inr}
 use mathlib.Core.List.{List, [], ◌∷◌, ◌++◌}
-use Prim.Native.Nat.{ℕ, ◌+◌, ◌-◌, ◌*◌, ◌%◌, ◌≤◌, ◌<◌}
+use Prim.Native.Nat.{ℕ, ◌+◌, ◌*◌, ◌%◌, ◌<◌}
 use native.Mathlib.Omega.{arith}
 use native.Mathlib.Decide.{ℕ_discrete}
 use lib.ListN.{length, get_or}
@@ -18,8 +18,8 @@ use Rattle.image.specs.declared.chroma.Chroma.{Chroma}
 use Rattle.image.specs.declared.chroma.Chroma.TheVariants.{Cb, Cr}
 use Rattle.image.specs.Picture.{Picture}
 use Rattle.fround.specs.Rounding.{fmin, fmax}
-use Rattle.image.specs.Scratch.{scratch_need, cell_at}
-use Rattle.guided.specs.Guided.{Across, Luma, LumaSum, SquareSum, Cell, CellSum, ProductSum, three, across_val, cell_of, extreme, slope}
+use Rattle.image.specs.Scratch.{cell_at}
+use Rattle.guided.specs.Guided.{CellSum, across_val, cell_of, extreme, slope}
 use Rattle.guided.specs.Scratch.{buffer_at, slot_at, Stored, Lumas, LumaSums, SquareSums, Cells, ProductSums, part_of, Down, Slope, Least, Greatest, num_stored, num_down, read_stored, read_across, read_down, chroma_parts, parts, slope_parts, extreme_parts, down_parts, across_over}
 use Rattle.guided.proofs.Congruence.{three_cong}
 use Rattle.guided.proofs.Places.{Room, buffer_other, slot_same, slot_other}

@@ -2,7 +2,7 @@
 -- A slope looks one cell round its own cell and the lerps look one cell round that, so two cells in all. Each step is a law of Congruence; how
 -- far the cells are is arithmetic over `Taken`.
 use mathlib.Core.Path.{◌≡◌, refl, sym, ap, ap₂, ◌∙◌}
-use Prim.Native.Nat.{ℕ, zero, suc, ◌+◌, ◌-◌, ◌*◌, ◌/◌, ◌<◌, min}
+use Prim.Native.Nat.{ℕ, ◌+◌, ◌-◌, ◌*◌, ◌/◌, ◌<◌, min}
 use native.Mathlib.Nat.{mul-add-div_right, div-eq_of_lt, add-zero}
 use native.Mathlib.Omega.{arith}
 use lib.Ieee.{Float}

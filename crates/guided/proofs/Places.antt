@@ -9,7 +9,7 @@ use Prim.Native.Nat.{ℕ, ◌+◌, ◌-◌, ◌*◌, ◌/◌, ◌%◌, ◌≤◌
 use native.Mathlib.Nat.{le_trans}
 use native.Mathlib.Omega.{arith}
 use native.Mathlib.Decide.{dec_lt}
-use lib.Dec.{T, leb, leb→le, lit≤}
+use lib.Dec.{leb, lit≤}
 use lib.ListN.{length, get_or}
 use lib.Ieee.{Float, nan}
 use Rattle.laws.specs.Lists.{put}

@@ -4,7 +4,7 @@
 use mathlib.Core.Path.{◌≡◌, refl, sym, ◌∙◌, subst}
 use mathlib.Core.Logic.{◌≢◌, inl, inr}
 use mathlib.Core.List.{List, [], ◌∷◌}
-use Prim.Native.Nat.{ℕ, ◌+◌, ◌*◌, ◌%◌, ◌≤◌, ◌<◌}
+use Prim.Native.Nat.{ℕ, ◌+◌, ◌*◌, ◌%◌, ◌<◌}
 use native.Mathlib.Omega.{arith}
 use native.Mathlib.Decide.{ℕ_discrete}
 use lib.ListN.{length}
@@ -13,7 +13,7 @@ use Rattle.laws.specs.Lists.{put}
 use Rattle.laws.proofs.Lists.{length_put}
 use Rattle.image.specs.declared.chroma.Chroma.{Chroma}
 use Rattle.image.specs.Picture.{Picture}
-use Rattle.image.specs.Scratch.{scratch_need, cell_at}
+use Rattle.image.specs.Scratch.{cell_at}
 use Rattle.guided.specs.Guided.{across_val, slope}
 use Rattle.guided.specs.Scratch.{buffer_at, slot_at, result_at, Stored, LumaSums, SquareSums, Cells, ProductSums, Down, Slope, Least, Greatest, num_stored, num_down, read_stored, read_across, read_down, parts, down_parts, down_of, down_over, horizontal, finish}
 use Rattle.guided.proofs.Places.{Room, buffer_other, result_same, result_other, result_slot}

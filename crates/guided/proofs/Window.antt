@@ -14,7 +14,6 @@ use Rattle.image.specs.declared.layout.Layout.{Layout}
 use Rattle.image.specs.Inner.Tests.{Sound}
 use Rattle.image.specs.declared.chroma.Chroma.{Chroma}
 use Rattle.image.specs.Picture.{Picture}
-use Rattle.image.specs.Scratch.{scratch_need}
 use Rattle.guided.specs.Scratch.{horizontal, finish, across_rows, h_at, catch_up}
 use Rattle.guided.specs.Calls.{top_of, last_of, fresh_h, fresh_f, done_h, done_f}
 use Rattle.guided.proofs.Places.{Room}

@@ -30,7 +30,7 @@ use Rattle.image.specs.Scratch.{scratch_need}
 use Rattle.guided.specs.declared.state.Reader.{Reader}
 use Rattle.guided.specs.Guided.{three, luma_of, extreme_of, cell_luma, cell_of, across_val, extreme, epsilon, mean, slope_of, down_to, across_to, detail_of, value_of, slope, guided_sample, guided_row}
 use Rattle.guided.specs.Calls.{geometry_of, reader_layout, reader_at, after_open, after_seek, after_row, bad_state, OpenCall, SeekCall, RowCall, open_tests, seek_tests, row_tests, row_scratch, row_out, Bytes}
-use Rattle.guided.specs.Events.{RowEvent, Event, Opened, Sought, Rowed, RanRow, Ran, AllRan, done, Start, picture_by, moved, next, Handed, Premise, Gives, here, later, given, Run}
+use Rattle.guided.specs.Events.{RowEvent, Event, Opened, Sought, Rowed, RanRow, Ran, AllRan, done, Start, picture_by, moved, next, Handed, Premise, Gives, here, later, given}
 use Rattle.guided.proofs.FinishedRows.{length_row}
 use Rattle.guided.proofs.LeftStates.{after_open_passes, after_seek_passes, after_row_passes}
 use Rattle.guided.proofs.Runs.{shows_own}

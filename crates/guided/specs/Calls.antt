@@ -1,18 +1,15 @@
 -- Open, seek and row: what they are handed, what they answer, and what they leave. Definitions only.
-use Rattle.std.specs.Prelude.{◌≡◌, Bool, true, false, ◌&&◌, ◌||◌, not, cond, List, [], ◌∷◌, ◌++◌, ℕ, ◌+◌, ◌-◌, ◌*◌, ◌/◌, ◌<◌, min, max, leb, ltb, eqb, length, get_or, Float}
+use Rattle.std.specs.Prelude.{◌≡◌, Bool, false, ◌&&◌, ◌||◌, not, cond, List, [], ◌∷◌, ◌++◌, ℕ, ◌+◌, ◌-◌, ◌/◌, ◌<◌, min, max, leb, ltb, eqb, length, get_or, Float}
 use Rattle.std.specs.Bool.{beq}
 use Rattle.std.specs.Float.{nan}
-use Rattle.laws.specs.declared.answers.Answer.{Answer}
 use Rattle.laws.specs.Axes.{plain}
-use Rattle.laws.specs.Floats.{f32}
 use Rattle.laws.specs.Lists.{put}
 use Rattle.laws.specs.Refusals.{Test, first, accepted}
 use Rattle.image.specs.declared.layout.Layout.{Layout}
 use Rattle.image.specs.Tests.{bad_siting, layout_tests}
-use Rattle.image.specs.Samples.{Plane}
 use Rattle.image.specs.declared.chroma.Chroma.{Chroma}
 use Rattle.image.specs.declared.chroma.Chroma.TheVariants.{Cb, Cr}
-use Rattle.image.specs.Picture.{Picture, Planes, chroma_plane, picture_of, bad_planes}
+use Rattle.image.specs.Picture.{Planes, chroma_plane, picture_of, bad_planes}
 use Rattle.image.specs.Limits.{above_any}
 use Rattle.fround.specs.Rounding.{is_same_float}
 use Rattle.taps.specs.declared.phases.Phase.{Phase}

@@ -1,9 +1,8 @@
 -- 'Lists of calls' of document 01, and demand 3 over every list of open, seek and row: each call with what it was handed and what it gave, tied to the code by the records that the contracts are. Definitions only.
-use Rattle.std.specs.Prelude.{◌≡◌, Bool, true, false, cond, List, [], ◌∷◌, ℕ, ◌+◌, ◌-◌, ◌/◌, ◌≤◌, ◌<◌, min, max, T, take, get_or, Float}
+use Rattle.std.specs.Prelude.{◌≡◌, Bool, false, cond, List, [], ◌∷◌, ℕ, ◌+◌, ◌-◌, ◌/◌, ◌≤◌, ◌<◌, min, max, T, take, get_or, Float}
 use Rattle.std.specs.Float.Ieee.{le, is_nan}
 use Rattle.laws.specs.Floats.{f32}
 use Rattle.laws.specs.Refusals.{accepted}
-use Rattle.image.specs.declared.layout.Layout.{Layout}
 use Rattle.image.specs.Samples.{sample_at}
 use Rattle.image.specs.declared.chroma.Chroma.{Chroma}
 use Rattle.image.specs.declared.chroma.Chroma.TheVariants.{Cb, Cr}

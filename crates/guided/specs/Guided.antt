@@ -1,5 +1,5 @@
 -- 'Guided' of document 01: a sample and a row, from a picture, a component and a row number alone. Every operation is rounded once, in the order written. Definitions only.
-use Rattle.std.specs.Prelude.{Bool, true, false, cond, List, ℕ, ◌+◌, ◌-◌, ◌*◌, ◌/◌, ◌%◌, min, Float}
+use Rattle.std.specs.Prelude.{cond, List, ℕ, ◌+◌, ◌-◌, ◌*◌, ◌/◌, ◌%◌, min, Float}
 use Rattle.laws.specs.Floats.{f32, ◌⊕◌, ◌⊖◌, ◌⊗◌, ◌⊘◌}
 use Rattle.laws.specs.Lists.{table}
 use Rattle.laws.specs.Sums.{sum_to}
@@ -7,8 +7,6 @@ use Rattle.image.specs.declared.layout.Layout.{Layout}
 use Rattle.image.specs.declared.chroma.Chroma.{Chroma}
 use Rattle.image.specs.Picture.{Picture}
 use Rattle.fround.specs.Rounding.{fmin, fmax}
-use Rattle.taps.specs.declared.positions.Tap.{Tap}
-use Rattle.taps.specs.declared.phases.Phase.{Phase}
 use Rattle.taps.specs.Taps.{lerp_of, tap_of, phase_of}
 
 -- "(left + middle) + right", and likewise down, of n values "with edges repeated"

@@ -1,6 +1,5 @@
 -- What scratch holds: where each row lies, and what the steps of a row call leave. The papers leave scratch free; these definitions are what the contracts say of it. Definitions only.
-use Rattle.std.specs.Prelude.{cond, List, [], ◌∷◌, ◌++◌, ℕ, zero, suc, ◌+◌, ◌-◌, ◌*◌, ◌/◌, ◌%◌, min, max, leb, get_or, Float}
-use Rattle.std.specs.Float.{nan}
+use Rattle.std.specs.Prelude.{cond, List, [], ◌∷◌, ◌++◌, ℕ, zero, suc, ◌+◌, ◌-◌, ◌*◌, ◌/◌, ◌%◌, min, max, leb, Float}
 use Rattle.laws.specs.Floats.{f32, ◌⊕◌}
 use Rattle.laws.specs.Lists.{put}
 use Rattle.image.specs.declared.layout.Layout.{Layout}
