@@ -16,7 +16,7 @@ use Rattle.laws.specs.declared.axes.Siting.{Siting}
 use Rattle.laws.specs.declared.axes.Siting.TheVariants.{Centred, CoSited}
 use Rattle.laws.specs.declared.axes.Axis.{Axis}
 use Rattle.taps.specs.declared.positions.Tap.{Tap}
-use Rattle.taps.specs.Taps.{lerp_of, fraction_of, Spot, spot_at, sited_at, spot_of, tap_on, tap_by}
+use Rattle.taps.specs.Taps.{lerp_of, spot_at, sited_at, spot_of, tap_on, tap_by}
 use Rattle.linear.specs.Linear.{across_by}
 use Rattle.linear.specs.Inner.AcrossRows.{head_of, lead_of, part_of, parts_in, between_at, between_run, across_run}
 use Rattle.image.specs.Scratch.{cell_at}

@@ -3,8 +3,8 @@
 use mathlib.Core.Path.{◌≡◌, refl, sym, ap, ◌∙◌, subst}
 use mathlib.Core.Bool.{Bool, true, false, ◌&&◌}
 use mathlib.Core.Logic.{inl, inr}
-use Prim.Native.Nat.{ℕ, zero, suc, ◌+◌, ◌-◌, ◌*◌, ◌/◌, ◌^◌, ◌≤◌, ◌<◌, min}
-use native.Mathlib.Nat.{one-mul, le_trans, le_of_lt, mul-le-mul, mul-pos, mul-le-mul_right, div-eq_of_lt, eq-or-lt_of_le, le_of_suc-le-suc, not-suc-le-zero, eq-zero-or-pos, mod-lt}
+use Prim.Native.Nat.{ℕ, ◌+◌, ◌-◌, ◌*◌, ◌/◌, ◌^◌, ◌≤◌, ◌<◌, min}
+use native.Mathlib.Nat.{one-mul, le_trans, le_of_lt, mul-le-mul, mul-pos, div-eq_of_lt, le_of_suc-le-suc, eq-zero-or-pos, mod-lt}
 use native.Mathlib.Omega.{arith}
 use lib.Dec.{T, eqb, eqb→eq, leb, leb→le, lit≤}
 use lib.Pow.{pow-add, pow_pos, pow_mono}

@@ -5,13 +5,13 @@ use mathlib.Core.Path.{◌≡◌, ap, ◌∙◌}
 use Prim.Native.Nat.{ℕ, ◌+◌, ◌-◌, ◌*◌, ◌/◌, ◌%◌, ◌≤◌, ◌<◌, min}
 use native.Mathlib.Nat.{mul-le-mul_right, mul-div_cancel, mul-mod_left, div-lt_iff_lt-mul, le-div_iff_mul-le}
 use native.Mathlib.Omega.{arith}
-use lib.Ieee.{Float, nan, inf, fin, up, down}
+use lib.Ieee.{Float, nan, inf, fin, down}
 use Rattle.laws.specs.declared.axes.Siting.{Siting}
 use Rattle.laws.specs.declared.axes.Siting.TheVariants.{Centred, CoSited}
 use Rattle.laws.specs.declared.axes.Axis.{Axis}
 use Rattle.laws.specs.Inner.Floats.{NearFraction}
 use Rattle.laws.proofs.Nearness.{near_widen, near_aim}
-use Rattle.taps.specs.Taps.{Spot, on_cell, spot_at, spot_of}
+use Rattle.taps.specs.Taps.{Spot, on_cell, spot_of}
 use Rattle.taps.proofs.Spots.{between, by_centred, by_co_sited, by_place}
 use Rattle.linear.specs.Bound.{Position, centred_at, co_sited_at, placed_at, exact_between, exact_num, exact_den, Sixteenth}
 use Rattle.linear.proofs.Bound.{mix, spot_num, spot_den}

@@ -1,6 +1,6 @@
 -- What the inner functions hold of one image: the definitions of Bytes and Images, with numbers past 65,536 held as 65,536, so that no
 -- product of two wraps. proofs/Products says why no test is changed by that. Definitions only.
-use Rattle.std.specs.Prelude.{◌≡◌, Bool, true, false, ◌&&◌, ◌||◌, not, List, [], ◌∷◌, ℕ, ◌+◌, ◌-◌, ◌*◌, min, ltb, eqb, length, get_or}
+use Rattle.std.specs.Prelude.{Bool, true, false, ◌&&◌, ◌||◌, not, List, [], ◌∷◌, ℕ, ◌+◌, ◌-◌, ◌*◌, min, ltb, eqb, length, get_or}
 use Rattle.laws.specs.Refusals.{Test, first, accepted}
 use Rattle.laws.specs.Numbers.{outside_of}
 use Rattle.netpbm.specs.declared.scan.Number.{Number}

@@ -1,4 +1,3 @@
-use borrow.Author.Rules.{rules}
 use Rattle.netpbm.proofs.ascii.ends_comment.Goals as goal
 
 pub returns : goal.returns

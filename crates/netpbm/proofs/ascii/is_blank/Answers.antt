@@ -1,4 +1,3 @@
-use borrow.Author.Rules.{rules}
 use Rattle.netpbm.proofs.ascii.is_blank.Goals as goal
 
 pub returns : goal.returns

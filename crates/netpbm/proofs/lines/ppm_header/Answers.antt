@@ -2,24 +2,15 @@
 -- a width has three digits at most and a height four, so that every part fits 16 bytes.
 use mathlib.Core.List.{append_assoc}
 use native.Mathlib.Omega.{arith}
-use borrow.Author.Rules.{rules}
 use Rattle.netpbm.specs.Lines.{ppm_header}
 use Rattle.netpbm.proofs.Digits.{three_most, four_most, header_most}
 use Rattle.netpbm.proofs.Written.{written_on, line_written}
 use Rattle.netpbm.proofs.lines.ppm_header.Goals as goal
 
--- LEFT
--- slice-aggregate-put : tie.Need-slice-aggregate-put
--- slice-aggregate-put c = search rules
-
 pub put_number-requires : goal.put_number-requires
 put_number-requires c =
     let w = three_most c.args.w (omega arith) in
     record { n_bound = omega arith; n_bound_2 = omega arith }
-
--- LEFT
--- slice-aggregate-put-2 : tie.Need-slice-aggregate-put-2
--- slice-aggregate-put-2 c = search rules
 
 pub put-requires : goal.put-requires
 put-requires c =
@@ -31,10 +22,6 @@ put_number-sides-requires c =
     let w = three_most a.w (omega arith) in
     let h = four_most a.h in
     record { n_bound = omega arith; n_bound_2 = omega arith }
-
--- LEFT
--- slice-aggregate-put-3 : tie.Need-slice-aggregate-put-3
--- slice-aggregate-put-3 c = search rules
 
 pub put-requires-2 : goal.put-requires-2
 put-requires-2 c =

@@ -2,24 +2,15 @@
 -- number is a byte, so that it has three digits at most (`three_most`).
 use mathlib.Core.Path.{refl}
 use native.Mathlib.Omega.{arith}
-use borrow.Author.Rules.{rules}
 use Rattle.netpbm.specs.Lines.{refusal_line}
 use Rattle.netpbm.proofs.Digits.{three_most, refusal_most}
 use Rattle.netpbm.proofs.Written.{written_on, line_written}
 use Rattle.netpbm.proofs.lines.refusal_line.Goals as goal
 
--- LEFT
--- slice-aggregate-put : tie.Need-slice-aggregate-put
--- slice-aggregate-put c = search rules
-
 pub put_number-requires : goal.put_number-requires
 put_number-requires c =
     let n = three_most c.args.n (omega arith) in
     record { n_bound = omega arith; n_bound_2 = omega arith }
-
--- LEFT
--- slice-aggregate-put-2 : tie.Need-slice-aggregate-put-2
--- slice-aggregate-put-2 c = search rules
 
 pub put-requires-2 : goal.put-requires-2
 put-requires-2 c =

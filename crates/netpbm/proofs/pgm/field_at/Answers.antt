@@ -1,5 +1,4 @@
 use mathlib.Core.Path.{refl}
-use borrow.Author.Rules.{rules}
 use Rattle.netpbm.specs.Images.{has_number, field_of, field_end}
 use Rattle.netpbm.specs.Inner.Held.{number_held, field_held}
 use Rattle.netpbm.proofs.Runs.{space_is}

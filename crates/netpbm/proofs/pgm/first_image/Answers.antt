@@ -2,7 +2,6 @@ use mathlib.Core.Path.{ap, ◌∙◌}
 use native.Mathlib.Omega.{arith}
 use Rattle.netpbm.specs.declared.pgm.Header.{Header}
 use Rattle.netpbm.proofs.Fields.{maxval_held}
-use borrow.Author.Rules.{rules}
 use Rattle.netpbm.proofs.pgm.first_image.Goals as goal
 
 pub header_at-header-requires : goal.header_at-header-requires

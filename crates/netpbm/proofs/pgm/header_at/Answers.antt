@@ -1,6 +1,4 @@
-use native.Mathlib.Omega.{arith}
 use Rattle.netpbm.proofs.Fields.{header_of}
-use borrow.Author.Rules.{rules}
 use Rattle.netpbm.proofs.pgm.header_at.Goals as goal
 
 pub returns : goal.returns

@@ -3,7 +3,6 @@ use mathlib.Core.Bool.{true}
 use borrow.Author.Tests.{not-true, not-false}
 use Rattle.laws.specs.Refusals.{accepted}
 use Rattle.netpbm.specs.Inner.Held.{image_behind}
-use borrow.Author.Rules.{rules}
 use Rattle.netpbm.proofs.pgm.image_after.Goals as goal
 
 pub returns-then-refused : goal.returns-then-refused

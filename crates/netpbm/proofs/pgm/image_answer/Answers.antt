@@ -2,16 +2,15 @@ use mathlib.Core.Path.{refl}
 use native.Mathlib.Omega.{arith}
 use Rattle.laws.proofs.Refusals.{first_folded}
 use Rattle.netpbm.specs.Inner.Held.{held_tests}
-use borrow.Author.Rules.{rules}
 use Rattle.netpbm.proofs.pgm.image_answer.Goals as goal
 
 pub overflow_add-maxval : goal.overflow_add-maxval
 overflow_add-maxval c =
-    let s = (c.before.before.before.before.before.before.before.before.before.before.before.before.before.before.before.before.before.before.before) in omega (arith, s.pre.2)
+    omega (arith, c.requires.2)
 
 pub row_bytes-requires : goal.row_bytes-requires
 row_bytes-requires c =
-    let s = (c.before.before.before.before.before.before.before.before.before.before.before.before.before.before.before.before.before.before.before) in (s.pre.0, s.pre.1)
+    (c.requires.0, c.requires.1)
 
 pub returns : goal.returns
 unfolding held_tests

@@ -1,10 +1,9 @@
-use mathlib.Core.Path.{◌≡◌, refl, ap}
+use mathlib.Core.Path.{ap}
 use Prim.Native.Nat.{ℕ, ◌*◌, ◌≤◌}
 use native.Mathlib.Nat.{mul-le-mul}
 use native.Mathlib.Omega.{arith}
 use Rattle.netpbm.specs.Inner.Held.{rows_held}
 use Rattle.netpbm.proofs.Products.{bytes_most}
-use borrow.Author.Rules.{rules}
 use Rattle.netpbm.proofs.pgm.row_bytes.Goals as goal
 
 pub overflow_mul-result : goal.overflow_mul-result

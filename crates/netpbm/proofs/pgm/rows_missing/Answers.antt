@@ -1,7 +1,6 @@
 use mathlib.Core.Path.{◌≡◌, refl}
 use Prim.Native.Nat.{◌-◌}
 use native.Mathlib.Omega.{arith}
-use borrow.Author.Rules.{rules}
 use Rattle.netpbm.proofs.pgm.rows_missing.Goals as goal
 
 pub returns-then-len-rows : goal.returns-then-len-rows

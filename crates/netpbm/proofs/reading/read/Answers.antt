@@ -1,6 +1,4 @@
 use mathlib.Core.Path.{◌∙◌}
-use native.Mathlib.Omega.{arith}
-use borrow.Author.Rules.{rules}
 use Rattle.netpbm.proofs.Whole.{held_fits, first_most, second_of, three_of, reading_is, read_long}
 use Rattle.netpbm.proofs.reading.read.Goals as goal
 

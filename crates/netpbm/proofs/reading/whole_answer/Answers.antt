@@ -1,4 +1,3 @@
-use borrow.Author.Rules.{rules}
 use Rattle.netpbm.specs.Inner.HeldInput.{answer_held}
 use Rattle.netpbm.proofs.reading.whole_answer.Goals as goal
 

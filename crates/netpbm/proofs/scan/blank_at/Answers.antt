@@ -1,4 +1,3 @@
-use borrow.Author.Rules.{rules}
 use Rattle.netpbm.specs.Bytes.{has_blank}
 use Rattle.netpbm.proofs.Runs.{blank_outside}
 use Rattle.netpbm.proofs.scan.blank_at.Goals as goal

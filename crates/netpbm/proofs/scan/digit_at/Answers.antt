@@ -1,4 +1,3 @@
-use borrow.Author.Rules.{rules}
 use Rattle.netpbm.specs.Bytes.{has_digit}
 use Rattle.netpbm.proofs.Runs.{digit_outside}
 use Rattle.netpbm.proofs.scan.digit_at.Goals as goal

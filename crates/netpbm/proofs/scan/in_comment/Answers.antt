@@ -1,5 +1,4 @@
 use mathlib.Core.Path.{refl}
-use borrow.Author.Rules.{rules}
 use Rattle.netpbm.proofs.scan.in_comment.Goals as goal
 
 pub returns-then-inside : goal.returns-then-inside

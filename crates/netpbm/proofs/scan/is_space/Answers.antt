@@ -1,4 +1,3 @@
-use borrow.Author.Rules.{rules}
 use Rattle.netpbm.proofs.scan.is_space.Goals as goal
 
 pub returns : goal.returns

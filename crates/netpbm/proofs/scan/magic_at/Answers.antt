@@ -1,5 +1,4 @@
 use native.Mathlib.Omega.{arith}
-use borrow.Author.Rules.{rules}
 use Rattle.netpbm.specs.Images.{has_magic}
 use Rattle.netpbm.proofs.Runs.{magic_outside}
 use Rattle.netpbm.proofs.scan.magic_at.Goals as goal

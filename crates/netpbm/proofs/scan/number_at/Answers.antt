@@ -1,12 +1,9 @@
 use mathlib.Core.Path.{◌≡◌, refl, sym, ◌∙◌}
 use mathlib.Core.Bool.{true}
-use Prim.Native.Nat.{◌-◌}
 use native.Mathlib.Omega.{arith}
-use lib.ListN.{length}
-use borrow.Author.Rules.{rules}
 use Rattle.netpbm.specs.Bytes.{has_digit}
 use Rattle.netpbm.proofs.Runs.{digit_inside}
-use Rattle.netpbm.proofs.Numbers.{Counting, counting_none, counting_more, counting_end}
+use Rattle.netpbm.proofs.Numbers.{counting_none, counting_more, counting_end}
 use Rattle.netpbm.proofs.scan.number_at.Goals as goal
 
 pub loop-value-init : goal.loop-value-init

@@ -1,15 +1,9 @@
 -- The loop's invariant is `Counting` of Numbers: the value so far, with the digits that are left behind it, makes the number as it is held.
 -- That a value may be limited before its last digit is the hard step, and stands there (`counting_more`); here it remains that a digit
 -- stands inside the input (`digit_inside`), so that `end` doesn't wrap and the loop ends.
-use mathlib.Core.Path.{◌≡◌, refl, sym, ◌∙◌}
-use mathlib.Core.Bool.{true}
 use Prim.Native.Nat.{◌-◌}
-use native.Mathlib.Omega.{arith}
 use lib.ListN.{length}
-use borrow.Author.Rules.{rules}
-use Rattle.netpbm.specs.Bytes.{has_digit}
-use Rattle.netpbm.proofs.Runs.{digit_inside}
-use Rattle.netpbm.proofs.Numbers.{Counting, counting_none, counting_more, counting_end}
+use Rattle.netpbm.proofs.Numbers.{Counting}
 use Rattle.netpbm.proofs.scan.number_at.Given as goal
 
 abbrev pub invariant-loop-value : goal.invariant-loop-value

@@ -1,10 +1,7 @@
 use mathlib.Core.Path.{◌≡◌, refl, sym, ◌∙◌}
 use mathlib.Core.Bool.{true}
-use Prim.Native.Nat.{◌+◌, ◌-◌}
 use native.Mathlib.Omega.{arith}
-use lib.ListN.{length, drop}
-use borrow.Author.Rules.{rules}
-use Rattle.netpbm.specs.Bytes.{spaces, past_spaces}
+use Rattle.netpbm.specs.Bytes.{past_spaces}
 use Rattle.netpbm.specs.Inner.Held.{space_held}
 use Rattle.netpbm.proofs.Runs.{space_inside, spaces_more, spaces_end}
 use Rattle.netpbm.proofs.scan.skip_spaces.Goals as goal

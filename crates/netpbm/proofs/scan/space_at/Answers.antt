@@ -1,5 +1,4 @@
 use mathlib.Core.Path.{◌∙◌}
-use borrow.Author.Rules.{rules}
 use Rattle.netpbm.proofs.Runs.{space_here, space_outside}
 use Rattle.netpbm.proofs.scan.space_at.Goals as goal
 

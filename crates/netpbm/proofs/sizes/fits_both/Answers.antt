@@ -1,5 +1,4 @@
 use mathlib.Core.Path.{refl}
-use borrow.Author.Rules.{rules}
 use Rattle.netpbm.proofs.sizes.fits_both.Goals as goal
 
 pub returns : goal.returns

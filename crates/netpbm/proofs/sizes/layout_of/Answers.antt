@@ -1,7 +1,6 @@
 use mathlib.Core.Path.{refl}
 use native.Mathlib.Omega.{arith}
 use Rattle.netpbm.specs.Inner.HeldInput.{layout_held}
-use borrow.Author.Rules.{rules}
 use Rattle.netpbm.proofs.sizes.layout_of.Goals as goal
 
 pub overflow_cast-result : goal.overflow_cast-result

@@ -1,4 +1,3 @@
-use borrow.Author.Rules.{rules}
 use Rattle.netpbm.specs.Reading.{no_ratio}
 use Rattle.netpbm.proofs.sizes.no_ratio.Goals as goal
 

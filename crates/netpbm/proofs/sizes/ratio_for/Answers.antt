@@ -1,8 +1,5 @@
 use mathlib.Core.Path.{sym, ◌∙◌}
-use Prim.Native.Nat.{◌-◌}
-use native.Mathlib.Omega.{arith}
-use borrow.Author.Rules.{rules}
-use Rattle.netpbm.proofs.Ratios.{Tried, tried_none, tried_more, tried_here, tried_all}
+use Rattle.netpbm.proofs.Ratios.{tried_none, tried_more, tried_here, tried_all}
 use Rattle.netpbm.proofs.sizes.ratio_for.Goals as goal
 
 pub loop-r-init : goal.loop-r-init

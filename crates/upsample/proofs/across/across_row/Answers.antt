@@ -1,7 +1,6 @@
 use mathlib.Core.Path.{refl}
 use Prim.Native.Nat.{◌+◌, ◌-◌, ◌*◌}
 use native.Mathlib.Omega.{arith}
-use borrow.Author.Rules.{rules}
 use Rattle.upsample.specs.Inner.Pairs.{sums, across_row}
 use Rattle.laws.proofs.Lists.{run_of, run_run}
 use Rattle.upsample.proofs.across.across_row.Goals as goal

@@ -1,6 +1,5 @@
 use mathlib.Core.Path.{refl}
 use native.Mathlib.Omega.{arith}
-use borrow.Author.Rules.{rules}
 use Rattle.laws.proofs.Lists.{run_none}
 use Rattle.upsample.specs.Inner.Pairs.{sums, across_row}
 use Rattle.upsample.proofs.Axis.{pair_left, pair_right}
@@ -10,11 +9,11 @@ use Rattle.upsample.proofs.across.first_cell.Goals as goal
 
 pub cell_sum-middle-requires : goal.cell_sum-middle-requires
 cell_sum-middle-requires c =
-    record { row_inside = cells_to c.requires.row_inside 0 (omega arith); row_inside_2 = cells_to c.requires.row_inside_2.0 0 (omega arith) }
+    record { row_inside = cells_to c.requires.row_inside 0 (omega arith); row_inside_2 = cells_to c.requires.row_inside_2 0 (omega arith) }
 
 pub cell_sum-after-requires : goal.cell_sum-after-requires
 cell_sum-after-requires c =
-    record { row_inside = cells_to c.requires.row_inside 1 (omega arith); row_inside_2 = cells_to c.requires.row_inside_2.0 1 (omega arith) }
+    record { row_inside = cells_to c.requires.row_inside 1 (omega arith); row_inside_2 = cells_to c.requires.row_inside_2 1 (omega arith) }
 
 pub returns : goal.returns
 returns c =

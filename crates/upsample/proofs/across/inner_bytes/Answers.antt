@@ -1,9 +1,8 @@
 use mathlib.Core.Path.{refl}
-use Prim.Native.Nat.{◌+◌, ◌-◌, ◌*◌, ◌≤◌}
+use Prim.Native.Nat.{◌+◌, ◌*◌}
 use native.Mathlib.Omega.{arith}
-use borrow.Author.Rules.{rules}
-use Rattle.laws.proofs.Lists.{Run, run_none, run_end}
-use Rattle.upsample.specs.Inner.Pairs.{sums, across_row}
+use Rattle.laws.proofs.Lists.{run_none, run_end}
+use Rattle.upsample.specs.Inner.Pairs.{sums}
 use Rattle.upsample.proofs.Axis.{pair_left, pair_right}
 use Rattle.upsample.proofs.Inside.{cells_to}
 use Rattle.laws.proofs.Lists.{run_two}
@@ -15,15 +14,15 @@ loop-k-init c =
 
 pub byte_sum-before-requires : goal.byte_sum-before-requires
 byte_sum-before-requires c =
-    record { row_inside = cells_to c.requires.row_inside c.loop-k.k (omega arith); row_inside_2 = cells_to c.requires.row_inside_2.0 c.loop-k.k (omega arith) }
+    record { row_inside = cells_to c.requires.row_inside c.loop-k.k (omega arith); row_inside_2 = cells_to c.requires.row_inside_2 c.loop-k.k (omega arith) }
 
 pub byte_sum-middle-requires : goal.byte_sum-middle-requires
 byte_sum-middle-requires c =
-    record { row_inside = cells_to c.requires.row_inside (c.loop-k.k + 1) (omega arith); row_inside_2 = cells_to c.requires.row_inside_2.0 (c.loop-k.k + 1) (omega arith) }
+    record { row_inside = cells_to c.requires.row_inside (c.loop-k.k + 1) (omega arith); row_inside_2 = cells_to c.requires.row_inside_2 (c.loop-k.k + 1) (omega arith) }
 
 pub byte_sum-after-requires : goal.byte_sum-after-requires
 byte_sum-after-requires c =
-    record { row_inside = cells_to c.requires.row_inside (c.loop-k.k + 2) (omega arith); row_inside_2 = cells_to c.requires.row_inside_2.0 (c.loop-k.k + 2) (omega arith) }
+    record { row_inside = cells_to c.requires.row_inside (c.loop-k.k + 2) (omega arith); row_inside_2 = cells_to c.requires.row_inside_2 (c.loop-k.k + 2) (omega arith) }
 
 pub loop-k-preserved : goal.loop-k-preserved
 loop-k-preserved c =

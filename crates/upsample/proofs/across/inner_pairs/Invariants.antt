@@ -1,14 +1,8 @@
 -- A loop that writes a run (`Run` of laws), two values a turn (`run_two`): cell k + 1 gives outputs 2 + 2k and 2 + 2k + 1.
 -- That they are the row's is `pair_left` and `pair_right` of Axis, over the sums that `cell_sum` promises for either size of sample.
-use mathlib.Core.Path.{refl}
 use Prim.Native.Nat.{◌+◌, ◌-◌, ◌*◌, ◌≤◌}
-use native.Mathlib.Omega.{arith}
-use borrow.Author.Rules.{rules}
-use Rattle.laws.proofs.Lists.{Run, run_none, run_end}
+use Rattle.laws.proofs.Lists.{Run}
 use Rattle.upsample.specs.Inner.Pairs.{sums, across_row}
-use Rattle.upsample.proofs.Axis.{pair_left, pair_right}
-use Rattle.upsample.proofs.Inside.{cells_to}
-use Rattle.laws.proofs.Lists.{run_two}
 use Rattle.upsample.proofs.across.inner_pairs.Given as goal
 
 abbrev pub invariant-loop-k : goal.invariant-loop-k

@@ -1,6 +1,5 @@
 use native.Mathlib.Omega.{arith}
 use lib.ListN.{length-set}
-use borrow.Author.Rules.{rules}
 use Rattle.upsample.proofs.across.put_pair.Goals as goal
 
 pub bounds-out-at-2 : goal.bounds-out-at-2

@@ -2,7 +2,6 @@
 -- The second store is within the slice because the first kept its length (`length-set`).
 use native.Mathlib.Omega.{arith}
 use lib.ListN.{length-set}
-use borrow.Author.Rules.{rules}
 use Rattle.upsample.proofs.across.put_pair_u16.Goals as goal
 
 pub bounds-out-at-2 : goal.bounds-out-at-2

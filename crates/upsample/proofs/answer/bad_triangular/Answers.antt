@@ -1,4 +1,3 @@
-use borrow.Author.Rules.{rules}
 use Rattle.upsample.specs.Triangular.{bad_triangular}
 use Rattle.upsample.proofs.answer.bad_triangular.Goals as goal
 

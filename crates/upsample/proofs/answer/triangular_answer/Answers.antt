@@ -1,6 +1,5 @@
 use mathlib.Core.Path.{refl, sym, ap, ◌∙◌}
 use mathlib.Core.Bool.{false}
-use borrow.Author.Rules.{rules}
 use Rattle.laws.specs.Refusals.{accepted}
 use Rattle.laws.proofs.Refusals.{first_further, then_passed}
 use Rattle.image.specs.Picture.{short_plane}
@@ -12,7 +11,7 @@ use Rattle.upsample.proofs.answer.triangular_answer.Goals as goal
 pub then_plane_above-answer-requires : goal.then_plane_above-answer-requires
 unfolding short_plane
 then_plane_above-answer-requires c =
-    let f = then_passed _ _ _ (sym (ap accepted c.then-answer-3.ensures) ∙ a) in
+    λ a. let f = then_passed _ _ _ (sym (ap accepted c.then-answer-3.ensures) ∙ a) in
     let d = then_passed _ _ _ (sym (ap accepted c.then-answer-2.ensures) ∙ f.0) in
     let e = then_passed _ _ _ (sym (ap accepted c.then-answer.ensures) ∙ d.0) in
     let o = sound_answer false _ (sym (ap accepted c.answer-answer.ensures) ∙ e.0) in

@@ -1,8 +1,6 @@
 use mathlib.Core.Path.{sym}
-use Prim.Native.Nat.{◌-◌, ◌≤◌}
 use native.Mathlib.Omega.{arith}
-use borrow.Author.Rules.{rules}
-use Rattle.laws.proofs.Lists.{Run, run_none, run_more, run_end}
+use Rattle.laws.proofs.Lists.{run_none, run_more, run_end}
 use Rattle.upsample.specs.Inner.Pairs.{down_row}
 use Rattle.upsample.proofs.Inside.{cells_to}
 use Rattle.upsample.proofs.down.down_cells.Goals as goal
@@ -17,7 +15,7 @@ cell-requires c =
 
 pub cell-requires-in-loop-x : goal.cell-requires-in-loop-x
 cell-requires-in-loop-x c =
-    cells_to c.requires.row_inside_2.0 c.loop-x.x (omega arith)
+    cells_to c.requires.row_inside_2 c.loop-x.x (omega arith)
 
 pub loop-x-preserved : goal.loop-x-preserved
 unfolding down_row

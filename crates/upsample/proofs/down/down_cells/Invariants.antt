@@ -1,12 +1,8 @@
 -- A loop that writes a run (`Run` of laws), a value a turn: `down_row` unfolds to the quotient that `one_axis` promises.
 -- Cell x of w lies within both rows by `cells_to`.
-use mathlib.Core.Path.{sym}
 use Prim.Native.Nat.{◌-◌, ◌≤◌}
-use native.Mathlib.Omega.{arith}
-use borrow.Author.Rules.{rules}
-use Rattle.laws.proofs.Lists.{Run, run_none, run_more, run_end}
+use Rattle.laws.proofs.Lists.{Run}
 use Rattle.upsample.specs.Inner.Pairs.{down_row}
-use Rattle.upsample.proofs.Inside.{cells_to}
 use Rattle.upsample.proofs.down.down_cells.Given as goal
 
 abbrev pub invariant-loop-x : goal.invariant-loop-x

@@ -1,8 +1,6 @@
-use Prim.Native.Nat.{◌-◌, ◌≤◌}
 use native.Mathlib.Omega.{arith}
-use Rattle.laws.proofs.Lists.{Rows, rows_none, rows_more, rows_end}
-use Rattle.image.specs.Samples.{sample_at, plane_of}
-use Rattle.upsample.specs.Triangular.{triangular_sample, triangular_plane}
+use Rattle.laws.proofs.Lists.{rows_none, rows_more, rows_end}
+use Rattle.upsample.specs.Triangular.{triangular_plane}
 use Rattle.upsample.proofs.plane.triangular.Goals as goal
 
 pub loop-y-init : goal.loop-y-init

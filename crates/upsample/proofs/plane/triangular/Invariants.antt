@@ -1,8 +1,7 @@
 use Prim.Native.Nat.{◌-◌, ◌≤◌}
-use native.Mathlib.Omega.{arith}
-use Rattle.laws.proofs.Lists.{Rows, rows_none, rows_more, rows_end}
+use Rattle.laws.proofs.Lists.{Rows}
 use Rattle.image.specs.Samples.{sample_at, plane_of}
-use Rattle.upsample.specs.Triangular.{triangular_sample, triangular_plane}
+use Rattle.upsample.specs.Triangular.{triangular_sample}
 use Rattle.upsample.proofs.plane.triangular.Given as goal
 
 abbrev pub invariant-loop-y : goal.invariant-loop-y

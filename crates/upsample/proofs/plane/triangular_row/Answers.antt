@@ -5,12 +5,10 @@ use Prim.Native.Nat.{◌*◌, ◌/◌, ◌<◌}
 use native.Mathlib.Omega.{arith}
 use lib.Dec.{lit≤}
 use lib.ListN.{length}
-use borrow.Author.Rules.{rules}
 use Rattle.laws.proofs.Lists.{put_same}
 use Rattle.upsample.specs.Inner.Pairs.{RowInside}
 use Rattle.upsample.proofs.Accepted.{Taken, taken, across_kind, two_down, both_kind, doubled, output_row, cell_row, cell_row_all, near_one, near_two}
 use Rattle.upsample.proofs.Ratios.{across_is, down_is, both_is}
-use Rattle.upsample.specs.Weights.{far}
 use Rattle.image.specs.Samples.{plane_of}
 use Rattle.upsample.proofs.plane.triangular_row.Goals as goal
 
@@ -26,7 +24,7 @@ pub across_row-requires : goal.across_row-requires
 across_row-requires c =
     let k = across_kind c.args.layout ((let it : Taken c.args.layout c.args.stride (length c.args.plane.now) (length c.args.out.now) = taken c.args.layout (plane_of c.args.plane.now c.args.stride) (length c.args.out.now) c.requires.out_value in it)).kind c.if-layout-eq1.true in
     let row = (let it : RowInside c.args.layout.sample_bytes c.args.layout.cw (c.args.y * c.args.stride) (length c.args.plane.now) = cell_row ((let it : Taken c.args.layout c.args.stride (length c.args.plane.now) (length c.args.out.now) = taken c.args.layout (plane_of c.args.plane.now c.args.stride) (length c.args.out.now) c.requires.out_value in it)) c.args.y (near_one ((let it : Taken c.args.layout c.args.stride (length c.args.plane.now) (length c.args.out.now) = taken c.args.layout (plane_of c.args.plane.now c.args.stride) (length c.args.out.now) c.requires.out_value in it)) c.if-layout-eq1.true c.args.y c.requires.y_lt_h) in it) in
-    (row, (row, ((doubled c.args.layout ((let it : Taken c.args.layout c.args.stride (length c.args.plane.now) (length c.args.out.now) = taken c.args.layout (plane_of c.args.plane.now c.args.stride) (length c.args.out.now) c.requires.out_value in it)).size k.0 k.1, record { left = lit≤ tt; right = lit≤ tt }), output_row ((let it : Taken c.args.layout c.args.stride (length c.args.plane.now) (length c.args.out.now) = taken c.args.layout (plane_of c.args.plane.now c.args.stride) (length c.args.out.now) c.requires.out_value in it)) c.args.y c.requires.y_lt_h)))
+    record { row_inside = row; row_inside_2 = row; doubled = (doubled c.args.layout ((let it : Taken c.args.layout c.args.stride (length c.args.plane.now) (length c.args.out.now) = taken c.args.layout (plane_of c.args.plane.now c.args.stride) (length c.args.out.now) c.requires.out_value in it)).size k.0 k.1, record { left = lit≤ tt; right = lit≤ tt }); w_in_bounds = output_row ((let it : Taken c.args.layout c.args.stride (length c.args.plane.now) (length c.args.out.now) = taken c.args.layout (plane_of c.args.plane.now c.args.stride) (length c.args.out.now) c.requires.out_value in it)) c.args.y c.requires.y_lt_h }
 
 pub returns-then-layout-eq1 : goal.returns-then-layout-eq1
 returns-then-layout-eq1 c =
@@ -49,7 +47,7 @@ down_row-requires c =
     let e = c.if-layout-eq1-2.true in
     let near = cell_row_all ((let it : Taken c.args.layout c.args.stride (length c.args.plane.now) (length c.args.out.now) = taken c.args.layout (plane_of c.args.plane.now c.args.stride) (length c.args.out.now) c.requires.out_value in it)) e (c.args.y / 2) ((let it : c.args.y / 2 < c.args.layout.ch = near_two ((let it : Taken c.args.layout c.args.stride (length c.args.plane.now) (length c.args.out.now) = taken c.args.layout (plane_of c.args.plane.now c.args.stride) (length c.args.out.now) c.requires.out_value in it)) (two_down c.args.layout ((let it : Taken c.args.layout c.args.stride (length c.args.plane.now) (length c.args.out.now) = taken c.args.layout (plane_of c.args.plane.now c.args.stride) (length c.args.out.now) c.requires.out_value in it)).kind c.if-layout-eq1.false) c.args.y c.requires.y_lt_h in it)) in
     let far = cell_row_all ((let it : Taken c.args.layout c.args.stride (length c.args.plane.now) (length c.args.out.now) = taken c.args.layout (plane_of c.args.plane.now c.args.stride) (length c.args.out.now) c.requires.out_value in it)) e c.far.result c.far.ensures.1 in
-    (near, (far, (c.one_axis_bias-bias.ensures.1, output_row ((let it : Taken c.args.layout c.args.stride (length c.args.plane.now) (length c.args.out.now) = taken c.args.layout (plane_of c.args.plane.now c.args.stride) (length c.args.out.now) c.requires.out_value in it)) c.args.y c.requires.y_lt_h)))
+    record { row_inside = near; row_inside_2 = far; bias_bound = c.one_axis_bias-bias.ensures.1; w_in_bounds = output_row ((let it : Taken c.args.layout c.args.stride (length c.args.plane.now) (length c.args.out.now) = taken c.args.layout (plane_of c.args.plane.now c.args.stride) (length c.args.out.now) c.requires.out_value in it)) c.args.y c.requires.y_lt_h }
 
 pub returns-then-layout-eq1-2 : goal.returns-then-layout-eq1-2
 returns-then-layout-eq1-2 c =
@@ -61,7 +59,7 @@ across_row-requires-2 c =
     let k = both_kind c.args.layout ((let it : Taken c.args.layout c.args.stride (length c.args.plane.now) (length c.args.out.now) = taken c.args.layout (plane_of c.args.plane.now c.args.stride) (length c.args.out.now) c.requires.out_value in it)).kind c.if-layout-eq1-2.false in
     let near = cell_row ((let it : Taken c.args.layout c.args.stride (length c.args.plane.now) (length c.args.out.now) = taken c.args.layout (plane_of c.args.plane.now c.args.stride) (length c.args.out.now) c.requires.out_value in it)) (c.args.y / 2) ((let it : c.args.y / 2 < c.args.layout.ch = near_two ((let it : Taken c.args.layout c.args.stride (length c.args.plane.now) (length c.args.out.now) = taken c.args.layout (plane_of c.args.plane.now c.args.stride) (length c.args.out.now) c.requires.out_value in it)) (two_down c.args.layout ((let it : Taken c.args.layout c.args.stride (length c.args.plane.now) (length c.args.out.now) = taken c.args.layout (plane_of c.args.plane.now c.args.stride) (length c.args.out.now) c.requires.out_value in it)).kind c.if-layout-eq1.false) c.args.y c.requires.y_lt_h in it)) in
     let far = cell_row ((let it : Taken c.args.layout c.args.stride (length c.args.plane.now) (length c.args.out.now) = taken c.args.layout (plane_of c.args.plane.now c.args.stride) (length c.args.out.now) c.requires.out_value in it)) c.far.result c.far.ensures.1 in
-    (near, (far, ((doubled c.args.layout ((let it : Taken c.args.layout c.args.stride (length c.args.plane.now) (length c.args.out.now) = taken c.args.layout (plane_of c.args.plane.now c.args.stride) (length c.args.out.now) c.requires.out_value in it)).size k.0 k.1, record { left = lit≤ tt; right = lit≤ tt }), output_row ((let it : Taken c.args.layout c.args.stride (length c.args.plane.now) (length c.args.out.now) = taken c.args.layout (plane_of c.args.plane.now c.args.stride) (length c.args.out.now) c.requires.out_value in it)) c.args.y c.requires.y_lt_h)))
+    record { row_inside = near; row_inside_2 = far; doubled = (doubled c.args.layout ((let it : Taken c.args.layout c.args.stride (length c.args.plane.now) (length c.args.out.now) = taken c.args.layout (plane_of c.args.plane.now c.args.stride) (length c.args.out.now) c.requires.out_value in it)).size k.0 k.1, record { left = lit≤ tt; right = lit≤ tt }); w_in_bounds = output_row ((let it : Taken c.args.layout c.args.stride (length c.args.plane.now) (length c.args.out.now) = taken c.args.layout (plane_of c.args.plane.now c.args.stride) (length c.args.out.now) c.requires.out_value in it)) c.args.y c.requires.y_lt_h }
 
 pub returns : goal.returns
 returns c =

@@ -1,5 +1,4 @@
 use native.Mathlib.Omega.{arith}
-use borrow.Author.Rules.{rules}
 use Rattle.upsample.proofs.Inside.{byte_cell}
 use Rattle.upsample.proofs.weights.byte_sum.Goals as goal
 

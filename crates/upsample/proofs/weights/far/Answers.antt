@@ -1,5 +1,4 @@
 use native.Mathlib.Omega.{arith}
-use borrow.Author.Rules.{rules}
 use Rattle.upsample.proofs.Axis.{far_even, far_odd}
 use Rattle.upsample.proofs.weights.far.Goals as goal
 

@@ -1,5 +1,4 @@
 use mathlib.Core.Path.{refl}
-use borrow.Author.Rules.{rules}
 use Rattle.netpbm.specs.Inner.Texts.{pushed}
 use Rattle.netpbm.proofs.lines.Line.push.Goals as goal
 

@@ -1,5 +1,4 @@
 use mathlib.Core.Path.{ap, ◌∙◌}
-use native.Mathlib.Omega.{arith}
 use Rattle.netpbm.specs.declared.lines.Line.{Line}
 use Rattle.netpbm.proofs.Written.{pushed_len}
 use Rattle.netpbm.proofs.lines.Line.push_digit.Goals as goal

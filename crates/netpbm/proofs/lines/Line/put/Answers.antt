@@ -1,7 +1,4 @@
-use Prim.Native.Nat.{◌-◌}
-use native.Mathlib.Omega.{arith}
-use lib.ListN.{length}
-use Rattle.netpbm.proofs.Written.{Putting, putting_none, putting_more, putting_end, put_is}
+use Rattle.netpbm.proofs.Written.{putting_none, putting_more, putting_end, put_is}
 use Rattle.netpbm.proofs.lines.Line.put.Goals as goal
 
 pub loop-i-init : goal.loop-i-init
@@ -10,7 +7,7 @@ loop-i-init c =
 
 pub loop-i-preserved : goal.loop-i-preserved
 loop-i-preserved c =
-    putting_more c.loop-i.invariant _ c.loop-i-test.true c.push_line.ensures
+    putting_more c.loop-i.invariant _ c.loop-i-test.true c.push-line.ensures
 
 pub returns : goal.returns
 returns c =

@@ -1,7 +1,6 @@
 use Prim.Native.Nat.{◌-◌}
-use native.Mathlib.Omega.{arith}
 use lib.ListN.{length}
-use Rattle.netpbm.proofs.Written.{Putting, putting_none, putting_more, putting_end, put_is}
+use Rattle.netpbm.proofs.Written.{Putting}
 use Rattle.netpbm.proofs.lines.Line.put.Given as goal
 
 abbrev pub invariant-loop-i : goal.invariant-loop-i

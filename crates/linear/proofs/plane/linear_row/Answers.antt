@@ -1,0 +1,58 @@
+-- The row is down and then across, as LinearRows has them: `down_is` turns the first call's run into the definition's cells, `row_is` the second's
+-- into `linear_row`. What is to be shown here is room: both rows of the tap end within the plane (`rows`), cells and row within scratch (`room`).
+use mathlib.Core.Path.{ap, ◌∙◌}
+use Prim.Native.Nat.{◌+◌, ◌*◌, ◌≤◌}
+use Rattle.image.specs.Samples.{Plane, plane_of}
+use Rattle.taps.proofs.Spots.{own_cell}
+use Rattle.image.proofs.Planes.{short_holds, row_inside}
+use Rattle.linear.specs.Linear.{linear_cells_at}
+use Rattle.image.specs.Scratch.{scratch_need}
+use Rattle.linear.specs.Inner.AcrossRows.{across_run}
+use Rattle.linear.proofs.LinearRows.{down_is, row_is}
+use native.Mathlib.Omega.{arith}
+use lib.ListN.{length}
+use Rattle.linear.proofs.plane.linear_row.Goals as goal
+
+pub tap_at-t-requires : goal.tap_at-t-requires
+tap_at-t-requires c =
+    let l = c.args.layout in
+    let o = c.requires.ready.shaped in
+    (o.down_most, o.rv_some, o.rv_most, o.ch_some, omega arith, own_cell l.down.num l.rv l.h l.ch c.args.y o.rv_some o.lines (omega arith))
+
+pub overflow_mul-a : goal.overflow_mul-a
+overflow_mul-a c =
+    let h = (let it : (c.tap_at-t.result.i0 * c.args.stride + c.args.layout.cw * c.args.layout.sample_bytes ≤ length c.args.plane.now)
+    × (c.tap_at-t.result.i1 * c.args.stride + c.args.layout.cw * c.args.layout.sample_bytes ≤ length c.args.plane.now) = let l = c.args.layout in
+    let o = short_holds l l.cw l.ch (plane_of c.args.plane.now c.args.stride) c.requires.ready.plane in
+    (row_inside o c.tap_at-t.result.i0 c.tap_at-t.ensures.i0_inside, row_inside o c.tap_at-t.result.i1 c.tap_at-t.ensures.i1_inside) in it) in omega arith
+
+pub overflow_mul-b : goal.overflow_mul-b
+overflow_mul-b c =
+    let h = (let it : (c.tap_at-t.result.i0 * c.args.stride + c.args.layout.cw * c.args.layout.sample_bytes ≤ length c.args.plane.now)
+    × (c.tap_at-t.result.i1 * c.args.stride + c.args.layout.cw * c.args.layout.sample_bytes ≤ length c.args.plane.now) = let l = c.args.layout in
+    let o = short_holds l l.cw l.ch (plane_of c.args.plane.now c.args.stride) c.requires.ready.plane in
+    (row_inside o c.tap_at-t.result.i0 c.tap_at-t.ensures.i0_inside, row_inside o c.tap_at-t.result.i1 c.tap_at-t.ensures.i1_inside) in it) in omega arith
+
+pub down_row-requires : goal.down_row-requires
+unfolding scratch_need
+down_row-requires c =
+    let h = (let it : (c.tap_at-t.result.i0 * c.args.stride + c.args.layout.cw * c.args.layout.sample_bytes ≤ length c.args.plane.now)
+    × (c.tap_at-t.result.i1 * c.args.stride + c.args.layout.cw * c.args.layout.sample_bytes ≤ length c.args.plane.now) = let l = c.args.layout in
+    let o = short_holds l l.cw l.ch (plane_of c.args.plane.now c.args.stride) c.requires.ready.plane in
+    (row_inside o c.tap_at-t.result.i0 c.tap_at-t.ensures.i0_inside, row_inside o c.tap_at-t.result.i1 c.tap_at-t.ensures.i1_inside) in it) in let k = (let it : 2 * c.args.layout.w + c.args.layout.cw ≤ length c.args.s.now = omega arith in it) in omega arith
+
+pub across_row-requires : goal.across_row-requires
+unfolding scratch_need
+across_row-requires c =
+    let k = (let it : 2 * c.args.layout.w + c.args.layout.cw ≤ length c.args.s.now = omega arith in it) in omega arith
+
+pub returns : goal.returns
+unfolding scratch_need
+returns c =
+    let a = c.args in
+    let l = a.layout in
+    let p : Plane = record { bytes = a.plane.now; stride = a.stride } in
+    let t = c.tap_at-t in
+    c.across_row.ensures
+    ∙ ap (across_run l.across (linear_cells_at l) l.cw l.rh a.dst 0 l.w) (c.down_row.ensures ∙ down_is l p a.y t.result a.s.now t.ensures.is)
+    ∙ row_is l p a.dst a.y a.s.now c.requires.ready.shaped ((let it : 2 * c.args.layout.w + c.args.layout.cw ≤ length c.args.s.now = omega arith in it))
