@@ -1,8 +1,7 @@
 -- Rows that scratch holds are read back as they were put, so that the code's steps are the definition's.
 -- `Row` is what scratch holds at a place, and `row_kept` carries it over stores behind it. The hard step is `chroma_across_is`: products read luma's row, put before.
 use mathlib.Core.Path.{◌≡◌, refl, sym, ap, ◌∙◌}
-use mathlib.Core.Bool.{true, false}
-use mathlib.Core.List.{List, []}
+use mathlib.Core.List.{List}
 use Prim.Native.Nat.{ℕ, ◌+◌, ◌*◌, ◌≤◌, ◌<◌}
 use native.Mathlib.Omega.{arith}
 use lib.Dec.{lit<}

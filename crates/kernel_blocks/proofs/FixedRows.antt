@@ -1,10 +1,9 @@
 -- The fixed kernel over numbers with a sign, as an i32 holds them: sums that fit, the shift as a floor, and the tables' entries, none of which
 -- passes 25 bits. The bounds go by differences (`Diff`), which `omega` reads.
-use mathlib.Core.Path.{◌≡◌, refl, ap, sym, subst, ◌∙◌}
+use mathlib.Core.Path.{◌≡◌, refl}
 use mathlib.Core.List.{List}
-use Prim.Native.Nat.{ℕ, suc, ◌+◌, ◌*◌, ◌-◌, ◌/◌, ◌<◌, ◌≤◌}
+use Prim.Native.Nat.{ℕ, suc, ◌+◌, ◌<◌, ◌≤◌}
 use native.Mathlib.Omega.{arith}
-use lib.Dec.{lit<}
 use lib.IntN.{ℤ, pos, negsuc, ◌+ℤ◌}
 use lib.Signed.{mag, shr_z}
 use mir.Syntax.{w32}
@@ -13,7 +12,6 @@ use mir.ValLaws.{to_z-of_z}
 use Rattle.laws.specs.Differences.{floor_div}
 use Rattle.laws.specs.Inner.Differences.{Diff}
 use Rattle.laws.proofs.Differences.{of_pos, plus}
-use Rattle.kernels.specs.Kernels.{fixed_red, fixed_blue, fixed_green_cb, fixed_green_cr}
 use Rattle.kernels.specs.Inner.Tables.{Tabled, table_entry}
 use Rattle.kernels.proofs.TableRules.{red_diff, blue_diff, green_cb_part, green_cr_part}
 use Rattle.kernel_blocks.specs.Inner.Blocks.{Small}

@@ -47,10 +47,10 @@ fn lowered(y: [u32; Block::LEN]) -> [i32; Block::LEN]
 fn chroma_row(k: f32, tie: f32, y: [i32; Block::LEN], x: [f32; Block::LEN]) -> [u8; Block::LEN]
     requires { IsMultiplier k tie × ((i : ℕ) → i < Block.LEN → Luma (get_or y i (pos 0)) × Chroma (get_or x i nan)) }
     ensures { ((i : ℕ) → i < Block.LEN → (m l c : ℕ)
-          → Multiplier k tie m
-          → Lowered (get_or y i (pos 0)) l
-          → Centred (get_or x i nan) c
-          → get_or result i 0 ≡ plus_chroma m l c) }
+        → Multiplier k tie m
+        → Lowered (get_or y i (pos 0)) l
+        → Centred (get_or x i nan) c
+        → get_or result i 0 ≡ plus_chroma m l c) }
 {
     let mut row = [0u8; Block::LEN];
     for i in 0..Block::LEN {

@@ -70,7 +70,7 @@ fn green_row(
 ) -> [u8; Block::LEN]
     requires { ((k : ℕ) → k < Block.LEN → Small (get_or cb_part k (pos 0)) × Small (get_or cr_part k (pos 0))) }
     ensures { ((k : ℕ) → k < Block.LEN → get_or result k 0 ≡ limit 255
-          (pos (get_or y k 0) +ℤ floor_div (get_or cb_part k (pos 0) +ℤ get_or cr_part k (pos 0)) 65536)) }
+        (pos (get_or y k 0) +ℤ floor_div (get_or cb_part k (pos 0) +ℤ get_or cr_part k (pos 0)) 65536)) }
 {
     let mut row = [0u8; Block::LEN];
     for i in 0..Block::LEN {

@@ -29,7 +29,7 @@ fn fourth(dst: &[u8], p: usize, low: u32) -> u32
 fn words(dst: &[u8], at: usize, low: u32, rows: [[u8; Block::LEN]; 3]) -> [u32; Block::LEN]
     requires { (low ≡ 16777215) × (at + Block.LEN * 4 ≤ length dst.now) }
     ensures { ((k : ℕ) → k < Block.LEN
-          → Word (get_or result k 0) (block_pixel rows k) (get_or dst.now (at + k * 4 + 3) 0)) }
+        → Word (get_or result k 0) (block_pixel rows k) (get_or dst.now (at + k * 4 + 3) 0)) }
 {
     let mut w = [0u32; Block::LEN];
     for i in 0..Block::LEN {

@@ -1,0 +1,20 @@
+use native.Mathlib.Omega.{arith}
+use lib.Ieee.{nan}
+use Rattle.laws.proofs.Lists.{run_none, front_more, front_at}
+use Rattle.kernel_blocks.proofs.studio_blocks.parts.Goals as goal
+
+pub loop-i-init : goal.loop-i-init
+loop-i-init c =
+    (omega arith, run_none _ _ _)
+
+pub luma_part-requires : goal.luma_part-requires
+luma_part-requires c =
+    c.requires c.loop-i.i (omega arith)
+
+pub loop-i-preserved : goal.loop-i-preserved
+loop-i-preserved c =
+    (omega arith, front_more c.loop-i.invariant.1 _ c.luma_part.ensures)
+
+pub returns : goal.returns
+returns c =
+    λ k h. front_at c.loop-i.invariant.1 k nan (omega arith) (omega arith)
