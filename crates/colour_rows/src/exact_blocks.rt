@@ -17,7 +17,7 @@ use kernel_blocks::Block;
 fn exact_pixels(y: [u16; Block::LEN], s: &[f32], w: usize, x: usize) -> [[u8; Block::LEN]; 3]
     requires { (x + Block.LEN ≤ w) × (2 * w ≤ length s.now) }
     ensures { ((k : ℕ) → k < Block.LEN → block_pixel result k ≡ colour_by
-          Exact 255 (get_or y k 0) (cell_at s.now 0 (x + k)) (cell_at s.now w (x + k))) }
+        Exact 255 (get_or y k 0) (cell_at s.now 0 (x + k)) (cell_at s.now w (x + k))) }
 {
     let cb = chroma_block(s, 0, x);
     let cr = chroma_block(s, w, x);
@@ -36,7 +36,7 @@ fn exact_at(
     requires row_lent { RowLent layout (plane_of plane.now stride) row (length s.now) }
     requires fact { Blocked Block.LEN Exact layout × (x + Block.LEN ≤ layout.w) }
     ensures { ((k : ℕ) → k < Block.LEN → block_pixel result k ≡ row_colour
-          Exact layout (plane_of plane.now stride) row s.now (x + k)) }
+        Exact layout (plane_of plane.now stride) row s.now (x + k)) }
 {
     let y = luma_block(layout, plane, stride, row, x);
     exact_pixels(y, s, layout.w, x)

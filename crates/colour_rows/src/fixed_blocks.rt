@@ -24,7 +24,7 @@ fn fixed_pixels(
 ) -> [[u8; Block::LEN]; 3]
     requires { (x + Block.LEN ≤ w) × (2 * w ≤ length s.now) × Tabled tables.now }
     ensures { ((d k : ℕ) → k < Block.LEN → block_pixel result k ≡ colour_by
-          FixedPoint16 d (get_or y k 0) (cell_at s.now 0 (x + k)) (cell_at s.now w (x + k))) }
+        FixedPoint16 d (get_or y k 0) (cell_at s.now 0 (x + k)) (cell_at s.now w (x + k))) }
 {
     let cb = whole_chroma_block(s, 0, x);
     let cr = whole_chroma_block(s, w, x);
@@ -44,7 +44,7 @@ fn fixed_at(
     requires row_lent { RowLent layout (plane_of plane.now stride) row (length s.now) }
     requires fact { Blocked Block.LEN FixedPoint16 layout × (x + Block.LEN ≤ layout.w) × Tabled tables.now }
     ensures { ((k : ℕ) → k < Block.LEN → block_pixel result k ≡ row_colour
-          FixedPoint16 layout (plane_of plane.now stride) row s.now (x + k)) }
+        FixedPoint16 layout (plane_of plane.now stride) row s.now (x + k)) }
 {
     let y = luma_block(layout, plane, stride, row, x);
     fixed_pixels(y, s, layout.w, x, tables)

@@ -99,7 +99,7 @@ pub fn wide_block(y: [u16; Block::LEN]) -> [u32; Block::LEN]
 pub fn chroma_block(s: &[f32], src: usize, x: usize) -> [f32; Block::LEN]
     requires { src + (x + Block.LEN) ≤ length s.now }
     ensures { ((k : ℕ) → k < Block.LEN
-          → Centred (get_or result k nan) (round_clamped 65536 (cell_at s.now src (x + k) ⊗ f32 256))) }
+        → Centred (get_or result k nan) (round_clamped 65536 (cell_at s.now src (x + k) ⊗ f32 256))) }
 {
     let mut v = [0.0f32; Block::LEN];
     for k in 0..Block::LEN {

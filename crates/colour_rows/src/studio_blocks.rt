@@ -16,7 +16,7 @@ use kernel_blocks::Block;
 fn studio_pixels(y: [u16; Block::LEN], s: &[f32], w: usize, x: usize) -> [[u8; Block::LEN]; 3]
     requires { (x + Block.LEN ≤ w) × (2 * w ≤ length s.now) }
     ensures { ((k : ℕ) → k < Block.LEN → block_pixel result k ≡ studio_by
-          (get_or y k 0) (cell_at s.now 0 (x + k)) (cell_at s.now w (x + k))) }
+        (get_or y k 0) (cell_at s.now 0 (x + k)) (cell_at s.now w (x + k))) }
 {
     let cb = chroma_block(s, 0, x);
     let cr = chroma_block(s, w, x);
@@ -35,7 +35,7 @@ fn studio_at(
     requires row_lent { RowLent layout (plane_of plane.now stride) row (length s.now) }
     requires n_bound { x + Block.LEN ≤ layout.w }
     ensures { ((k : ℕ) → k < Block.LEN → block_pixel result k ≡ studio_colour
-          layout (plane_of plane.now stride) row s.now (x + k)) }
+        layout (plane_of plane.now stride) row s.now (x + k)) }
 {
     let y = luma_block(layout, plane, stride, row, x);
     studio_pixels(y, s, layout.w, x)

@@ -1,0 +1,12 @@
+use mathlib.Core.Path.{refl, ◌∙◌}
+use Prim.Native.Nat.{◌+◌}
+use borrow.Author.Rules.{rules}
+use Rattle.kernels.specs.declared.kernel.YcbcrKernel.TheVariants.{Exact}
+use Rattle.colour_rows.proofs.Colouring.{in_row}
+use Rattle.image.specs.Samples.{plane_of}
+use Rattle.colour_rows.proofs.exact_blocks.exact_at.Goals as goal
+
+pub returns : goal.returns
+returns c =
+    let a = c.args in
+    λ k h. c.exact_pixels.ensures k h ∙ in_row Exact a.layout (plane_of a.plane.now a.stride) a.row a.s.now (a.x + k) (c.luma_block-y.ensures k h) (c.requires.fact.0.exact refl)

@@ -1,0 +1,8 @@
+use mathlib.Core.Path.{◌∙◌}
+use borrow.Author.Rules.{rules}
+use Rattle.colour_rows.proofs.Colouring.{fixed_by}
+use Rattle.colour_rows.proofs.pixels.fixed_pixel.Goals as goal
+
+pub returns : goal.returns
+returns c =
+    λ d. c.ycbcr_to_rgb8_fixed.ensures ∙ fixed_by _ _ _ d c.whole_chroma.ensures c.whole_chroma-2.ensures

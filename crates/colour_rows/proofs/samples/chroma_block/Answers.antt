@@ -1,0 +1,22 @@
+use Prim.Native.Nat.{◌+◌, ◌-◌, ◌≤◌}
+use native.Mathlib.Omega.{arith}
+use borrow.Author.Rules.{rules}
+use Rattle.laws.proofs.Lists.{Run, run_none, front_more, front_at}
+use lib.Ieee.{nan}
+use Rattle.laws.specs.Floats.{f32, ◌⊖◌, ◌⊗◌}
+use Rattle.fround.proofs.Laws.{round_within}
+use Rattle.fround.specs.Rounding.{round_clamped}
+use Rattle.image.specs.Scratch.{cell_at}
+use Rattle.colour_rows.proofs.samples.chroma_block.Goals as goal
+
+pub loop-k-init : goal.loop-k-init
+loop-k-init c =
+    (omega arith, run_none _ _ _)
+
+pub loop-k-preserved : goal.loop-k-preserved
+loop-k-preserved c =
+    (omega arith, front_more c.loop-k.invariant.1 _ c.centred_256ths.ensures)
+
+pub returns : goal.returns
+returns c =
+    λ k h. record { most = round_within _ _; is = front_at c.loop-k.invariant.1 k nan (omega arith) (omega arith) }

@@ -1,0 +1,19 @@
+use Prim.Native.Nat.{◌+◌, ◌-◌, ◌≤◌}
+use native.Mathlib.Omega.{arith}
+use borrow.Author.Rules.{rules}
+use Rattle.laws.proofs.Lists.{Run, run_none, front_more, front_at}
+use Rattle.fround.specs.Rounding.{round_clamped}
+use Rattle.image.specs.Scratch.{cell_at}
+use Rattle.colour_rows.proofs.samples.whole_chroma_block.Goals as goal
+
+pub loop-k-init : goal.loop-k-init
+loop-k-init c =
+    (omega arith, run_none _ _ _)
+
+pub loop-k-preserved : goal.loop-k-preserved
+loop-k-preserved c =
+    (omega arith, front_more c.loop-k.invariant.1 _ c.whole_chroma.ensures)
+
+pub returns : goal.returns
+returns c =
+    λ k h. front_at c.loop-k.invariant.1 k 0 (omega arith) (omega arith)

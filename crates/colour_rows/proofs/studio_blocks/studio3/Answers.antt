@@ -1,0 +1,57 @@
+use borrow.Author.Rules.{rules}
+use Prim.Native.Nat.{◌-◌, ◌≤◌}
+use native.Mathlib.Omega.{arith}
+use lib.ListN.{length}
+use Rattle.colour_rows.specs.Inner.Colours.{studio_colour, studio_row}
+use Rattle.kernel_blocks.proofs.Stored.{Stored, stored_none, stored_end, BlockPlace, block_place, block_stored}
+use Rattle.image.specs.Samples.{plane_of}
+use Rattle.colour_rows.proofs.studio_blocks.studio3.Goals as goal
+
+pub loop-done-init : goal.loop-done-init
+loop-done-init c =
+    (omega arith, stored_none _ _ _ _)
+
+pub overflow_sub-layout : goal.overflow_sub-layout
+overflow_sub-layout c =
+    c.requires.fact.0
+
+pub studio_at-rows-requires : goal.studio_at-rows-requires
+studio_at-rows-requires c =
+    let p = c.requires in
+    record { row_lent = p.row_lent; n_bound = ((let it : (let a = c.args in BlockPlace a.layout.w a.at 3 (length c.loop-done.out) c.loop-done.done c.least-x.result) = block_place c.loop-done.invariant.1 _ _ c.least-x.ensures c.requires.fact.0 (omega arith) (omega arith) in it)).inside }
+
+pub overflow_mul-x : goal.overflow_mul-x
+overflow_mul-x c =
+    let h = (let it : (let a = c.args in BlockPlace a.layout.w a.at 3 (length c.loop-done.out) c.loop-done.done c.least-x.result) = block_place c.loop-done.invariant.1 _ _ c.least-x.ensures c.requires.fact.0 (omega arith) (omega arith) in it) in omega arith
+
+pub overflow_add-at : goal.overflow_add-at
+overflow_add-at c =
+    let h = (let it : (let a = c.args in BlockPlace a.layout.w a.at 3 (length c.loop-done.out) c.loop-done.done c.least-x.result) = block_place c.loop-done.invariant.1 _ _ c.least-x.ensures c.requires.fact.0 (omega arith) (omega arith) in it) in
+    let n = c.loop-done.invariant.1.len in
+    let g = c.well_formed in
+    omega arith
+
+pub put_block-requires : goal.put_block-requires
+put_block-requires c =
+    (omega arith, ((let it : (let a = c.args in BlockPlace a.layout.w a.at 3 (length c.loop-done.out) c.loop-done.done c.least-x.result) = block_place c.loop-done.invariant.1 _ _ c.least-x.ensures c.requires.fact.0 (omega arith) (omega arith) in it)).fits)
+
+pub overflow_add-done : goal.overflow_add-done
+overflow_add-done c =
+    let h = (let it : (let a = c.args in BlockPlace a.layout.w a.at 3 (length c.loop-done.out) c.loop-done.done c.least-x.result) = block_place c.loop-done.invariant.1 _ _ c.least-x.ensures c.requires.fact.0 (omega arith) (omega arith) in it) in omega arith
+
+pub loop-done-smaller : goal.loop-done-smaller
+loop-done-smaller c =
+    let h = (let it : (let a = c.args in BlockPlace a.layout.w a.at 3 (length c.loop-done.out) c.loop-done.done c.least-x.result) = block_place c.loop-done.invariant.1 _ _ c.least-x.ensures c.requires.fact.0 (omega arith) (omega arith) in it) in omega arith
+
+pub loop-done-preserved : goal.loop-done-preserved
+loop-done-preserved c =
+    block_stored c.loop-done.invariant.1 _ _ c.least-x.ensures c.requires.fact.0 (omega arith) (omega arith) _ _ c.put_block.ensures (omega arith) c.studio_at-rows.ensures
+
+pub shape_of-out : goal.shape_of-out
+shape_of-out c =
+    c.loop-done.invariant.1.len
+
+pub returns : goal.returns
+unfolding studio_row
+returns c =
+    stored_end c.loop-done.invariant.1 _ (omega arith) (omega arith)

@@ -1,0 +1,11 @@
+use mathlib.Core.Path.{refl, ◌∙◌}
+use Prim.Native.Nat.{◌+◌}
+use borrow.Author.Rules.{rules}
+use Rattle.colour_rows.proofs.Colouring.{in_studio}
+use Rattle.image.specs.Samples.{plane_of}
+use Rattle.colour_rows.proofs.studio_blocks.studio_at.Goals as goal
+
+pub returns : goal.returns
+returns c =
+    let a = c.args in
+    λ k h. c.studio_pixels.ensures k h ∙ in_studio a.layout (plane_of a.plane.now a.stride) a.row a.s.now (a.x + k) (c.luma_block-y.ensures k h)
