@@ -3,7 +3,6 @@
 use mathlib.Core.Path.{◌≡◌, ap, ◌∙◌}
 use Prim.Native.Nat.{ℕ}
 use native.Mathlib.Omega.{arith}
-use borrow.Author.Rules.{rules}
 use Rattle.colour_rows.specs.Inner.Colours.{colour_row}
 use Rattle.image.specs.Samples.{plane_of}
 use Rattle.kernels.specs.declared.kernel.YcbcrKernel.TheVariants.{Exact}

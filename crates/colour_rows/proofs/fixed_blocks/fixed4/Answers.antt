@@ -1,11 +1,7 @@
-use borrow.Author.Rules.{rules}
-use Prim.Native.Nat.{◌-◌, ◌≤◌}
 use native.Mathlib.Omega.{arith}
 use lib.ListN.{length}
-use Rattle.colour_rows.specs.Inner.Colours.{row_colour, colour_row}
-use Rattle.kernel_blocks.proofs.Stored.{Stored, stored_none, stored_end, BlockPlace, block_place, block_stored}
-use Rattle.image.specs.Samples.{plane_of}
-use Rattle.kernels.specs.declared.kernel.YcbcrKernel.TheVariants.{FixedPoint16}
+use Rattle.colour_rows.specs.Inner.Colours.{colour_row}
+use Rattle.kernel_blocks.proofs.Stored.{stored_none, stored_end, BlockPlace, block_place, block_stored}
 use Rattle.colour_rows.proofs.fixed_blocks.fixed4.Goals as goal
 
 pub loop-done-init : goal.loop-done-init

@@ -1,6 +1,5 @@
 use mathlib.Core.Path.{refl, ◌∙◌}
 use Prim.Native.Nat.{◌+◌}
-use borrow.Author.Rules.{rules}
 use Rattle.kernels.specs.declared.kernel.YcbcrKernel.TheVariants.{FixedPoint16}
 use Rattle.colour_rows.proofs.Colouring.{in_row}
 use Rattle.image.specs.Samples.{plane_of}

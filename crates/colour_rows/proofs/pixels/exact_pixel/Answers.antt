@@ -1,5 +1,4 @@
 use mathlib.Core.Path.{◌∙◌}
-use borrow.Author.Rules.{rules}
 use Rattle.colour_rows.proofs.Colouring.{exact_by}
 use Rattle.colour_rows.proofs.pixels.exact_pixel.Goals as goal
 

@@ -1,4 +1,3 @@
-use borrow.Author.Rules.{rules}
 use Rattle.colour_rows.proofs.pixels.plain_pixel.Goals as goal
 
 pub returns-then-maxval-eq255 : goal.returns-then-maxval-eq255

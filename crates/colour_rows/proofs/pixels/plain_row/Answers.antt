@@ -1,11 +1,10 @@
 use mathlib.Core.Path.{◌∙◌}
-use Prim.Native.Nat.{◌+◌, ◌-◌, ◌*◌, ◌≤◌}
+use Prim.Native.Nat.{◌+◌, ◌*◌, ◌≤◌}
 use native.Mathlib.Omega.{arith}
 use lib.ListN.{length}
-use borrow.Author.Rules.{rules}
 use Rattle.laws.proofs.Rows.{row_fits}
-use Rattle.colour_rows.specs.Inner.Colours.{row_colour, colour_row}
-use Rattle.kernel_blocks.proofs.Stored.{Stored, stored_none, stored_more, stored_end}
+use Rattle.colour_rows.specs.Inner.Colours.{colour_row}
+use Rattle.kernel_blocks.proofs.Stored.{stored_none, stored_more, stored_end}
 use Rattle.colour_rows.proofs.Colouring.{in_row_read}
 use Rattle.image.specs.Samples.{plane_of}
 use Rattle.colour_rows.proofs.pixels.plain_row.Goals as goal

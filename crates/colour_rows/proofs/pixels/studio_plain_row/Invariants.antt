@@ -1,14 +1,8 @@
 -- A loop that stores pixels (`Stored` of kernel_blocks), one a turn by `stored_more`; `in_studio_read` says that its samples are the row's.
 -- That pixel x fits the output is `row_fits`, the one product that omega doesn't find.
-use mathlib.Core.Path.{◌∙◌}
-use Prim.Native.Nat.{◌+◌, ◌-◌, ◌*◌, ◌≤◌}
-use native.Mathlib.Omega.{arith}
-use lib.ListN.{length}
-use borrow.Author.Rules.{rules}
-use Rattle.laws.proofs.Rows.{row_fits}
-use Rattle.colour_rows.specs.Inner.Colours.{studio_colour, studio_row}
-use Rattle.kernel_blocks.proofs.Stored.{Stored, stored_none, stored_more, stored_end}
-use Rattle.colour_rows.proofs.Colouring.{in_studio_read}
+use Prim.Native.Nat.{◌-◌, ◌≤◌}
+use Rattle.colour_rows.specs.Inner.Colours.{studio_colour}
+use Rattle.kernel_blocks.proofs.Stored.{Stored}
 use Rattle.image.specs.Samples.{plane_of}
 use Rattle.colour_rows.proofs.pixels.studio_plain_row.Given as goal
 

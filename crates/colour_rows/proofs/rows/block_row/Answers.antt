@@ -1,5 +1,4 @@
 -- Each branch knows its kernel, so that its callee's row is the row of that kernel.
-use borrow.Author.Rules.{rules}
 use Rattle.colour_rows.proofs.rows.block_row.Goals as goal
 
 pub exact_row-requires : goal.exact_row-requires

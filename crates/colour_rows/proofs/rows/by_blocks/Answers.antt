@@ -1,7 +1,6 @@
 use mathlib.Core.Path.{◌≡◌, sym, subst}
 use Prim.Native.Nat.{ℕ}
 use native.Mathlib.Omega.{arith}
-use borrow.Author.Rules.{rules}
 use lib.Dec.{T}
 use borrow.Author.Tests.{eqb-true}
 use Rattle.colour_rows.proofs.rows.by_blocks.Goals as goal

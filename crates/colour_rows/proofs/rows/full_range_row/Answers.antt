@@ -1,4 +1,3 @@
-use borrow.Author.Rules.{rules}
 use Rattle.colour_rows.proofs.rows.full_range_row.Goals as goal
 
 pub block_row-requires : goal.block_row-requires

@@ -1,5 +1,4 @@
 use lib.Ieee.{of_bits, of_int}
-use borrow.Author.Rules.{rules}
 use Rattle.colour_rows.proofs.samples.chroma_256ths.Goals as goal
 
 pub returns : goal.returns

@@ -1,12 +1,7 @@
-use Prim.Native.Nat.{◌+◌, ◌-◌, ◌≤◌}
 use native.Mathlib.Omega.{arith}
-use borrow.Author.Rules.{rules}
-use Rattle.laws.proofs.Lists.{Run, run_none, front_more, front_at}
+use Rattle.laws.proofs.Lists.{run_none, front_more, front_at}
 use lib.Ieee.{nan}
-use Rattle.laws.specs.Floats.{f32, ◌⊖◌, ◌⊗◌}
 use Rattle.fround.proofs.Laws.{round_within}
-use Rattle.fround.specs.Rounding.{round_clamped}
-use Rattle.image.specs.Scratch.{cell_at}
 use Rattle.colour_rows.proofs.samples.chroma_block.Goals as goal
 
 pub loop-k-init : goal.loop-k-init

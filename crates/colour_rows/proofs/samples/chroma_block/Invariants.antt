@@ -1,12 +1,8 @@
 -- The block is filled from the front, a float a turn (`front_more`), each the float that `centred_256ths` promises.
 -- `Centred` asks besides that the rounded number is at most 65,536, which `round_within` has of every rounding.
 use Prim.Native.Nat.{◌+◌, ◌-◌, ◌≤◌}
-use native.Mathlib.Omega.{arith}
-use borrow.Author.Rules.{rules}
-use Rattle.laws.proofs.Lists.{Run, run_none, front_more, front_at}
-use lib.Ieee.{nan}
+use Rattle.laws.proofs.Lists.{Run}
 use Rattle.laws.specs.Floats.{f32, ◌⊖◌, ◌⊗◌}
-use Rattle.fround.proofs.Laws.{round_within}
 use Rattle.fround.specs.Rounding.{round_clamped}
 use Rattle.image.specs.Scratch.{cell_at}
 use Rattle.colour_rows.proofs.samples.chroma_block.Given as goal

@@ -2,7 +2,6 @@ use mathlib.Core.Path.{◌∙◌}
 use Prim.Native.Nat.{◌+◌, ◌≤◌}
 use native.Mathlib.Omega.{arith}
 use lib.ListN.{length}
-use borrow.Author.Rules.{rules}
 use Rattle.image.specs.Samples.{place, sample_at, plane_of}
 use Rattle.image.proofs.Planes.{short_holds, sample_inside}
 use Rattle.colour_rows.proofs.samples.luma_at.Goals as goal

@@ -1,7 +1,5 @@
-use Prim.Native.Nat.{◌+◌, ◌-◌, ◌≤◌}
 use native.Mathlib.Omega.{arith}
-use Rattle.laws.proofs.Lists.{Run, run_none, front_more, front_at}
-use Rattle.image.specs.Samples.{sample_of}
+use Rattle.laws.proofs.Lists.{run_none, front_more, front_at}
 use Rattle.colour_rows.proofs.samples.one_byte_block.Goals as goal
 
 pub loop-k-init : goal.loop-k-init

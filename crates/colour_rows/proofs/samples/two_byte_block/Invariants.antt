@@ -1,6 +1,5 @@
 use Prim.Native.Nat.{◌+◌, ◌-◌, ◌*◌, ◌≤◌}
-use native.Mathlib.Omega.{arith}
-use Rattle.laws.proofs.Lists.{Run, run_none, front_more, front_at}
+use Rattle.laws.proofs.Lists.{Run}
 use Rattle.image.specs.Samples.{sample_of}
 use Rattle.colour_rows.proofs.samples.two_byte_block.Given as goal
 

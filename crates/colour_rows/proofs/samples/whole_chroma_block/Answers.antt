@@ -1,9 +1,5 @@
-use Prim.Native.Nat.{◌+◌, ◌-◌, ◌≤◌}
 use native.Mathlib.Omega.{arith}
-use borrow.Author.Rules.{rules}
-use Rattle.laws.proofs.Lists.{Run, run_none, front_more, front_at}
-use Rattle.fround.specs.Rounding.{round_clamped}
-use Rattle.image.specs.Scratch.{cell_at}
+use Rattle.laws.proofs.Lists.{run_none, front_more, front_at}
 use Rattle.colour_rows.proofs.samples.whole_chroma_block.Goals as goal
 
 pub loop-k-init : goal.loop-k-init

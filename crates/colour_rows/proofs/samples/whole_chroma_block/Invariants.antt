@@ -1,9 +1,7 @@
 -- The block is filled from the front, a number a turn (`front_more`), each the rounding that `whole_chroma` promises.
 -- The slice isn't written, so that column x + k is the call's at every turn; the reads are linear arithmetic.
 use Prim.Native.Nat.{◌+◌, ◌-◌, ◌≤◌}
-use native.Mathlib.Omega.{arith}
-use borrow.Author.Rules.{rules}
-use Rattle.laws.proofs.Lists.{Run, run_none, front_more, front_at}
+use Rattle.laws.proofs.Lists.{Run}
 use Rattle.fround.specs.Rounding.{round_clamped}
 use Rattle.image.specs.Scratch.{cell_at}
 use Rattle.colour_rows.proofs.samples.whole_chroma_block.Given as goal

@@ -1,9 +1,6 @@
-use mathlib.Core.Path.{◌≡◌, refl}
-use Prim.Native.Nat.{◌-◌, ◌≤◌}
+use mathlib.Core.Path.{refl}
 use native.Mathlib.Omega.{arith}
-use lib.ListN.{get_or}
-use borrow.Author.Rules.{rules}
-use Rattle.lanes.proofs.Filled.{Filled, filled_none, filled_more}
+use Rattle.lanes.proofs.Filled.{filled_none, filled_more}
 use Rattle.colour_rows.proofs.samples.wide_block.Goals as goal
 
 pub loop-k-init : goal.loop-k-init

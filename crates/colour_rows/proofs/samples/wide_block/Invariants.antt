@@ -1,11 +1,9 @@
 -- The block is filled from the front, a number a turn (`Filled` of lanes), and each number has what `wide` promises: its value and its bound.
 -- The bound has to go with the value, since the kernel asks for it and an array's type doesn't keep it.
-use mathlib.Core.Path.{◌≡◌, refl}
+use mathlib.Core.Path.{◌≡◌}
 use Prim.Native.Nat.{◌-◌, ◌≤◌}
-use native.Mathlib.Omega.{arith}
 use lib.ListN.{get_or}
-use borrow.Author.Rules.{rules}
-use Rattle.lanes.proofs.Filled.{Filled, filled_none, filled_more}
+use Rattle.lanes.proofs.Filled.{Filled}
 use Rattle.colour_rows.proofs.samples.wide_block.Given as goal
 
 abbrev pub invariant-loop-k : goal.invariant-loop-k

@@ -1,10 +1,7 @@
-use borrow.Author.Rules.{rules}
-use Prim.Native.Nat.{◌-◌, ◌≤◌}
 use native.Mathlib.Omega.{arith}
 use lib.ListN.{length}
-use Rattle.colour_rows.specs.Inner.Colours.{studio_colour, studio_row}
-use Rattle.kernel_blocks.proofs.Stored.{Stored, stored_none, stored_end, BlockPlace, block_place, block_stored}
-use Rattle.image.specs.Samples.{plane_of}
+use Rattle.colour_rows.specs.Inner.Colours.{studio_row}
+use Rattle.kernel_blocks.proofs.Stored.{stored_none, stored_end, BlockPlace, block_place, block_stored}
 use Rattle.colour_rows.proofs.studio_blocks.studio3.Goals as goal
 
 pub loop-done-init : goal.loop-done-init

@@ -1,11 +1,8 @@
 -- A loop that stores pixels (`Stored` of kernel_blocks) by blocks of sixteen; the last overlaps what is stored and stores it again.
 -- Where a block lies, and what is stored with it, are laws over the pixel size (`block_place`, `block_stored`).
-use borrow.Author.Rules.{rules}
 use Prim.Native.Nat.{◌-◌, ◌≤◌}
-use native.Mathlib.Omega.{arith}
-use lib.ListN.{length}
-use Rattle.colour_rows.specs.Inner.Colours.{studio_colour, studio_row}
-use Rattle.kernel_blocks.proofs.Stored.{Stored, stored_none, stored_end, BlockPlace, block_place, block_stored}
+use Rattle.colour_rows.specs.Inner.Colours.{studio_colour}
+use Rattle.kernel_blocks.proofs.Stored.{Stored}
 use Rattle.image.specs.Samples.{plane_of}
 use Rattle.colour_rows.proofs.studio_blocks.studio3.Given as goal
 

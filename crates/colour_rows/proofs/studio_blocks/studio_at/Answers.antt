@@ -1,6 +1,5 @@
-use mathlib.Core.Path.{refl, ◌∙◌}
+use mathlib.Core.Path.{◌∙◌}
 use Prim.Native.Nat.{◌+◌}
-use borrow.Author.Rules.{rules}
 use Rattle.colour_rows.proofs.Colouring.{in_studio}
 use Rattle.image.specs.Samples.{plane_of}
 use Rattle.colour_rows.proofs.studio_blocks.studio_at.Goals as goal

@@ -1,0 +1,24 @@
+use mathlib.Core.Path.{ap}
+use Prim.Native.Nat.{◌+◌, ◌-◌, ◌*◌, ◌≤◌}
+use native.Mathlib.Omega.{arith}
+use Rattle.laws.proofs.Lists.{Run, run_end, run_more, run_none}
+use Rattle.laws.specs.Floats.{f32}
+use borrow.Author.Rules.{rules}
+use Rattle.guided_down.specs.Inner.Nines.{nine_from}
+use Rattle.guided_down.proofs.nines.word_run.Goals as goal
+
+pub loop-i-init : goal.loop-i-init
+loop-i-init c =
+    (omega arith, run_none _ _ _)
+
+pub loop-i-preserved : goal.loop-i-preserved
+loop-i-preserved c =
+    (omega arith, run_more c.loop-i.invariant.1 _ (ap f32 c.word_nine.ensures))
+
+pub shape_of-s : goal.shape_of-s
+shape_of-s c =
+    c.loop-i.invariant.1.len
+
+pub returns : goal.returns
+returns c =
+    run_end c.loop-i.invariant.1 _ (omega arith) (omega arith)

@@ -1,0 +1,10 @@
+use mathlib.Core.Path.{refl, ap, ◌∙◌}
+use native.Mathlib.Omega.{arith}
+use Rattle.guided_down.specs.Inner.Slopes.{mean_inside}
+use borrow.Author.Rules.{rules}
+use Rattle.guided_down.proofs.slopes.mean_inside.Goals as goal
+
+pub returns : goal.returns
+unfolding mean_inside
+returns c =
+    c.mean3.ensures ∙ rw (c.sum_inside-u.ensures, c.sum_inside-m.ensures, c.sum_inside-d.ensures) refl
