@@ -1,9 +1,8 @@
 -- Windows of the row buffers end within scratch and lie before every result.
 use Prim.Native.Nat.{ℕ, ◌+◌, ◌-◌, ◌≤◌, ◌<◌, min}
-use native.Mathlib.Omega.{arith}
 use Rattle.image.specs.declared.layout.Layout.{Layout}
 use Rattle.image.specs.Scratch.{scratch_need}
-use Rattle.guided.specs.Scratch.{slot_at, result_at}
+use Rattle.guided.specs.Scratch.{result_at}
 use Rattle.guided_window.specs.Inner.Buffers.{window_of}
 use Rattle.guided_down.specs.Inner.Slopes.{Inside, ClearOf}
 use Rattle.guided.proofs.Places.{slot_fits, slot_result}

@@ -1,6 +1,6 @@
 -- Two runs that grow side by side, the second behind the first: what a block puts into the first leaves the second, so that the two puts change
 -- places (`put_swap`), and each run grows as one alone would.
-use mathlib.Core.Path.{◌≡◌, refl, sym, ap, ◌∙◌}
+use mathlib.Core.Path.{◌≡◌, refl, ap, ◌∙◌}
 use mathlib.Core.List.{List, [], ◌∷◌}
 use Prim.Native.Nat.{ℕ, zero, suc, ◌+◌, ◌≤◌, ◌<◌}
 use native.Mathlib.Nat.{le_of_suc-le-suc}

@@ -1,7 +1,6 @@
 use Rattle.guided_down.proofs.NineSamples.{three_of}
 use Rattle.guided_down.specs.Inner.Nines.{whole_op}
 use Rattle.image.specs.Samples.{sample_at, plane_of}
-use borrow.Author.Rules.{rules}
 use Rattle.guided_down.proofs.extremes.across.Goals as goal
 
 pub returns : goal.returns

@@ -3,7 +3,6 @@ use Rattle.guided_down.specs.Inner.Extremes.{whole_extreme}
 use Rattle.guided_down.specs.Inner.Nines.{whole_op}
 use Rattle.guided.specs.Events.{three_n}
 use Rattle.image.specs.Samples.{Plane, sample_at}
-use borrow.Author.Rules.{rules}
 use Rattle.guided_down.proofs.extremes.extreme_at.Goals as goal
 
 pub returns : goal.returns

@@ -4,7 +4,6 @@ use mathlib.Core.Path.{◌≡◌, refl, ap, ◌∙◌, sym}
 use Prim.Native.Nat.{ℕ, ◌+◌, ◌-◌, ◌*◌, ◌≤◌, ◌<◌, min}
 use native.Mathlib.Omega.{arith}
 use lib.ListN.{length, get_or}
-use borrow.Author.Rules.{rules}
 use Rattle.guided_down.proofs.Wholes.{inner_are}
 use Rattle.image.proofs.Planes.{row_inside, short_holds}
 use Rattle.image.specs.Samples.{plane_of}
@@ -12,36 +11,47 @@ use Rattle.guided_down.proofs.extremes.extreme_inner.Goals as goal
 
 pub overflow_mul-u : goal.overflow_mul-u
 overflow_mul-u c =
-    let h = (let it : (r : ℕ) → r < c.args.layout.ch → r * c.args.stride + c.args.layout.cw * c.args.layout.sample_bytes ≤ length c.args.plane.now = λ r h. let a = c.args in row_inside (short_holds a.layout a.layout.cw a.layout.ch (plane_of a.plane.now a.stride) c.requires.0.plane) r h in it) (c.args.j - 1) (omega arith) in rw c.prev.ensures (omega arith)
+    let inside : (r : ℕ) → r < c.args.layout.ch → r * c.args.stride + c.args.layout.cw * c.args.layout.sample_bytes ≤ length c.args.plane.now = λ r h. let a = c.args in row_inside (short_holds a.layout a.layout.cw a.layout.ch (plane_of a.plane.now a.stride) c.requires.0.plane) r h in
+    let h = inside (c.args.j - 1) (omega arith) in rw c.prev.ensures (omega arith)
 
 pub overflow_mul-m : goal.overflow_mul-m
 overflow_mul-m c =
-    let h = (let it : (r : ℕ) → r < c.args.layout.ch → r * c.args.stride + c.args.layout.cw * c.args.layout.sample_bytes ≤ length c.args.plane.now = λ r h. let a = c.args in row_inside (short_holds a.layout a.layout.cw a.layout.ch (plane_of a.plane.now a.stride) c.requires.0.plane) r h in it) c.args.j (omega arith) in omega arith
+    let inside : (r : ℕ) → r < c.args.layout.ch → r * c.args.stride + c.args.layout.cw * c.args.layout.sample_bytes ≤ length c.args.plane.now = λ r h. let a = c.args in row_inside (short_holds a.layout a.layout.cw a.layout.ch (plane_of a.plane.now a.stride) c.requires.0.plane) r h in
+    let h = inside c.args.j (omega arith) in omega arith
 
 pub overflow_mul-d : goal.overflow_mul-d
 overflow_mul-d c =
-    let h = (let it : (r : ℕ) → r < c.args.layout.ch → r * c.args.stride + c.args.layout.cw * c.args.layout.sample_bytes ≤ length c.args.plane.now = λ r h. let a = c.args in row_inside (short_holds a.layout a.layout.cw a.layout.ch (plane_of a.plane.now a.stride) c.requires.0.plane) r h in it) (min (c.args.j + 1) (c.args.layout.ch - 1)) (omega arith) in rw c.next.ensures (omega arith)
+    let inside : (r : ℕ) → r < c.args.layout.ch → r * c.args.stride + c.args.layout.cw * c.args.layout.sample_bytes ≤ length c.args.plane.now = λ r h. let a = c.args in row_inside (short_holds a.layout a.layout.cw a.layout.ch (plane_of a.plane.now a.stride) c.requires.0.plane) r h in
+    let h = inside (min (c.args.j + 1) (c.args.layout.ch - 1)) (omega arith) in rw c.next.ensures (omega arith)
 
 pub byte_run-requires : goal.byte_run-requires
 byte_run-requires c =
-    let a = ((c.before.before.before.before.before.before)).args in
-    let u = (let it : (b : ℕ) → ((c.before.before.before.before.before.before)).args.layout.sample_bytes ≡ b → (r x : ℕ) → r < ((c.before.before.before.before.before.before)).args.layout.ch → x ≡ r → x * ((c.before.before.before.before.before.before)).args.stride + ((c.before.before.before.before.before.before)).args.layout.cw * b ≤ length ((c.before.before.before.before.before.before)).args.plane.now = λ b e r x h q. rw (q, sym e) (inside ((c.before.before.before.before.before.before)) r h) in it) 1 c.if-layout-eq1.true (a.j - 1) _ (omega arith) c.prev.ensures in
-    let m = (let it : (b : ℕ) → ((c.before.before.before.before.before.before)).args.layout.sample_bytes ≡ b → (r x : ℕ) → r < ((c.before.before.before.before.before.before)).args.layout.ch → x ≡ r → x * ((c.before.before.before.before.before.before)).args.stride + ((c.before.before.before.before.before.before)).args.layout.cw * b ≤ length ((c.before.before.before.before.before.before)).args.plane.now = λ b e r x h q. rw (q, sym e) (inside ((c.before.before.before.before.before.before)) r h) in it) 1 c.if-layout-eq1.true a.j _ (omega arith) refl in
-    let d = (let it : (b : ℕ) → ((c.before.before.before.before.before.before)).args.layout.sample_bytes ≡ b → (r x : ℕ) → r < ((c.before.before.before.before.before.before)).args.layout.ch → x ≡ r → x * ((c.before.before.before.before.before.before)).args.stride + ((c.before.before.before.before.before.before)).args.layout.cw * b ≤ length ((c.before.before.before.before.before.before)).args.plane.now = λ b e r x h q. rw (q, sym e) (inside ((c.before.before.before.before.before.before)) r h) in it) 1 c.if-layout-eq1.true (min (a.j + 1) (a.layout.ch - 1)) _ (omega arith) c.next.ensures in
+    let inside : (r : ℕ) → r < c.args.layout.ch → r * c.args.stride + c.args.layout.cw * c.args.layout.sample_bytes ≤ length c.args.plane.now = λ r h. let a = c.args in row_inside (short_holds a.layout a.layout.cw a.layout.ch (plane_of a.plane.now a.stride) c.requires.0.plane) r h in
+    let fits : (b : ℕ) → c.args.layout.sample_bytes ≡ b → (r x : ℕ) → r < c.args.layout.ch → x ≡ r → x * c.args.stride + c.args.layout.cw * b ≤ length c.args.plane.now = λ b e r x h q. rw (q, sym e) (inside r h) in
+    let a = c.args in
+    let u = fits 1 c.if-layout-eq1.true (a.j - 1) _ (omega arith) c.prev.ensures in
+    let m = fits 1 c.if-layout-eq1.true a.j _ (omega arith) refl in
+    let d = fits 1 c.if-layout-eq1.true (min (a.j + 1) (a.layout.ch - 1)) _ (omega arith) c.next.ensures in
     omega arith
 
 pub returns-then-layout-eq1 : goal.returns-then-layout-eq1
 returns-then-layout-eq1 c =
-    let a = ((c.before.before.before.before.before.before)).args in c.byte_run.ensures ∙ inner_are a.layout (plane_of a.plane.now a.stride) a.greatest a.j a.dst 1 _ _ _ (λ i. i) a.s.now ((let it : (i : ℕ) → get_or ((c.before.before.before.before.before.before)).args.plane.now i 0 < 256 = λ i. (c.type_inv.plane i).fits in it)) c.if-layout-eq1.true (λ i. omega arith) (ap (λ (r : ℕ). r * a.stride) c.prev.ensures) refl (ap (λ (r : ℕ). r * a.stride) c.next.ensures)
+    let known : (i : ℕ) → get_or c.args.plane.now i 0 < 256 = λ i. (c.type_inv.plane i).fits in
+    let a = c.args in c.byte_run.ensures ∙ inner_are a.layout (plane_of a.plane.now a.stride) a.greatest a.j a.dst 1 _ _ _ (λ i. i) a.s.now (known) c.if-layout-eq1.true (λ i. omega arith) (ap (λ (r : ℕ). r * a.stride) c.prev.ensures) refl (ap (λ (r : ℕ). r * a.stride) c.next.ensures)
 
 pub word_run-requires : goal.word_run-requires
 word_run-requires c =
-    let a = ((c.before.before.before.before.before.before)).args in
-    let u = (let it : (b : ℕ) → ((c.before.before.before.before.before.before)).args.layout.sample_bytes ≡ b → (r x : ℕ) → r < ((c.before.before.before.before.before.before)).args.layout.ch → x ≡ r → x * ((c.before.before.before.before.before.before)).args.stride + ((c.before.before.before.before.before.before)).args.layout.cw * b ≤ length ((c.before.before.before.before.before.before)).args.plane.now = λ b e r x h q. rw (q, sym e) (inside ((c.before.before.before.before.before.before)) r h) in it) 2 ((let it : ((c.before.before.before.before.before.before)).args.layout.sample_bytes ≡ 2 = let o = ((c.before.before.before.before.before.before)).requires.0.sound in omega (arith, o.bytes_some, o.bytes_most, c.if-layout-eq1.false) in it)) (a.j - 1) _ (omega arith) c.prev.ensures in
-    let m = (let it : (b : ℕ) → ((c.before.before.before.before.before.before)).args.layout.sample_bytes ≡ b → (r x : ℕ) → r < ((c.before.before.before.before.before.before)).args.layout.ch → x ≡ r → x * ((c.before.before.before.before.before.before)).args.stride + ((c.before.before.before.before.before.before)).args.layout.cw * b ≤ length ((c.before.before.before.before.before.before)).args.plane.now = λ b e r x h q. rw (q, sym e) (inside ((c.before.before.before.before.before.before)) r h) in it) 2 ((let it : ((c.before.before.before.before.before.before)).args.layout.sample_bytes ≡ 2 = let o = ((c.before.before.before.before.before.before)).requires.0.sound in omega (arith, o.bytes_some, o.bytes_most, c.if-layout-eq1.false) in it)) a.j _ (omega arith) refl in
-    let d = (let it : (b : ℕ) → ((c.before.before.before.before.before.before)).args.layout.sample_bytes ≡ b → (r x : ℕ) → r < ((c.before.before.before.before.before.before)).args.layout.ch → x ≡ r → x * ((c.before.before.before.before.before.before)).args.stride + ((c.before.before.before.before.before.before)).args.layout.cw * b ≤ length ((c.before.before.before.before.before.before)).args.plane.now = λ b e r x h q. rw (q, sym e) (inside ((c.before.before.before.before.before.before)) r h) in it) 2 ((let it : ((c.before.before.before.before.before.before)).args.layout.sample_bytes ≡ 2 = let o = ((c.before.before.before.before.before.before)).requires.0.sound in omega (arith, o.bytes_some, o.bytes_most, c.if-layout-eq1.false) in it)) (min (a.j + 1) (a.layout.ch - 1)) _ (omega arith) c.next.ensures in
+    let inside : (r : ℕ) → r < c.args.layout.ch → r * c.args.stride + c.args.layout.cw * c.args.layout.sample_bytes ≤ length c.args.plane.now = λ r h. let a = c.args in row_inside (short_holds a.layout a.layout.cw a.layout.ch (plane_of a.plane.now a.stride) c.requires.0.plane) r h in
+    let fits : (b : ℕ) → c.args.layout.sample_bytes ≡ b → (r x : ℕ) → r < c.args.layout.ch → x ≡ r → x * c.args.stride + c.args.layout.cw * b ≤ length c.args.plane.now = λ b e r x h q. rw (q, sym e) (inside r h) in
+    let two : c.args.layout.sample_bytes ≡ 2 = let o = c.requires.0.sound in omega (arith, o.bytes_some, o.bytes_most, c.if-layout-eq1.false) in
+    let a = c.args in
+    let u = fits 2 (two) (a.j - 1) _ (omega arith) c.prev.ensures in
+    let m = fits 2 (two) a.j _ (omega arith) refl in
+    let d = fits 2 (two) (min (a.j + 1) (a.layout.ch - 1)) _ (omega arith) c.next.ensures in
     omega arith
 
 pub returns : goal.returns
 returns c =
-    let a = ((c.before.before.before.before.before.before)).args in c.word_run.ensures ∙ inner_are a.layout (plane_of a.plane.now a.stride) a.greatest a.j a.dst 2 _ _ _ (λ i. i * 2) a.s.now ((let it : (i : ℕ) → get_or ((c.before.before.before.before.before.before)).args.plane.now i 0 < 256 = λ i. (c.type_inv.plane i).fits in it)) ((let it : ((c.before.before.before.before.before.before)).args.layout.sample_bytes ≡ 2 = let o = ((c.before.before.before.before.before.before)).requires.0.sound in omega (arith, o.bytes_some, o.bytes_most, c.if-layout-eq1.false) in it)) (λ i. refl) (ap (λ (r : ℕ). r * a.stride) c.prev.ensures) refl (ap (λ (r : ℕ). r * a.stride) c.next.ensures)
+    let known : (i : ℕ) → get_or c.args.plane.now i 0 < 256 = λ i. (c.type_inv.plane i).fits in
+    let two : c.args.layout.sample_bytes ≡ 2 = let o = c.requires.0.sound in omega (arith, o.bytes_some, o.bytes_most, c.if-layout-eq1.false) in
+    let a = c.args in c.word_run.ensures ∙ inner_are a.layout (plane_of a.plane.now a.stride) a.greatest a.j a.dst 2 _ _ _ (λ i. i * 2) a.s.now (known) (two) (λ i. refl) (ap (λ (r : ℕ). r * a.stride) c.prev.ensures) refl (ap (λ (r : ℕ). r * a.stride) c.next.ensures)

@@ -1,7 +1,6 @@
 use mathlib.Core.Path.{refl, ap, ◌∙◌}
 use Prim.Native.Nat.{ℕ, ◌-◌}
 use native.Mathlib.Omega.{arith}
-use borrow.Author.Rules.{rules}
 use lib.Ieee.{Float}
 use mathlib.Core.List.{List}
 use Rattle.guided_down.specs.Inner.Extremes.{extreme_run}

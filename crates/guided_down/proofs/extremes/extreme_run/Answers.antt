@@ -1,13 +1,10 @@
 use mathlib.Core.Path.{sym, ap, ◌∙◌}
-use Prim.Native.Nat.{◌+◌, ◌-◌, ◌≤◌}
 use native.Mathlib.Omega.{arith}
 use Rattle.laws.specs.Floats.{f32}
 use Rattle.guided_down.proofs.Wholes.{whole_is}
-use Rattle.laws.proofs.Lists.{Run, run_end, run_more, run_none}
-use Rattle.guided.specs.Guided.{extreme_of}
-use Rattle.guided_down.specs.Inner.Extremes.{extreme_run, op_of}
-use borrow.Author.Rules.{rules}
-use Rattle.image.specs.Samples.{sample_at, plane_of}
+use Rattle.laws.proofs.Lists.{run_end, run_more, run_none}
+use Rattle.guided_down.specs.Inner.Extremes.{extreme_run}
+use Rattle.image.specs.Samples.{plane_of}
 use Rattle.guided_down.proofs.extremes.extreme_run.Goals as goal
 
 pub loop-i-init : goal.loop-i-init

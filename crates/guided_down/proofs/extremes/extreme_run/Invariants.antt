@@ -1,14 +1,9 @@
 -- The loop's invariant: s is s₀ with the extremes round the first i of the cells from `from` on, as a `Run` from dst + from on; `run_more` is a turn.
 -- Its one step is `whole_is`: `extreme_at` gives the extreme of whole numbers, and the definition asks for that of floats.
-use mathlib.Core.Path.{sym, ap, ◌∙◌}
 use Prim.Native.Nat.{◌+◌, ◌-◌, ◌≤◌}
-use native.Mathlib.Omega.{arith}
-use Rattle.laws.specs.Floats.{f32}
-use Rattle.guided_down.proofs.Wholes.{whole_is}
-use Rattle.laws.proofs.Lists.{Run, run_end, run_more, run_none}
+use Rattle.laws.proofs.Lists.{Run}
 use Rattle.guided.specs.Guided.{extreme_of}
-use Rattle.guided_down.specs.Inner.Extremes.{extreme_run, op_of}
-use borrow.Author.Rules.{rules}
+use Rattle.guided_down.specs.Inner.Extremes.{op_of}
 use Rattle.image.specs.Samples.{sample_at, plane_of}
 use Rattle.guided_down.proofs.extremes.extreme_run.Given as goal
 

@@ -1,7 +1,6 @@
 -- Two rows are written one after another, each as its callee promises; `extreme_rows_are` takes the two to `extreme_rows` by the buffers' numbers.
 use mathlib.Core.Path.{ap, ◌∙◌}
 use mathlib.Core.Bool.{true}
-use borrow.Author.Rules.{rules}
 use Rattle.image.specs.Samples.{Plane}
 use Rattle.guided_down.specs.Inner.Extremes.{extreme_row}
 use Rattle.guided_down.proofs.DownSteps.{extreme_rows_are}

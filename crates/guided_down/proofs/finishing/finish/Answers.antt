@@ -1,5 +1,4 @@
 use native.Mathlib.Omega.{arith}
-use borrow.Author.Rules.{rules}
 use Rattle.image.specs.Picture.{Planes, planes_of}
 use Rattle.guided_down.proofs.DownSteps.{finish_cb, finish_both}
 use Rattle.guided_down.proofs.finishing.finish.Goals as goal

@@ -1,8 +1,5 @@
-use Prim.Native.Nat.{◌+◌, ◌-◌, ◌≤◌}
 use native.Mathlib.Omega.{arith}
-use borrow.Author.Rules.{rules}
-use Rattle.laws.proofs.Lists.{Run, run_none, front_more, front_at}
-use Rattle.guided_down.specs.Inner.Nines.{nine_from}
+use Rattle.laws.proofs.Lists.{run_none, front_more, front_at}
 use Rattle.guided_down.proofs.nines.byte_block.Goals as goal
 
 pub loop-k-init : goal.loop-k-init

@@ -1,7 +1,5 @@
 use Prim.Native.Nat.{◌+◌, ◌-◌, ◌≤◌}
-use native.Mathlib.Omega.{arith}
-use borrow.Author.Rules.{rules}
-use Rattle.laws.proofs.Lists.{Run, run_none, front_more, front_at}
+use Rattle.laws.proofs.Lists.{Run}
 use Rattle.guided_down.specs.Inner.Nines.{nine_from}
 use Rattle.guided_down.proofs.nines.byte_block.Given as goal
 

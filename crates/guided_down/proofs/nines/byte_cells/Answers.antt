@@ -1,10 +1,7 @@
 use mathlib.Core.Path.{ap}
-use Prim.Native.Nat.{◌+◌, ◌-◌, ◌≤◌}
 use native.Mathlib.Omega.{arith}
-use Rattle.laws.proofs.Lists.{Run, run_end, run_more, run_none}
+use Rattle.laws.proofs.Lists.{run_end, run_more, run_none}
 use Rattle.laws.specs.Floats.{f32}
-use borrow.Author.Rules.{rules}
-use Rattle.guided_down.specs.Inner.Nines.{nine_from}
 use Rattle.guided_down.proofs.nines.byte_cells.Goals as goal
 
 pub loop-i-init : goal.loop-i-init

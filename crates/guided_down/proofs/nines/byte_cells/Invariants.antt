@@ -1,11 +1,8 @@
 -- The loop's invariant: s is s₀ with the extremes round the first i cells, as a `Run` from dst on; `run_more` is a turn by what `byte_nine` promises.
 -- Only the plane is read, and cell i's bytes end i + 3 behind u, m and d, which is linear.
-use mathlib.Core.Path.{ap}
 use Prim.Native.Nat.{◌+◌, ◌-◌, ◌≤◌}
-use native.Mathlib.Omega.{arith}
-use Rattle.laws.proofs.Lists.{Run, run_end, run_more, run_none}
+use Rattle.laws.proofs.Lists.{Run}
 use Rattle.laws.specs.Floats.{f32}
-use borrow.Author.Rules.{rules}
 use Rattle.guided_down.specs.Inner.Nines.{nine_from}
 use Rattle.guided_down.proofs.nines.byte_cells.Given as goal
 

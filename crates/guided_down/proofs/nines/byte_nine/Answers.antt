@@ -1,4 +1,3 @@
-use borrow.Author.Rules.{rules}
 use Rattle.guided_down.specs.Inner.Nines.{nine_from}
 use Rattle.guided_down.proofs.nines.byte_nine.Goals as goal
 

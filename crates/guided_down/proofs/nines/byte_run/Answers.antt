@@ -1,8 +1,5 @@
-use Prim.Native.Nat.{◌+◌, ◌-◌, ◌≤◌}
 use native.Mathlib.Omega.{arith}
-use borrow.Author.Rules.{rules}
-use Rattle.laws.specs.Floats.{f32}
-use Rattle.laws.proofs.Lists.{Run, run_end, run_none}
+use Rattle.laws.proofs.Lists.{run_end, run_none}
 use Rattle.guided_down.specs.Inner.Nines.{nine_from}
 use Rattle.guided_down.proofs.Sixteens.{block_more}
 use Rattle.guided_down.proofs.nines.byte_run.Goals as goal

@@ -1,12 +1,9 @@
 -- Fewer than sixteen cells are `byte_cells`'s promise. Otherwise the invariant is a `Run` of the first `done` extremes, and `block_more` is a turn of sixteen.
 -- A block begins at the lesser of `done` and n - 16, so that it leaves no gap, ends within n, and writes again what it overlaps.
 use Prim.Native.Nat.{◌+◌, ◌-◌, ◌≤◌}
-use native.Mathlib.Omega.{arith}
-use borrow.Author.Rules.{rules}
 use Rattle.laws.specs.Floats.{f32}
-use Rattle.laws.proofs.Lists.{Run, run_end, run_none}
+use Rattle.laws.proofs.Lists.{Run}
 use Rattle.guided_down.specs.Inner.Nines.{nine_from}
-use Rattle.guided_down.proofs.Sixteens.{block_more}
 use Rattle.guided_down.proofs.nines.byte_run.Given as goal
 
 abbrev pub invariant-loop-done : goal.invariant-loop-done

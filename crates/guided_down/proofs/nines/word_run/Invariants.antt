@@ -1,11 +1,8 @@
 -- The loop's invariant: s is s₀ with the extremes round the first i cells, as a `Run` from dst on; `run_more` is a turn by what `word_nine` promises.
 -- Samples are two bytes apart, so that cell i's neighbours begin i * 2 bytes further on; a constant factor keeps the bounds linear.
-use mathlib.Core.Path.{ap}
 use Prim.Native.Nat.{◌+◌, ◌-◌, ◌*◌, ◌≤◌}
-use native.Mathlib.Omega.{arith}
-use Rattle.laws.proofs.Lists.{Run, run_end, run_more, run_none}
+use Rattle.laws.proofs.Lists.{Run}
 use Rattle.laws.specs.Floats.{f32}
-use borrow.Author.Rules.{rules}
 use Rattle.guided_down.specs.Inner.Nines.{nine_from}
 use Rattle.guided_down.proofs.nines.word_run.Given as goal
 

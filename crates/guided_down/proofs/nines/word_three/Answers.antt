@@ -1,4 +1,3 @@
-use borrow.Author.Rules.{rules}
 use Rattle.image.specs.Samples.{sample_of}
 use Rattle.guided_down.specs.Inner.Nines.{three_from}
 use Rattle.guided_down.proofs.nines.word_three.Goals as goal

@@ -1,5 +1,4 @@
 use native.Mathlib.Omega.{arith}
-use borrow.Author.Rules.{rules}
 use Rattle.guided_down.proofs.Statistics.{all_less, pair_cell_is}
 use Rattle.guided_down.proofs.slope_pairs.pair_cell.Goals as goal
 

@@ -1,7 +1,6 @@
 -- Fewer than ten cells are two promises of `slope_run`. Otherwise `pairs_are` chains four promises, as `cells_are` does for one component.
 use Prim.Native.Nat.{◌≤◌}
 use native.Mathlib.Omega.{arith}
-use borrow.Author.Rules.{rules}
 use Rattle.guided_down.proofs.Statistics.{all_less, pair_less, behind_clear, pairs_are, pair_run_is}
 use Rattle.guided_down.proofs.slope_pairs.pair_cells.Goals as goal
 
@@ -32,9 +31,11 @@ pair_eights-requires-2 c =
 
 pub pair_cell-requires-2 : goal.pair_cell-requires-2
 pair_cell-requires-2 c =
-    let h = (let it : 10 ≤ c.args.n = omega arith in it) in (omega arith, pair_less c.requires _ _ (omega arith) (omega arith))
+    let wide : 10 ≤ c.args.n = omega arith in
+    let h = wide in (omega arith, pair_less c.requires _ _ (omega arith) (omega arith))
 
 pub returns : goal.returns
 returns c =
+    let wide : 10 ≤ c.args.n = omega arith in
     let a = c.args in
-    pairs_are a.t a.u a.eps a.n a.a a.b a.s.now _ _ _ _ c.requires ((let it : 10 ≤ c.args.n = omega arith in it)) c.pair_cell.ensures c.pair_eights.ensures c.pair_eights-2.ensures c.pair_cell-2.ensures
+    pairs_are a.t a.u a.eps a.n a.a a.b a.s.now _ _ _ _ c.requires (wide) c.pair_cell.ensures c.pair_eights.ensures c.pair_eights-2.ensures c.pair_cell-2.ensures

@@ -1,8 +1,8 @@
 use mathlib.Core.Path.{ap, ◌∙◌}
-use Prim.Native.Nat.{◌+◌, ◌-◌, ◌≤◌}
+use Prim.Native.Nat.{◌+◌}
 use native.Mathlib.Omega.{arith}
 use lib.Ieee.{nan}
-use Rattle.laws.proofs.Lists.{Run, run_none, front_more, front_at}
+use Rattle.laws.proofs.Lists.{run_none, front_more, front_at}
 use Rattle.guided_down.specs.declared.slopes.Stats.{Stats}
 use Rattle.guided_down.specs.Inner.Slopes.{slope_inside}
 use Rattle.guided_down.proofs.Statistics.{all_less}

@@ -1,11 +1,6 @@
-use mathlib.Core.Path.{ap, ◌∙◌}
 use Prim.Native.Nat.{◌+◌, ◌-◌, ◌≤◌}
-use native.Mathlib.Omega.{arith}
-use lib.Ieee.{nan}
-use Rattle.laws.proofs.Lists.{Run, run_none, front_more, front_at}
-use Rattle.guided_down.specs.declared.slopes.Stats.{Stats}
+use Rattle.laws.proofs.Lists.{Run}
 use Rattle.guided_down.specs.Inner.Slopes.{slope_inside}
-use Rattle.guided_down.proofs.Statistics.{all_less}
 use Rattle.guided_down.proofs.slope_pairs.pair_eight.Given as goal
 
 abbrev pub invariant-loop-k : goal.invariant-loop-k

@@ -1,13 +1,12 @@
 use mathlib.Core.Path.{ap, ◌∙◌}
 use mathlib.Core.List.{List, []}
-use Prim.Native.Nat.{ℕ, ◌+◌, ◌-◌, ◌*◌, ◌≤◌, ◌<◌}
+use Prim.Native.Nat.{ℕ, ◌+◌, ◌*◌, ◌≤◌, ◌<◌}
 use native.Mathlib.Omega.{arith}
 use lib.Ieee.{Float, nan}
 use lib.ListN.{get_or}
-use borrow.Author.Rules.{rules}
 use Rattle.laws.specs.Lists.{put}
-use Rattle.guided_down.specs.Inner.Slopes.{slope_inside, pairs_inside}
-use Rattle.guided_down.proofs.Pairs.{Pair, pair_none, pair_end}
+use Rattle.guided_down.specs.Inner.Slopes.{pairs_inside}
+use Rattle.guided_down.proofs.Pairs.{pair_none, pair_end}
 use Rattle.guided_down.proofs.Statistics.{all_less, pair_eights_more}
 use Rattle.guided_down.proofs.slope_pairs.pair_eights.Goals as goal
 
@@ -52,10 +51,11 @@ put_eight-requires-in-loop-n c =
 
 pub loop-n-preserved : goal.loop-n-preserved
 loop-n-preserved c =
+    let turn : c.loop-n.n < c.args.count = omega arith in
     let a = c.args in
     let i = a.from + 8 * c.loop-n.n in
     let v = c.pair_eight-v.result in
-    let h = (let it : c.loop-n.n < c.args.count = omega arith in it) in (
+    let h = turn in (
       next _ _ h,
       pair_eights_more a.t a.u a.eps a.a a.b a.from c.loop-n.n _ c.requires.1 c.loop-n.invariant.1 _ (get_or v 0 []) (get_or v 1 []) c.pair_eight-v.ensures
           (c.put_eight-in-loop-n.ensures ∙ ap (λ (s : List Float). put s (a.b + i) 8 (λ k. get_or (get_or v 1 []) k nan)) c.put_eight.ensures) (blocks _ _ _ h),

@@ -1,15 +1,7 @@
 -- The invariant is a `Pair` of the blocks made so far, by what scratch held at the beginning; `pair_eights_more` is a turn.
-use mathlib.Core.Path.{ap, ◌∙◌}
-use mathlib.Core.List.{List, []}
-use Prim.Native.Nat.{ℕ, ◌+◌, ◌-◌, ◌*◌, ◌≤◌, ◌<◌}
-use native.Mathlib.Omega.{arith}
-use lib.Ieee.{Float, nan}
-use lib.ListN.{get_or}
-use borrow.Author.Rules.{rules}
-use Rattle.laws.specs.Lists.{put}
-use Rattle.guided_down.specs.Inner.Slopes.{slope_inside, pairs_inside}
-use Rattle.guided_down.proofs.Pairs.{Pair, pair_none, pair_end}
-use Rattle.guided_down.proofs.Statistics.{all_less, pair_eights_more}
+use Prim.Native.Nat.{◌+◌, ◌-◌, ◌*◌, ◌≤◌}
+use Rattle.guided_down.specs.Inner.Slopes.{slope_inside}
+use Rattle.guided_down.proofs.Pairs.{Pair}
 use Rattle.guided_down.proofs.slope_pairs.pair_eights.Given as goal
 
 abbrev pub invariant-loop-n : goal.invariant-loop-n

@@ -1,7 +1,5 @@
 use mathlib.Core.Path.{refl, ◌∙◌}
 use lib.Ieee.{of_bits, of_int}
-use native.Mathlib.Omega.{arith}
-use borrow.Author.Rules.{rules}
 use Rattle.guided_down.proofs.Statistics.{pair_ready, pair_slopes, epsilon_is}
 use Rattle.guided_down.proofs.slope_pairs.slope_rows.Goals as goal
 

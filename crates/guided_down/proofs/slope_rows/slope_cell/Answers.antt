@@ -1,5 +1,3 @@
-use borrow.Author.Rules.{rules}
-use native.Mathlib.Omega.{arith}
 use Rattle.guided_down.proofs.Statistics.{cell_is}
 use Rattle.guided_down.proofs.slope_rows.slope_cell.Goals as goal
 

@@ -2,7 +2,6 @@
 -- slopes, so that it is what scratch held at the beginning, and what the last block overlaps is written alike.
 use Prim.Native.Nat.{◌≤◌}
 use native.Mathlib.Omega.{arith}
-use borrow.Author.Rules.{rules}
 use Rattle.guided_down.proofs.Statistics.{all_less, clear_less, cells_are}
 use Rattle.guided_down.proofs.slope_rows.slope_cells.Goals as goal
 
@@ -24,5 +23,6 @@ slope_cell-requires-2 c =
 
 pub returns : goal.returns
 returns c =
+    let wide : 10 ≤ c.args.n = omega arith in
     let a = c.args in
-    cells_are a.t a.eps a.n a.dst a.s.now _ _ _ _ c.requires.1 c.requires.2 ((let it : 10 ≤ c.args.n = omega arith in it)) c.slope_cell.ensures c.slope_eights.ensures c.slope_eights-2.ensures c.slope_cell-2.ensures
+    cells_are a.t a.eps a.n a.dst a.s.now _ _ _ _ c.requires.1 c.requires.2 (wide) c.slope_cell.ensures c.slope_eights.ensures c.slope_eights-2.ensures c.slope_cell-2.ensures

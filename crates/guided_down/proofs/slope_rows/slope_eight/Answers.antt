@@ -1,8 +1,6 @@
 use Rattle.guided_down.proofs.Statistics.{all_less}
 use lib.Ieee.{nan}
-use Rattle.laws.proofs.Lists.{Run, run_none, front_more, front_at}
-use Rattle.guided_down.specs.Inner.Slopes.{slope_inside}
-use Prim.Native.Nat.{◌+◌, ◌-◌, ◌≤◌}
+use Rattle.laws.proofs.Lists.{run_none, front_more, front_at}
 use native.Mathlib.Omega.{arith}
 use Rattle.guided_down.proofs.slope_rows.slope_eight.Goals as goal
 

@@ -1,8 +1,6 @@
-use Prim.Native.Nat.{◌+◌, ◌-◌, ◌*◌, ◌≤◌}
 use native.Mathlib.Omega.{arith}
-use borrow.Author.Rules.{rules}
-use Rattle.laws.proofs.Lists.{Run, run_none, run_end}
-use Rattle.guided_down.specs.Inner.Slopes.{slope_inside, slopes_inside}
+use Rattle.laws.proofs.Lists.{run_none, run_end}
+use Rattle.guided_down.specs.Inner.Slopes.{slopes_inside}
 use Rattle.guided_down.proofs.Statistics.{all_less, eights_more}
 use Rattle.guided_down.proofs.slope_rows.slope_eights.Goals as goal
 

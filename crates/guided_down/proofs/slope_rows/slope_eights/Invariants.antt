@@ -1,10 +1,7 @@
 -- The invariant is a `Run` of the blocks made so far, by what scratch held at the beginning; `eights_more` is a turn.
 use Prim.Native.Nat.{◌+◌, ◌-◌, ◌*◌, ◌≤◌}
-use native.Mathlib.Omega.{arith}
-use borrow.Author.Rules.{rules}
-use Rattle.laws.proofs.Lists.{Run, run_none, run_end}
-use Rattle.guided_down.specs.Inner.Slopes.{slope_inside, slopes_inside}
-use Rattle.guided_down.proofs.Statistics.{all_less, eights_more}
+use Rattle.laws.proofs.Lists.{Run}
+use Rattle.guided_down.specs.Inner.Slopes.{slope_inside}
 use Rattle.guided_down.proofs.slope_rows.slope_eights.Given as goal
 
 abbrev pub invariant-loop-b : goal.invariant-loop-b

@@ -1,7 +1,6 @@
 use mathlib.Core.Path.{refl, ◌∙◌}
 use lib.Ieee.{of_bits, of_int}
 use native.Mathlib.Omega.{arith}
-use borrow.Author.Rules.{rules}
 use Rattle.guided_down.proofs.Statistics.{row_ready, row_slopes, epsilon_is}
 use Rattle.guided_down.proofs.slope_rows.slope_row.Goals as goal
 

@@ -1,5 +1,4 @@
 use Rattle.guided_down.specs.Inner.Slopes.{mean_at}
-use borrow.Author.Rules.{rules}
 use Rattle.guided_down.proofs.slopes.mean_at.Goals as goal
 
 pub returns : goal.returns

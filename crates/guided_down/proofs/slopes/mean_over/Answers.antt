@@ -1,7 +1,5 @@
-use mathlib.Core.Path.{refl, ap, ◌∙◌}
-use native.Mathlib.Omega.{arith}
+use mathlib.Core.Path.{refl, ◌∙◌}
 use Rattle.guided_down.specs.Inner.Slopes.{mean_over}
-use borrow.Author.Rules.{rules}
 use Rattle.guided_down.proofs.slopes.mean_over.Goals as goal
 
 pub returns : goal.returns

@@ -2,7 +2,6 @@ use Rattle.guided_down.specs.Inner.Slopes.{slope_by}
 use mathlib.Core.Path.{ap}
 use lib.Ieee.{Float, of_bits, of_int}
 use Rattle.laws.specs.Floats.{◌⊕◌, ◌⊖◌, ◌⊗◌, ◌⊘◌}
-use borrow.Author.Rules.{rules}
 use Rattle.guided_down.proofs.slopes.slope_by.Goals as goal
 
 pub returns : goal.returns

@@ -1,6 +1,5 @@
 use mathlib.Core.Path.{ap, ◌∙◌}
 use native.Mathlib.Omega.{arith}
-use borrow.Author.Rules.{rules}
 use lib.Ieee.{Float}
 use Rattle.guided_down.specs.Inner.Slopes.{slope_with, slope_inside}
 use Rattle.guided_down.proofs.Statistics.{all_less}

@@ -1,9 +1,8 @@
 use mathlib.Core.Path.{◌∙◌}
-use Prim.Native.Nat.{◌-◌, ◌≤◌}
 use native.Mathlib.Omega.{arith}
 use lib.Ieee.{nan}
-use Rattle.laws.proofs.Lists.{Run, run_none, run_more, run_end, run_before}
-use Rattle.guided_down.specs.Inner.Slopes.{slope_at, slope_run}
+use Rattle.laws.proofs.Lists.{run_none, run_more, run_end, run_before}
+use Rattle.guided_down.specs.Inner.Slopes.{slope_run}
 use Rattle.guided_down.proofs.Statistics.{all_less, slope_same}
 use Rattle.guided_down.proofs.slopes.slope_run.Goals as goal
 

@@ -1,5 +1,4 @@
 use mathlib.Core.Path.{refl, ◌∙◌}
-use borrow.Author.Rules.{rules}
 use Rattle.guided_down.specs.Inner.Slopes.{slope_with}
 use Rattle.guided_down.proofs.Statistics.{by_same}
 use Rattle.guided_down.proofs.slopes.slope_with.Goals as goal

@@ -1,7 +1,6 @@
 use mathlib.Core.Path.{◌≡◌, ap, ◌∙◌}
 use Prim.Native.Nat.{ℕ, ◌+◌}
 use native.Mathlib.Omega.{arith}
-use borrow.Author.Rules.{rules}
 use Rattle.guided.specs.Scratch.{result_at, first_down}
 use Rattle.guided_down.proofs.slopes.slopes_at.Goals as goal
 

@@ -1,7 +1,4 @@
-use mathlib.Core.Path.{refl, ap, ◌∙◌}
-use native.Mathlib.Omega.{arith}
 use Rattle.guided_down.proofs.Statistics.{stats_are}
-use borrow.Author.Rules.{rules}
 use Rattle.guided_down.proofs.slopes.stats_at.Goals as goal
 
 pub returns : goal.returns

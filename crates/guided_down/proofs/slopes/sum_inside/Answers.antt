@@ -1,6 +1,5 @@
 use mathlib.Core.Path.{refl}
 use Rattle.guided_down.specs.Inner.Slopes.{sum_inside}
-use borrow.Author.Rules.{rules}
 use Rattle.guided_down.proofs.slopes.sum_inside.Goals as goal
 
 pub returns : goal.returns
