@@ -50,7 +50,7 @@ fn detail_block(
         × (layout.rh ≡ 2) × (i + 10 ≤ layout.cw) × (2 * i + 18 ≤ layout.w) }
     requires cw_in_bounds { src + layout.cw ≤ length s.now }
     ensures { ((k : ℕ) → k < Lanes.PIXELS
-          → get_or result k nan ≡ detail_in layout (plane_of plane.now stride) y s.now src (2 + 2 * i + k)) }
+        → get_or result k nan ≡ detail_in layout (plane_of plane.now stride) y s.now src (2 + 2 * i + k)) }
 {
     let mut block = [0.0f32; Lanes::PIXELS];
     for b in 0..Lanes::CELLS {

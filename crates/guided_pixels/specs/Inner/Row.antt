@@ -1,5 +1,5 @@
 -- The steps of a picture row over lent scratch, as the inner functions' contracts say them. Definitions only.
-use Rattle.std.specs.Prelude.{List, ℕ, ◌+◌, ◌/◌, Float}
+use Rattle.std.specs.Prelude.{List, ℕ, ◌/◌, Float}
 use Rattle.image.specs.declared.layout.Layout.{Layout}
 use Rattle.image.specs.declared.chroma.Chroma.{Chroma}
 use Rattle.image.specs.Picture.{Picture}
