@@ -22,7 +22,6 @@ use Rattle.guided.proofs.Surplus.{steps_behind}
 use Rattle.guided.proofs.Window.{Win, win_fresh}
 use Rattle.guided.proofs.FinishedRows.{length_row, row_window, row_finished}
 use Rattle.guided_rows.specs.CatchingUp.{before_h, before_f, guided_step, guided_rows}
-use Rattle.guided.proofs.Runs.{after}
 
 -- a row keeps scratch's length
 pub length_step : (p : Picture) (ks : List Chroma) (a n : ℕ) (xs : List Float) → length (guided_step p ks a n xs) ≡ length xs
