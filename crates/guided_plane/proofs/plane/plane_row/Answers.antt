@@ -1,0 +1,42 @@
+-- The contract is the two calls' contracts, one after the other. The hard step is room: row·w + w lies within w·h (`row_fits`), which is what
+-- out holds, and the finished row lies at the front of scratch (`front_fits`).
+use mathlib.Core.Path.{ap, ◌∙◌}
+use mathlib.Core.List.{List, [], ◌∷◌}
+use Prim.Native.Nat.{◌+◌, ◌*◌, ◌≤◌}
+use native.Mathlib.Nat.{mul_comm}
+use native.Mathlib.Omega.{arith}
+use lib.ListN.{length}
+use lib.Ieee.{Float}
+use borrow.Author.Rules.{rules}
+use Rattle.laws.proofs.Rows.{row_fits}
+use Rattle.image.specs.declared.chroma.Chroma.TheVariants.{Cb}
+use Rattle.image.specs.Picture.{Picture, picture_of}
+use Rattle.image.proofs.Layouts.{area}
+use Rattle.linear.specs.Inner.Stores.{store_run}
+use Rattle.guided.proofs.Places.{front_fits}
+use Rattle.guided_plane.specs.Plane.{planes_with}
+use Rattle.guided_rows.proofs.GuidedRows.{length_step}
+use Rattle.image.specs.Samples.{plane_of}
+use Rattle.guided_plane.proofs.plane.plane_row.Goals as goal
+
+pub guided_step-requires : goal.guided_step-requires
+guided_step-requires c =
+    let p = c.requires in
+    record { lent = p.lent; n_bound = (omega arith, p.row_lt_h.1) }
+
+pub overflow_mul-row : goal.overflow_mul-row
+overflow_mul-row c =
+    let h = inside c.before.before.before.before.before.before.before.before.before.before.before in omega (arith, area c.requires.lent.sound)
+
+pub store_row-requires : goal.store_row-requires
+store_row-requires c =
+    let h = inside c.before.before.before.before.before.before.before.before.before.before.before in
+    let o = c.requires.lent.sound in
+    let f = front_fits c.args.layout in
+    let e = ap length c.guided_step.ensures ∙ length_step (picture c.before.before.before.before.before.before.before.before.before.before.before) (Cb ∷ []) 0 c.args.row c.args.s.now in
+    (o.maxval_most, omega arith, omega arith)
+
+pub returns : goal.returns
+returns c =
+    let a = c.args in
+    record { s_after = c.guided_step.ensures; out_after = c.store_row.ensures ∙ ap (λ (z : List Float). store_run z 0 a.layout.w a.layout.maxval (a.row * a.layout.w) a.out.now) c.guided_step.ensures }
