@@ -5,14 +5,13 @@ use mathlib.Core.Path.{◌≡◌, refl, sym, ap, ◌∙◌}
 use mathlib.Core.List.{List, [], ◌∷◌, ◌++◌}
 use Prim.Native.Nat.{ℕ, ◌≤◌}
 use native.Mathlib.Omega.{arith}
-use lib.Dec.{ltb}
 use lib.ListN.{length, length-append}
 use lib.Ieee.{Float}
 use borrow.Author.Tests.{le-ltb, ltb-false}
 use Rattle.laws.specs.declared.answers.Answer.{Answer}
 use Rattle.laws.specs.declared.answers.Answer.TheVariants.{Accepted, Refused as Turned}
 use Rattle.laws.specs.Refusals.{first, accepted}
-use Rattle.laws.proofs.Refusals.{accepted_failed, failed_accepted, failed_both, passed_early, refused_early}
+use Rattle.laws.proofs.Refusals.{accepted_failed, failed_both, passed_early, refused_early}
 use Rattle.image.specs.Limits.{exceeds}
 use Rattle.image.specs.Scratch.{scratch_need}
 use Rattle.netpbm.specs.declared.lines.Line.{Line}

@@ -1,7 +1,6 @@
 use Rattle.image.specs.Picture.{short_plane}
 use Rattle.guided_plane.specs.Plane.{short_pair}
 use mathlib.Core.Path.{refl}
-use borrow.Author.Rules.{rules}
 use Rattle.guided_plane.proofs.plane.bad_pair.Goals as goal
 
 pub returns : goal.returns

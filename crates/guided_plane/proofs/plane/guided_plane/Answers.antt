@@ -1,5 +1,4 @@
 use lib.ListN.{length}
-use borrow.Author.Rules.{rules}
 use Rattle.laws.proofs.Refusals.{Asked, kept, made, passed}
 use Rattle.image.specs.Samples.{plane_of}
 use Rattle.guided_plane.specs.Plane.{guided_tests}

@@ -7,10 +7,9 @@ use native.Mathlib.Nat.{mul_comm}
 use native.Mathlib.Omega.{arith}
 use lib.ListN.{length}
 use lib.Ieee.{Float}
-use borrow.Author.Rules.{rules}
 use Rattle.laws.proofs.Rows.{row_fits}
 use Rattle.image.specs.declared.chroma.Chroma.TheVariants.{Cb}
-use Rattle.image.specs.Picture.{Picture, picture_of}
+use Rattle.image.specs.Picture.{picture_of}
 use Rattle.image.proofs.Layouts.{area}
 use Rattle.linear.specs.Inner.Stores.{store_run}
 use Rattle.guided.proofs.Places.{front_fits}
@@ -26,14 +25,16 @@ guided_step-requires c =
 
 pub overflow_mul-row : goal.overflow_mul-row
 overflow_mul-row c =
-    let h = inside c.before.before.before.before.before.before.before.before.before.before.before in omega (arith, area c.requires.lent.sound)
+    let inside : c.args.row * c.args.layout.w + c.args.layout.w ≤ length c.args.out.now = let a = c.args in let p = c.requires.row_lt_h in omega (arith, row_fits a.row a.layout.h a.layout.w p.0, mul_comm a.layout.w a.layout.h) in
+    let h = inside in omega (arith, area c.requires.lent.sound)
 
 pub store_row-requires : goal.store_row-requires
 store_row-requires c =
-    let h = inside c.before.before.before.before.before.before.before.before.before.before.before in
+    let inside : c.args.row * c.args.layout.w + c.args.layout.w ≤ length c.args.out.now = let a = c.args in let p = c.requires.row_lt_h in omega (arith, row_fits a.row a.layout.h a.layout.w p.0, mul_comm a.layout.w a.layout.h) in
+    let h = inside in
     let o = c.requires.lent.sound in
     let f = front_fits c.args.layout in
-    let e = ap length c.guided_step.ensures ∙ length_step (picture c.before.before.before.before.before.before.before.before.before.before.before) (Cb ∷ []) 0 c.args.row c.args.s.now in
+    let e = ap length c.guided_step.ensures ∙ length_step ((picture_of c.args.layout (planes_with (plane_of c.args.y.now c.args.y_stride) (plane_of c.args.c.now c.args.c_stride)))) (Cb ∷ []) 0 c.args.row c.args.s.now in
     (o.maxval_most, omega arith, omega arith)
 
 pub returns : goal.returns

@@ -1,14 +1,10 @@
 use mathlib.Core.Path.{◌∙◌}
-use mathlib.Core.List.{[], ◌∷◌}
-use Prim.Native.Nat.{◌-◌, ◌*◌, ◌≤◌}
+use Prim.Native.Nat.{◌*◌}
 use native.Mathlib.Omega.{arith}
-use Rattle.laws.proofs.Lists.{Rows, rows_none, rows_more, rows_end}
-use Rattle.image.specs.declared.chroma.Chroma.TheVariants.{Cb}
-use Rattle.image.specs.Picture.{Picture, picture_of}
-use Rattle.fround.specs.Rounding.{round_clamped}
-use Rattle.guided.specs.Guided.{guided_sample}
+use Rattle.laws.proofs.Lists.{rows_none, rows_more, rows_end}
+use Rattle.image.specs.Picture.{picture_of}
 use Rattle.guided_plane.specs.Plane.{planes_with, guided_plane}
-use Rattle.guided_rows.proofs.GuidedRows.{Advanced, advanced_none, advanced_more, advanced_end}
+use Rattle.guided_rows.proofs.GuidedRows.{advanced_none, advanced_more, advanced_end}
 use Rattle.guided_plane.proofs.PlaneRows.{stored_is}
 use Rattle.image.specs.Samples.{plane_of}
 use Rattle.guided_plane.proofs.plane.plane_rows.Goals as goal
@@ -27,7 +23,7 @@ unfolding picture_of
 loop-row-preserved c =
     let i = c.loop-row in (
       omega arith,
-      rows_more i.invariant.1 _ (c.plane_row.ensures.out_after ∙ stored_is (picture c.before.before.before.before.before.before.before.before.before.before.before.before.before) c.requires.lent.sound i.row (i.row * c.args.layout.w) c.args.s.now i.s i.out i.invariant.2 c.requires.layout_in_bounds.0 (omega arith)),
+      rows_more i.invariant.1 _ (c.plane_row.ensures.out_after ∙ stored_is ((picture_of c.args.layout (planes_with (plane_of c.args.y.now c.args.y_stride) (plane_of c.args.c.now c.args.c_stride)))) c.requires.lent.sound i.row (i.row * c.args.layout.w) c.args.s.now i.s i.out i.invariant.2 c.requires.layout_in_bounds.0 (omega arith)),
       advanced_more i.invariant.2 _ c.plane_row.ensures.s_after,
     )
 

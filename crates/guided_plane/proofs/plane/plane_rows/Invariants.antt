@@ -1,17 +1,14 @@
 -- The loop's invariant is that out has the guided samples in its first rows (`Rows`) and scratch is that after these rows (`Advanced`). `loop-
 -- again` carries a turn: by `stored_is` the row that was stored from scratch is the row of the definition.
-use mathlib.Core.Path.{◌∙◌}
 use mathlib.Core.List.{[], ◌∷◌}
-use Prim.Native.Nat.{◌-◌, ◌*◌, ◌≤◌}
-use native.Mathlib.Omega.{arith}
-use Rattle.laws.proofs.Lists.{Rows, rows_none, rows_more, rows_end}
+use Prim.Native.Nat.{◌-◌, ◌≤◌}
+use Rattle.laws.proofs.Lists.{Rows}
 use Rattle.image.specs.declared.chroma.Chroma.TheVariants.{Cb}
-use Rattle.image.specs.Picture.{Picture, picture_of}
+use Rattle.image.specs.Picture.{picture_of}
 use Rattle.fround.specs.Rounding.{round_clamped}
 use Rattle.guided.specs.Guided.{guided_sample}
-use Rattle.guided_plane.specs.Plane.{planes_with, guided_plane}
-use Rattle.guided_rows.proofs.GuidedRows.{Advanced, advanced_none, advanced_more, advanced_end}
-use Rattle.guided_plane.proofs.PlaneRows.{stored_is}
+use Rattle.guided_plane.specs.Plane.{planes_with}
+use Rattle.guided_rows.proofs.GuidedRows.{Advanced}
 use Rattle.image.specs.Samples.{plane_of}
 use Rattle.guided_plane.proofs.plane.plane_rows.Given as goal
 

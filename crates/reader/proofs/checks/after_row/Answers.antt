@@ -1,5 +1,4 @@
 use mathlib.Core.Path.{sym}
-use borrow.Author.Rules.{rules}
 use Rattle.guided.specs.Calls.{reader_layout, after_row}
 use Rattle.reader.proofs.checks.after_row.Goals as goal
 

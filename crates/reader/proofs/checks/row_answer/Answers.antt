@@ -1,5 +1,4 @@
 use mathlib.Core.Path.{refl, sym}
-use borrow.Author.Rules.{rules}
 use Rattle.laws.proofs.Refusals.{first_folded}
 use Rattle.guided.specs.Calls.{row_tests}
 use Rattle.reader.proofs.checks.row_answer.Goals as goal

@@ -1,7 +1,5 @@
-use Rattle.image.specs.Scratch.{cell_at}
 use mathlib.Core.Path.{refl}
-use Prim.Native.Nat.{◌-◌, ◌≤◌}
-use Rattle.laws.proofs.Lists.{Run, run_none, run_more, run_end}
+use Rattle.laws.proofs.Lists.{run_none, run_more, run_end}
 use native.Mathlib.Omega.{arith}
 use Rattle.reader.proofs.copies.copy_row.Goals as goal
 

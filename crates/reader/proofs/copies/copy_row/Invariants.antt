@@ -1,10 +1,8 @@
 -- The loop's invariant is `Run` of laws: the first i values are copied and all else is as it was. `run_more` carries a turn, and every bound
 -- is arithmetic over the two lengths.
 use Rattle.image.specs.Scratch.{cell_at}
-use mathlib.Core.Path.{refl}
 use Prim.Native.Nat.{◌-◌, ◌≤◌}
-use Rattle.laws.proofs.Lists.{Run, run_none, run_more, run_end}
-use native.Mathlib.Omega.{arith}
+use Rattle.laws.proofs.Lists.{Run}
 use Rattle.reader.proofs.copies.copy_row.Given as goal
 
 abbrev pub invariant-loop-i : goal.invariant-loop-i

@@ -1,5 +1,4 @@
 use mathlib.Core.Path.{sym}
-use borrow.Author.Rules.{rules}
 use Rattle.guided.specs.Calls.{after_open}
 use Rattle.reader.proofs.opening.after_open.Goals as goal
 

@@ -1,6 +1,6 @@
 -- A refused call hands the state back (`kept`). An accepted one had every test failed, so that the layout is sound and `after_open` gives the
 -- state (`made`). The bytes of the planes are facts of the slices' type, which the contract passes on for demand 3.
-use borrow.Author.Rules.{rules}
+use Rattle.std.proofs.Common.{ℕ, ◌<◌, get_or}
 use Rattle.laws.proofs.Refusals.{Asked, kept, made, passed, accepted_failed}
 use Rattle.image.specs.declared.chroma.Chroma.TheVariants.{Cb, Cr}
 use Rattle.image.specs.Picture.{planes_of}
@@ -9,34 +9,30 @@ use Rattle.guided.specs.Calls.{OpenCall, open_call, open_tests, Bytes}
 use Rattle.guided.proofs.Acceptance.{open_handed}
 use Rattle.reader.proofs.opening.open.Goals as goal
 
-pub returns-then-refused : goal.returns-then-refused
+bytes_of : (o : OpenCall) → ((i : ℕ) → get_or o.planes.cb.bytes i 0 < 256) → ((i : ℕ) → get_or o.planes.cr.bytes i 0 < 256) → Bytes o
 unfolding Bytes
+bytes_of o b r Cb i = b i
+bytes_of o b r Cr i = r i
+
+pub returns-then-refused : goal.returns-then-refused
 returns-then-refused c =
-    let asked : Asked (open_tests ((let a = c.args in
-    open_call a.layout (planes_of a.y.now a.cb.now a.cr.now a.strides) a.s.now a.reader))) c.open_answer-answer.result c.refused.result = record { answers = c.open_answer-answer.ensures ((let a = c.args in
-    open_call a.layout (planes_of a.y.now a.cb.now a.cr.now a.strides) a.s.now a.reader)).reader; tells = c.refused.ensures } in
-    let bytes : Bytes ((let a = c.args in
-    open_call a.layout (planes_of a.y.now a.cb.now a.cr.now a.strides) a.s.now a.reader)) = λ Cb i. (c.type_inv.cb i).fits
-bytes c Cr i = (c.type_inv.cr i).fits in
-    let a = asked in record { answers = a.answers; leaves = kept a c.if-refused.true _ _; bytes = bytes }
+    let a = c.args in
+    let call = open_call a.layout (planes_of a.y.now a.cb.now a.cr.now a.strides) a.s.now a.reader in
+    let asked : Asked (open_tests call) c.open_answer-answer.result c.refused.result = record { answers = c.open_answer-answer.ensures call.reader; tells = c.refused.ensures } in
+    let bytes = bytes_of call (λ i. (c.type_inv.cb i).fits) (λ i. (c.type_inv.cr i).fits) in
+    record { answers = asked.answers; leaves = kept asked c.if-refused.true _ _; bytes = bytes }
 
 pub after_open-requires : goal.after_open-requires
 after_open-requires c =
-    let asked : Asked (open_tests ((let a = c.args in
-    open_call a.layout (planes_of a.y.now a.cb.now a.cr.now a.strides) a.s.now a.reader))) c.open_answer-answer.result c.refused.result = record { answers = c.open_answer-answer.ensures ((let a = c.args in
-    open_call a.layout (planes_of a.y.now a.cb.now a.cr.now a.strides) a.s.now a.reader)).reader; tells = c.refused.ensures } in
-    let o = (let a = c.args in
-    open_call a.layout (planes_of a.y.now a.cb.now a.cr.now a.strides) a.s.now a.reader) in
-    sound _ _ (open_handed o (accepted_failed (open_tests o) (passed (asked) c.if-refused.false))).layout
+    let a = c.args in
+    let call = open_call a.layout (planes_of a.y.now a.cb.now a.cr.now a.strides) a.s.now a.reader in
+    let asked : Asked (open_tests call) c.open_answer-answer.result c.refused.result = record { answers = c.open_answer-answer.ensures call.reader; tells = c.refused.ensures } in
+    sound _ _ (open_handed call (accepted_failed (open_tests call) (passed asked c.if-refused.false))).layout
 
 pub returns : goal.returns
-unfolding Bytes
 returns c =
-    let asked : Asked (open_tests ((let a = c.args in
-    open_call a.layout (planes_of a.y.now a.cb.now a.cr.now a.strides) a.s.now a.reader))) c.open_answer-answer.result c.refused.result = record { answers = c.open_answer-answer.ensures ((let a = c.args in
-    open_call a.layout (planes_of a.y.now a.cb.now a.cr.now a.strides) a.s.now a.reader)).reader; tells = c.refused.ensures } in
-    let bytes : Bytes ((let a = c.args in
-    open_call a.layout (planes_of a.y.now a.cb.now a.cr.now a.strides) a.s.now a.reader)) = λ Cb i. (c.type_inv.cb i).fits
-bytes c Cr i = (c.type_inv.cr i).fits in
-    let a = asked in
-    record { answers = a.answers; leaves = made a c.if-refused.false _ c.after_open.ensures; bytes = bytes }
+    let a = c.args in
+    let call = open_call a.layout (planes_of a.y.now a.cb.now a.cr.now a.strides) a.s.now a.reader in
+    let asked : Asked (open_tests call) c.open_answer-answer.result c.refused.result = record { answers = c.open_answer-answer.ensures call.reader; tells = c.refused.ensures } in
+    let bytes = bytes_of call (λ i. (c.type_inv.cb i).fits) (λ i. (c.type_inv.cr i).fits) in
+    record { answers = asked.answers; leaves = made asked c.if-refused.false _ c.after_open.ensures; bytes = bytes }

@@ -6,13 +6,12 @@ use mathlib.Core.Path.{◌≡◌, refl, sym, ap, ◌∙◌}
 use Prim.Native.Nat.{◌*◌, ◌≤◌}
 use native.Mathlib.Omega.{arith}
 use lib.ListN.{length}
-use borrow.Author.Rules.{rules}
 use Rattle.laws.proofs.Refusals.{Asked, kept, made, passed, accepted_failed}
 use Rattle.image.specs.declared.layout.Layout.{Layout}
 use Rattle.image.specs.Picture.{bad_planes, planes_of}
 use Rattle.image.proofs.Layouts.{neither}
 use Rattle.guided.specs.Scratch.{finished_at}
-use Rattle.guided.specs.Calls.{RowCall, row_call, reader_layout, row_tests, row_scratch, row_out}
+use Rattle.guided.specs.Calls.{row_call, reader_layout, row_tests, row_scratch, row_out}
 use Rattle.guided.proofs.Places.{front_fits}
 use Rattle.guided.proofs.FinishedRows.{length_row}
 use Rattle.guided.proofs.Acceptance.{fine, RowHanded, row_handed}
@@ -40,7 +39,7 @@ row_steps-requires c =
     let m = neither _ _ n.1 in
     record { sound = (fine _ h.state).sound; luma = n.0; cb = m.0; cr = λ _. m.1 } in
     let h = handed in
-    rw c.reader_layout-layout.ensures (lent, (h.inside, h.room))
+    rw c.reader_layout-layout.ensures (record { lent = lent; row_lt_h = (h.inside, h.room) })
 
 pub copy_rows-requires : goal.copy_rows-requires
 unfolding row_scratch
@@ -49,10 +48,10 @@ copy_rows-requires c =
     row_call a.row (planes_of a.y.now a.cb.now a.cr.now a.strides) a.reader a.s.now a.out_cb.now a.out_cr.now))) c.row_answer-answer.result c.refused.result = record { answers = c.row_answer-answer.ensures; tells = c.refused.ensures } in
     let handed : RowHanded ((let a = c.args in
     row_call a.row (planes_of a.y.now a.cb.now a.cr.now a.strides) a.reader a.s.now a.out_cb.now a.out_cr.now)) = row_handed _ (accepted_failed _ (passed (asked) c.if-refused.false)) in
-    let made_by : c.row_steps.new.1.1.1.1.1.1.1.1.1.0 ≡ row_scratch ((let a = c.args in
+    let made_by : c.row_steps.new.s ≡ row_scratch ((let a = c.args in
     row_call a.row (planes_of a.y.now a.cb.now a.cr.now a.strides) a.reader a.s.now a.out_cb.now a.out_cr.now)) = rw (sym c.reader_layout-layout.ensures) c.row_steps.ensures in
     let made-room : 3 * (reader_layout ((let a = c.args in
-    row_call a.row (planes_of a.y.now a.cb.now a.cr.now a.strides) a.reader a.s.now a.out_cb.now a.out_cr.now)).reader).w ≤ length c.row_steps.new.1.1.1.1.1.1.1.1.1.0 = let k = (let a = c.args in
+    row_call a.row (planes_of a.y.now a.cb.now a.cr.now a.strides) a.reader a.s.now a.out_cb.now a.out_cr.now)).reader).w ≤ length c.row_steps.new.s = let k = (let a = c.args in
     row_call a.row (planes_of a.y.now a.cb.now a.cr.now a.strides) a.reader a.s.now a.out_cb.now a.out_cr.now) in
     let h = handed in
     let f = front_fits (reader_layout k.reader) in
@@ -78,7 +77,7 @@ unfolding row_out finished_at reader_layout row_scratch
 returns c =
     let asked : Asked (row_tests ((let a = c.args in
     row_call a.row (planes_of a.y.now a.cb.now a.cr.now a.strides) a.reader a.s.now a.out_cb.now a.out_cr.now))) c.row_answer-answer.result c.refused.result = record { answers = c.row_answer-answer.ensures; tells = c.refused.ensures } in
-    let made_by : c.row_steps.new.1.1.1.1.1.1.1.1.1.0 ≡ row_scratch ((let a = c.args in
+    let made_by : c.row_steps.new.s ≡ row_scratch ((let a = c.args in
     row_call a.row (planes_of a.y.now a.cb.now a.cr.now a.strides) a.reader a.s.now a.out_cb.now a.out_cr.now)) = rw (sym c.reader_layout-layout.ensures) c.row_steps.ensures in
     let e = ap (λ (l : Layout). l.w) c.reader_layout-layout.ensures in
     let a = asked in

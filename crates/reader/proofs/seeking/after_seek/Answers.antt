@@ -1,5 +1,4 @@
 use mathlib.Core.Path.{sym}
-use borrow.Author.Rules.{rules}
 use Rattle.guided.specs.Calls.{reader_layout, after_seek}
 use Rattle.reader.proofs.seeking.after_seek.Goals as goal
 

@@ -1,6 +1,5 @@
-use borrow.Author.Rules.{rules}
 use Rattle.laws.proofs.Refusals.{Asked, kept, made, passed, accepted_failed}
-use Rattle.guided.specs.Calls.{SeekCall, seek_call, seek_tests}
+use Rattle.guided.specs.Calls.{seek_call, seek_tests}
 use Rattle.guided.proofs.Acceptance.{fine, seek_handed}
 use Rattle.reader.proofs.seeking.seek.Goals as goal
 

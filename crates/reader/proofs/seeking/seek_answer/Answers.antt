@@ -1,4 +1,3 @@
-use borrow.Author.Rules.{rules}
 use Rattle.laws.proofs.Refusals.{first_folded}
 use Rattle.guided.specs.Calls.{seek_tests}
 use Rattle.reader.proofs.seeking.seek_answer.Goals as goal
