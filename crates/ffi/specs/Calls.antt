@@ -1,5 +1,5 @@
 -- What the calls for C promise: the Rattle calls' own records, of the values that C's stand for. Definitions only.
-use Rattle.std.specs.Prelude.{◌≡◌, Bool, true, false, ◌||◌, List, ℕ, eqb, ltb}
+use Rattle.std.specs.Prelude.{◌≡◌, Bool, true, false, ◌||◌, ℕ, eqb, ltb}
 use Rattle.laws.specs.declared.answers.Answer.{Answer}
 use Rattle.guided.specs.declared.state.Reply.{Reply}
 use Rattle.kernels.specs.declared.pixel.Pixel.{Pixel}

@@ -43,8 +43,7 @@ fn blend_reply_to(early: ChromaReader, late: ChromaReader, reply: BlendReply) ->
 }
 
 // `blend_row`: one row as RGB between two pictures.
-#[unsafe(no_mangle)]
-pub extern "C" fn chroma_blend_row(
+pub fn chroma_blend_row(
     early: ChromaReader,
     early_y: &[u8],
     early_cb: &[u8],

@@ -86,8 +86,7 @@ fn from_reading(p: ChartReading) -> ChromaChartReading
 }
 
 // `chart_reading`: the nearest shade and the nearest mix of two neighbours.
-#[unsafe(no_mangle)]
-pub extern "C" fn chroma_chart_reading(
+pub fn chroma_chart_reading(
     chart: &[u8],
     rectangle: ChromaRectangle,
     w: usize,

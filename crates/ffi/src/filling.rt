@@ -39,8 +39,7 @@ pub fn no_such_way(layout: ChromaLayout, upsampling: u32, kernel: u32) -> bool
 }
 
 // `fill`: chroma linear (0) or guided (1), kernel exact (0) or fixed (1); 255 for any other switch, siting or range, before all else.
-#[unsafe(no_mangle)]
-pub extern "C" fn chroma_fill(
+pub fn chroma_fill(
     layout: ChromaLayout,
     y: &[u8],
     cb: &[u8],

@@ -68,13 +68,7 @@ fn from_patched(p: Patched) -> ChromaPatch
 }
 
 // `patch_mean`: the mean of the pixels that a rectangle and a picture share.
-#[unsafe(no_mangle)]
-pub extern "C" fn chroma_patch(
-    rectangle: ChromaRectangle,
-    w: usize,
-    h: usize,
-    rgb: &[u8],
-) -> ChromaPatch
+pub fn chroma_patch(rectangle: ChromaRectangle, w: usize, h: usize, rgb: &[u8]) -> ChromaPatch
     ensures { ReadPatch (PatchGiven (patch_call (as_rectangle rectangle) w h rgb.now)) result }
 {
     from_patched(colorimetry::patch_mean(to_rectangle(rectangle), w, h, rgb))

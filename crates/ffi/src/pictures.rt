@@ -6,8 +6,7 @@ use crate::types::ChromaWritten;
 use picture::Outcome;
 
 // `picture`: three PGM images in, a PPM out.
-#[unsafe(no_mangle)]
-pub extern "C" fn chroma_picture(input: &[u8], s: &mut [f32], out: &mut [u8]) -> ChromaWritten
+pub fn chroma_picture(input: &[u8], s: &mut [f32], out: &mut [u8]) -> ChromaWritten
     ensures { Pictured (λ o. PictureGiven input.now s.old out.old o s.new out.new) result }
 {
     match picture::picture(input, s, out) {

@@ -28,14 +28,7 @@ fn from_pixel(p: Pixel) -> ChromaPixel
 }
 
 // `ycbcr_frac_to_rgb8`: chroma in 256ths, range full (0) or studio (1); 255 for any other range, before all else.
-#[unsafe(no_mangle)]
-pub extern "C" fn chroma_exact_pixel(
-    y: u32,
-    cb256: u32,
-    cr256: u32,
-    maxval: u32,
-    range: u32,
-) -> ChromaPixel
+pub fn chroma_exact_pixel(y: u32, cb256: u32, cr256: u32, maxval: u32, range: u32) -> ChromaPixel
     ensures { result ≡ chroma_pixel_in range (exact_pixel (as_range range) maxval y cb256 cr256) }
 {
     if 1 < range {
@@ -45,8 +38,7 @@ pub extern "C" fn chroma_exact_pixel(
 }
 
 // `ycbcr_to_rgb8_fixed16`: whole chroma.
-#[unsafe(no_mangle)]
-pub extern "C" fn chroma_fixed_pixel(y: u32, cb: u32, cr: u32) -> ChromaPixel
+pub fn chroma_fixed_pixel(y: u32, cb: u32, cr: u32) -> ChromaPixel
     ensures { result ≡ chroma_pixel (fixed_pixel y cb cr) }
 {
     from_pixel(kernels::ycbcr_to_rgb8_fixed16(y, cb, cr))

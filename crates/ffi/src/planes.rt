@@ -10,8 +10,7 @@ ghost use Rattle.image.specs.Samples.{plane_of};
 use crate::types::{ChromaLayout, number_of, strange_layout, to_layout};
 
 // `linear_plane`: one chroma plane by linear interpolation.
-#[unsafe(no_mangle)]
-pub extern "C" fn chroma_linear_plane(
+pub fn chroma_linear_plane(
     layout: ChromaLayout,
     plane: &[u8],
     stride: usize,
@@ -32,8 +31,7 @@ pub extern "C" fn chroma_linear_plane(
 }
 
 // `guided_plane`: one chroma plane guided by luma.
-#[unsafe(no_mangle)]
-pub extern "C" fn chroma_guided_plane(
+pub fn chroma_guided_plane(
     layout: ChromaLayout,
     y: &[u8],
     y_stride: usize,
@@ -57,8 +55,7 @@ pub extern "C" fn chroma_guided_plane(
 }
 
 // `triangular_plane`: one chroma plane by the triangular filter on whole numbers.
-#[unsafe(no_mangle)]
-pub extern "C" fn chroma_triangular_plane(
+pub fn chroma_triangular_plane(
     layout: ChromaLayout,
     plane: &[u8],
     stride: usize,

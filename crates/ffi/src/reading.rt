@@ -13,8 +13,7 @@ use crate::types::{
 };
 
 // `open`: a picture's reader at row 0. The state that it is handed may hold anything. A siting or range that stands for none is 255, before all else.
-#[unsafe(no_mangle)]
-pub extern "C" fn chroma_open(
+pub fn chroma_open(
     layout: ChromaLayout,
     y: &[u8],
     cb: &[u8],
@@ -48,8 +47,7 @@ pub extern "C" fn chroma_open(
 }
 
 // `seek`: the reader at row y.
-#[unsafe(no_mangle)]
-pub extern "C" fn chroma_seek(reader: ChromaReader, y: usize) -> ChromaReply
+pub fn chroma_seek(reader: ChromaReader, y: usize) -> ChromaReply
     ensures { Checked (strange_reader reader) 1 reader Unit (SeekGiven (seek_call y (as_reader reader))) result }
 {
     if strange_reader(reader) {
@@ -60,8 +58,7 @@ pub extern "C" fn chroma_seek(reader: ChromaReader, y: usize) -> ChromaReply
 }
 
 // `row`: one row of Cb and of Cr.
-#[unsafe(no_mangle)]
-pub extern "C" fn chroma_row(
+pub fn chroma_row(
     reader: ChromaReader,
     y: &[u8],
     cb: &[u8],
@@ -100,8 +97,7 @@ pub extern "C" fn chroma_row(
 }
 
 // `rgb_row`: one row as RGB, guided and exact.
-#[unsafe(no_mangle)]
-pub extern "C" fn chroma_rgb_row(
+pub fn chroma_rgb_row(
     reader: ChromaReader,
     y: &[u8],
     cb: &[u8],

@@ -11,8 +11,7 @@ use crate::patches::{ChromaRectangle, to_rectangle};
 use crate::types::{ChromaLayout, ChromaStrides, number_of, to_layout, to_strides};
 
 // `refill`: kernel exact (0) or fixed (1); 255 for any other switch or siting, before all else. Fourteen parameters: those of `refill`.
-#[unsafe(no_mangle)]
-pub extern "C" fn chroma_refill(
+pub fn chroma_refill(
     layout: ChromaLayout,
     old_y: &[u8],
     old_cb: &[u8],

@@ -3,8 +3,7 @@ ghost use Rattle.std.specs.Prelude.{◌≡◌};
 ghost use Rattle.ffi.specs.Types.{version};
 
 // CHROMA_VERSION of the header that this library goes with.
-#[unsafe(no_mangle)]
-pub extern "C" fn chroma_version() -> u32
+pub fn chroma_version() -> u32
     ensures { result ≡ version }
 {
     2_560

@@ -1,0 +1,10 @@
+use mathlib.Core.Path.{refl}
+use Rattle.ffi.proofs.pixels.from_pixel.Goals as goal
+
+pub returns-in-Rgb : goal.returns-in-Rgb
+returns-in-Rgb c =
+    rw c.in-Rgb.is refl
+
+pub returns-in-Refused : goal.returns-in-Refused
+returns-in-Refused c =
+    rw c.in-Refused.is refl

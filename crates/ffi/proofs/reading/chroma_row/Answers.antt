@@ -1,0 +1,13 @@
+use mathlib.Core.Path.{refl, sym, ◌∙◌}
+use Rattle.ffi.proofs.Strange.{checked_strange, checked_plain}
+use Rattle.ffi.proofs.reading.chroma_row.Goals as goal
+
+pub returns-then-strange_reader : goal.returns-then-strange_reader
+returns-then-strange_reader c =
+    let e = sym c.strange_reader.ensures ∙ c.if-strange_reader.true in
+    checked_strange e (refl, refl, refl)
+
+pub returns : goal.returns
+returns c =
+    let e = sym c.strange_reader.ensures ∙ c.if-strange_reader.false in
+    checked_plain e (record { reply = c.row-reply.result; given = rw (sym c.to_reader.ensures, sym c.to_strides.ensures) c.row-reply.ensures; is = c.reply_to.ensures })

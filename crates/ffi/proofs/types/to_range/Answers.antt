@@ -1,0 +1,14 @@
+use borrow.Author.Tests.{eq-eqb, ne_eqb}
+use mathlib.Core.Path.{refl}
+use Rattle.ffi.specs.Types.{as_range}
+use Rattle.ffi.proofs.types.to_range.Goals as goal
+
+pub returns-then-n-eq1 : goal.returns-then-n-eq1
+unfolding as_range
+returns-then-n-eq1 c =
+    rw (eq-eqb c.args.n 1 c.if-n-eq1.true) refl
+
+pub returns : goal.returns
+unfolding as_range
+returns c =
+    rw (ne_eqb c.args.n 1 c.if-n-eq1.false) refl
