@@ -15,21 +15,26 @@ use Rattle.fround.proofs.round_clamped_by_grid.Goals as goal
 pub float_to_bits-n : goal.float_to_bits-n
 unfolding of_bits
 float_to_bits-n c =
+    let lim : Limited (min c.args.max 4194304) c.args.x c.clamp-c.result = limited_by c.args.x c.clamp-c.result c.least.result c.args.max 4194304 c.well_formed.0.1 (omega arith) c.least.ensures c.clamp-c.ensures in
     let a = c.args in
-    subst (λ (t : Float). T (not (is_nan t))) (sym c.on_grid-t.ensures) (sum_no_nan a.x c.clamp-c.result (min a.max 4194304) (omega arith) ((let it : Limited (min c.args.max 4194304) c.args.x c.clamp-c.result = limited_by c.args.x c.clamp-c.result c.least.result c.args.max 4194304 c.well_formed.0.1 (omega arith) c.least.ensures c.clamp-c.ensures in it)))
+    subst (λ (t : Float). T (not (is_nan t))) (sym c.on_grid-t.ensures) (sum_no_nan a.x c.clamp-c.result (min a.max 4194304) (omega arith) lim)
 
 pub returns-then-c-t : goal.returns-then-c-t
 unfolding of_bits
 returns-then-c-t c =
-    rounded ((let it : (b : Bool) → eq (sub binary32 c.clamp-c.result (sub binary32 c.on_grid-t.result two23)) half ≡ b
+    let lim : Limited (min c.args.max 4194304) c.args.x c.clamp-c.result = limited_by c.args.x c.clamp-c.result c.least.result c.args.max 4194304 c.well_formed.0.1 (omega arith) c.least.ensures c.clamp-c.ensures in
+    let sum : (b : Bool) → eq (sub binary32 c.clamp-c.result (sub binary32 c.on_grid-t.result two23)) half ≡ b
     → to_bits binary32 c.on_grid-t.result % 8388608 + cond b 1 0 ≡ round_clamped (min c.args.max 4194304) c.args.x = λ b e. let a = c.args in
     ap (λ (b : Bool). to_bits binary32 c.on_grid-t.result % 8388608 + cond b 1 0) (sym e)
-    ∙ on_sum a.x c.clamp-c.result c.on_grid-t.result (min a.max 4194304) (omega arith) c.on_grid-t.ensures ((let it : Limited (min c.args.max 4194304) c.args.x c.clamp-c.result = limited_by c.args.x c.clamp-c.result c.least.result c.args.max 4194304 c.well_formed.0.1 (omega arith) c.least.ensures c.clamp-c.ensures in it)) in it) true c.if-c-t.true)
+    ∙ on_sum a.x c.clamp-c.result c.on_grid-t.result (min a.max 4194304) (omega arith) c.on_grid-t.ensures lim in
+    rounded (sum true c.if-c-t.true)
 
 pub returns-else-c-t : goal.returns-else-c-t
 unfolding of_bits
 returns-else-c-t c =
-    rounded (sym (add-zero _) ∙ (let it : (b : Bool) → eq (sub binary32 c.clamp-c.result (sub binary32 c.on_grid-t.result two23)) half ≡ b
+    let lim : Limited (min c.args.max 4194304) c.args.x c.clamp-c.result = limited_by c.args.x c.clamp-c.result c.least.result c.args.max 4194304 c.well_formed.0.1 (omega arith) c.least.ensures c.clamp-c.ensures in
+    let sum : (b : Bool) → eq (sub binary32 c.clamp-c.result (sub binary32 c.on_grid-t.result two23)) half ≡ b
     → to_bits binary32 c.on_grid-t.result % 8388608 + cond b 1 0 ≡ round_clamped (min c.args.max 4194304) c.args.x = λ b e. let a = c.args in
     ap (λ (b : Bool). to_bits binary32 c.on_grid-t.result % 8388608 + cond b 1 0) (sym e)
-    ∙ on_sum a.x c.clamp-c.result c.on_grid-t.result (min a.max 4194304) (omega arith) c.on_grid-t.ensures ((let it : Limited (min c.args.max 4194304) c.args.x c.clamp-c.result = limited_by c.args.x c.clamp-c.result c.least.result c.args.max 4194304 c.well_formed.0.1 (omega arith) c.least.ensures c.clamp-c.ensures in it)) in it) false c.if-c-t.false)
+    ∙ on_sum a.x c.clamp-c.result c.on_grid-t.result (min a.max 4194304) (omega arith) c.on_grid-t.ensures lim in
+    rounded (sym (add-zero _) ∙ sum false c.if-c-t.false)

@@ -7,6 +7,7 @@ use Prim.Native.Nat.{◌≤◌}
 use native.Mathlib.Omega.{arith}
 use lib.ListN.{length}
 use borrow.Author.Tests.{ltb-true, ltb-false}
+use Rattle.image.specs.Picture.{Picture}
 use Rattle.image.specs.Limits.{exceeds}
 use Rattle.image.specs.Scratch.{scratch_need}
 use Rattle.netpbm.specs.Lines.{ppm_header}
@@ -23,16 +24,18 @@ planes_above-requires c =
 
 pub returns-then-planes_above : goal.returns-then-planes_above
 returns-then-planes_above c =
-    let same : ((let a = c.args in picture_from a.planes.now a.layout a.y a.cb a.cr)).layout ≡ c.args.layout = let a = c.args in picture_layout a.planes.now a.layout a.y a.cb a.cr in
+    let made : Picture = let a = c.args in picture_from a.planes.now a.layout a.y a.cb a.cr in
+    let same : made.layout ≡ c.args.layout = let a = c.args in picture_layout a.planes.now a.layout a.y a.cb a.cr in
     let a = c.args in
-    record { answers = sample_above ((let a = c.args in picture_from a.planes.now a.layout a.y a.cb a.cr)) a.layout (same) a.s.now a.out.now (sym c.planes_above.ensures ∙ c.if-planes_above.true); gives = refl; scratches = refl }
+    record { answers = sample_above made a.layout same a.s.now a.out.now (sym c.planes_above.ensures ∙ c.if-planes_above.true); gives = refl; scratches = refl }
 
 pub returns-then-short_scratch : goal.returns-then-short_scratch
 returns-then-short_scratch c =
-    let same : ((let a = c.args in picture_from a.planes.now a.layout a.y a.cb a.cr)).layout ≡ c.args.layout = let a = c.args in picture_layout a.planes.now a.layout a.y a.cb a.cr in
-    let within : exceeds ((let a = c.args in picture_from a.planes.now a.layout a.y a.cb a.cr)) ≡ false = sym c.planes_above.ensures ∙ c.if-planes_above.false in
+    let made : Picture = let a = c.args in picture_from a.planes.now a.layout a.y a.cb a.cr in
+    let same : made.layout ≡ c.args.layout = let a = c.args in picture_layout a.planes.now a.layout a.y a.cb a.cr in
+    let within : exceeds made ≡ false = sym c.planes_above.ensures ∙ c.if-planes_above.false in
     let a = c.args in
-    record { answers = scratch_short ((let a = c.args in picture_from a.planes.now a.layout a.y a.cb a.cr)) a.layout (same) a.s.now a.out.now (within) (ltb-true _ _ (sym c.short_scratch.ensures ∙ c.if-short_scratch.true)); gives = refl; scratches = refl }
+    record { answers = scratch_short made a.layout same a.s.now a.out.now within (ltb-true _ _ (sym c.short_scratch.ensures ∙ c.if-short_scratch.true)); gives = refl; scratches = refl }
 
 pub ppm_header-header-requires : goal.ppm_header-header-requires
 ppm_header-header-requires c =
@@ -56,30 +59,33 @@ overflow_add-len c =
 
 pub returns-then-out-len : goal.returns-then-out-len
 returns-then-out-len c =
-    let same : ((let a = c.args in picture_from a.planes.now a.layout a.y a.cb a.cr)).layout ≡ c.args.layout = let a = c.args in picture_layout a.planes.now a.layout a.y a.cb a.cr in
-    let within : exceeds ((let a = c.args in picture_from a.planes.now a.layout a.y a.cb a.cr)) ≡ false = sym c.planes_above.ensures ∙ c.if-planes_above.false in
+    let made : Picture = let a = c.args in picture_from a.planes.now a.layout a.y a.cb a.cr in
+    let same : made.layout ≡ c.args.layout = let a = c.args in picture_layout a.planes.now a.layout a.y a.cb a.cr in
+    let within : exceeds made ≡ false = sym c.planes_above.ensures ∙ c.if-planes_above.false in
     let long : (let a = c.args in scratch_need a.layout ≤ length a.s.now) = ltb-false _ _ (sym c.short_scratch.ensures ∙ c.if-short_scratch.false) in
     let a = c.args in
     let n = ppm_length_is a.layout _ c.ppm_header-header.ensures in
-    record { answers = out_short ((let a = c.args in picture_from a.planes.now a.layout a.y a.cb a.cr)) a.layout (same) a.s.now a.out.now (within) (long) (rw (sym n) c.if-out-len.true); gives = refl; scratches = refl }
+    record { answers = out_short made a.layout same a.s.now a.out.now within long (rw (sym n) c.if-out-len.true); gives = refl; scratches = refl }
 
 pub put_ppm-requires : goal.put_ppm-requires
 put_ppm-requires c =
-    let within : exceeds ((let a = c.args in picture_from a.planes.now a.layout a.y a.cb a.cr)) ≡ false = sym c.planes_above.ensures ∙ c.if-planes_above.false in
+    let made : Picture = let a = c.args in picture_from a.planes.now a.layout a.y a.cb a.cr in
+    let within : exceeds made ≡ false = sym c.planes_above.ensures ∙ c.if-planes_above.false in
     let long : (let a = c.args in scratch_need a.layout ≤ length a.s.now) = ltb-false _ _ (sym c.short_scratch.ensures ∙ c.if-short_scratch.false) in
     let e = c.ppm_header-header.ensures in
     record { taken = c.requires; cr_value = within; header_value = e; layout_in_bounds = (long, rw (sym (ppm_length_is c.args.layout _ e)) c.if-out-len.false) }
 
 pub returns : goal.returns
 returns c =
-    let same : ((let a = c.args in picture_from a.planes.now a.layout a.y a.cb a.cr)).layout ≡ c.args.layout = let a = c.args in picture_layout a.planes.now a.layout a.y a.cb a.cr in
-    let within : exceeds ((let a = c.args in picture_from a.planes.now a.layout a.y a.cb a.cr)) ≡ false = sym c.planes_above.ensures ∙ c.if-planes_above.false in
+    let made : Picture = let a = c.args in picture_from a.planes.now a.layout a.y a.cb a.cr in
+    let same : made.layout ≡ c.args.layout = let a = c.args in picture_layout a.planes.now a.layout a.y a.cb a.cr in
+    let within : exceeds made ≡ false = sym c.planes_above.ensures ∙ c.if-planes_above.false in
     let long : (let a = c.args in scratch_need a.layout ≤ length a.s.now) = ltb-false _ _ (sym c.short_scratch.ensures ∙ c.if-short_scratch.false) in
     let a = c.args in
     let n = ppm_length_is a.layout _ c.ppm_header-header.ensures in
     let w = c.put_ppm.ensures in
     record {
-      answers = ap Written n ∙ both_long ((let a = c.args in picture_from a.planes.now a.layout a.y a.cb a.cr)) a.layout (same) a.s.now a.out.now (within) (long) (rw (sym n) c.if-out-len.false);
+      answers = ap Written n ∙ both_long made a.layout same a.s.now a.out.now within long (rw (sym n) c.if-out-len.false);
       gives = w.out_after;
       scratches = w.s_after;
     }

@@ -14,31 +14,37 @@ overflow_sub-layout c =
 
 pub exact_at-rows-requires : goal.exact_at-rows-requires
 exact_at-rows-requires c =
+    let place : (let a = c.args in BlockPlace a.layout.w a.at 3 (length c.loop-done.out) c.loop-done.done c.least-x.result) = block_place c.loop-done.invariant.1 _ _ c.least-x.ensures c.requires.fact.0.wide (omega arith) (omega arith) in
     let p = c.requires in
-    record { row_lent = p.row_lent; fact = (p.fact.0, ((let it : (let a = c.args in BlockPlace a.layout.w a.at 3 (length c.loop-done.out) c.loop-done.done c.least-x.result) = block_place c.loop-done.invariant.1 _ _ c.least-x.ensures c.requires.fact.0.wide (omega arith) (omega arith) in it)).inside) }
+    record { row_lent = p.row_lent; fact = (p.fact.0, place.inside) }
 
 pub overflow_mul-x : goal.overflow_mul-x
 overflow_mul-x c =
-    let h = (let it : (let a = c.args in BlockPlace a.layout.w a.at 3 (length c.loop-done.out) c.loop-done.done c.least-x.result) = block_place c.loop-done.invariant.1 _ _ c.least-x.ensures c.requires.fact.0.wide (omega arith) (omega arith) in it) in omega arith
+    let place : (let a = c.args in BlockPlace a.layout.w a.at 3 (length c.loop-done.out) c.loop-done.done c.least-x.result) = block_place c.loop-done.invariant.1 _ _ c.least-x.ensures c.requires.fact.0.wide (omega arith) (omega arith) in
+    let h = place in omega arith
 
 pub overflow_add-at : goal.overflow_add-at
 overflow_add-at c =
-    let h = (let it : (let a = c.args in BlockPlace a.layout.w a.at 3 (length c.loop-done.out) c.loop-done.done c.least-x.result) = block_place c.loop-done.invariant.1 _ _ c.least-x.ensures c.requires.fact.0.wide (omega arith) (omega arith) in it) in
+    let place : (let a = c.args in BlockPlace a.layout.w a.at 3 (length c.loop-done.out) c.loop-done.done c.least-x.result) = block_place c.loop-done.invariant.1 _ _ c.least-x.ensures c.requires.fact.0.wide (omega arith) (omega arith) in
+    let h = place in
     let n = c.loop-done.invariant.1.len in
     let g = c.well_formed in
     omega arith
 
 pub put_block-requires : goal.put_block-requires
 put_block-requires c =
-    (omega arith, ((let it : (let a = c.args in BlockPlace a.layout.w a.at 3 (length c.loop-done.out) c.loop-done.done c.least-x.result) = block_place c.loop-done.invariant.1 _ _ c.least-x.ensures c.requires.fact.0.wide (omega arith) (omega arith) in it)).fits)
+    let place : (let a = c.args in BlockPlace a.layout.w a.at 3 (length c.loop-done.out) c.loop-done.done c.least-x.result) = block_place c.loop-done.invariant.1 _ _ c.least-x.ensures c.requires.fact.0.wide (omega arith) (omega arith) in
+    (omega arith, place.fits)
 
 pub overflow_add-done : goal.overflow_add-done
 overflow_add-done c =
-    let h = (let it : (let a = c.args in BlockPlace a.layout.w a.at 3 (length c.loop-done.out) c.loop-done.done c.least-x.result) = block_place c.loop-done.invariant.1 _ _ c.least-x.ensures c.requires.fact.0.wide (omega arith) (omega arith) in it) in omega arith
+    let place : (let a = c.args in BlockPlace a.layout.w a.at 3 (length c.loop-done.out) c.loop-done.done c.least-x.result) = block_place c.loop-done.invariant.1 _ _ c.least-x.ensures c.requires.fact.0.wide (omega arith) (omega arith) in
+    let h = place in omega arith
 
 pub loop-done-smaller : goal.loop-done-smaller
 loop-done-smaller c =
-    let h = (let it : (let a = c.args in BlockPlace a.layout.w a.at 3 (length c.loop-done.out) c.loop-done.done c.least-x.result) = block_place c.loop-done.invariant.1 _ _ c.least-x.ensures c.requires.fact.0.wide (omega arith) (omega arith) in it) in omega arith
+    let place : (let a = c.args in BlockPlace a.layout.w a.at 3 (length c.loop-done.out) c.loop-done.done c.least-x.result) = block_place c.loop-done.invariant.1 _ _ c.least-x.ensures c.requires.fact.0.wide (omega arith) (omega arith) in
+    let h = place in omega arith
 
 pub loop-done-preserved : goal.loop-done-preserved
 loop-done-preserved c =

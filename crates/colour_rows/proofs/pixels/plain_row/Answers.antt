@@ -15,15 +15,18 @@ loop-x-init c =
 
 pub overflow_mul-x : goal.overflow_mul-x
 overflow_mul-x c =
-    let h = (let it : (let a = c.args in a.at + c.loop-x.x * a.size + 3 ≤ length c.loop-x.out) = let a = c.args in let h = c.loop-x.invariant.1.len in omega (arith, row_fits c.loop-x.x a.layout.w a.size (omega arith)) in it) in omega arith
+    let room : (let a = c.args in a.at + c.loop-x.x * a.size + 3 ≤ length c.loop-x.out) = let a = c.args in let h = c.loop-x.invariant.1.len in omega (arith, row_fits c.loop-x.x a.layout.w a.size (omega arith)) in
+    let h = room in omega arith
 
 pub overflow_add-at : goal.overflow_add-at
 overflow_add-at c =
-    let h = (let it : (let a = c.args in a.at + c.loop-x.x * a.size + 3 ≤ length c.loop-x.out) = let a = c.args in let h = c.loop-x.invariant.1.len in omega (arith, row_fits c.loop-x.x a.layout.w a.size (omega arith)) in it) in omega arith
+    let room : (let a = c.args in a.at + c.loop-x.x * a.size + 3 ≤ length c.loop-x.out) = let a = c.args in let h = c.loop-x.invariant.1.len in omega (arith, row_fits c.loop-x.x a.layout.w a.size (omega arith)) in
+    let h = room in omega arith
 
 pub put_pixel-requires : goal.put_pixel-requires
 put_pixel-requires c =
-    (let it : (let a = c.args in a.at + c.loop-x.x * a.size + 3 ≤ length c.loop-x.out) = let a = c.args in let h = c.loop-x.invariant.1.len in omega (arith, row_fits c.loop-x.x a.layout.w a.size (omega arith)) in it)
+    let room : (let a = c.args in a.at + c.loop-x.x * a.size + 3 ≤ length c.loop-x.out) = let a = c.args in let h = c.loop-x.invariant.1.len in omega (arith, row_fits c.loop-x.x a.layout.w a.size (omega arith)) in
+    room
 
 pub loop-x-preserved : goal.loop-x-preserved
 loop-x-preserved c =

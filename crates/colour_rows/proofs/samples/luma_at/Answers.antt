@@ -8,31 +8,35 @@ use Rattle.colour_rows.proofs.samples.luma_at.Goals as goal
 
 pub overflow_mul-row : goal.overflow_mul-row
 overflow_mul-row c =
-    let h = (let it : place c.args.layout.sample_bytes c.args.stride c.args.row c.args.x + c.args.layout.sample_bytes ≤ length c.args.plane.now = let a = c.args in
+    let inside : place c.args.layout.sample_bytes c.args.stride c.args.row c.args.x + c.args.layout.sample_bytes ≤ length c.args.plane.now = let a = c.args in
     let l = a.layout in
     let r = c.requires.0 in
-    sample_inside (short_holds l l.w l.h (plane_of a.plane.now a.stride) r.plane) a.x a.row c.requires.1 r.inside in it) in omega arith
+    sample_inside (short_holds l l.w l.h (plane_of a.plane.now a.stride) r.plane) a.x a.row c.requires.1 r.inside in
+    let h = inside in omega arith
 
 pub overflow_mul-x : goal.overflow_mul-x
 overflow_mul-x c =
-    let h = (let it : place c.args.layout.sample_bytes c.args.stride c.args.row c.args.x + c.args.layout.sample_bytes ≤ length c.args.plane.now = let a = c.args in
+    let inside : place c.args.layout.sample_bytes c.args.stride c.args.row c.args.x + c.args.layout.sample_bytes ≤ length c.args.plane.now = let a = c.args in
     let l = a.layout in
     let r = c.requires.0 in
-    sample_inside (short_holds l l.w l.h (plane_of a.plane.now a.stride) r.plane) a.x a.row c.requires.1 r.inside in it) in omega arith
+    sample_inside (short_holds l l.w l.h (plane_of a.plane.now a.stride) r.plane) a.x a.row c.requires.1 r.inside in
+    let h = inside in omega arith
 
 pub overflow_add-row : goal.overflow_add-row
 overflow_add-row c =
-    let h = (let it : place c.args.layout.sample_bytes c.args.stride c.args.row c.args.x + c.args.layout.sample_bytes ≤ length c.args.plane.now = let a = c.args in
+    let inside : place c.args.layout.sample_bytes c.args.stride c.args.row c.args.x + c.args.layout.sample_bytes ≤ length c.args.plane.now = let a = c.args in
     let l = a.layout in
     let r = c.requires.0 in
-    sample_inside (short_holds l l.w l.h (plane_of a.plane.now a.stride) r.plane) a.x a.row c.requires.1 r.inside in it) in omega arith
+    sample_inside (short_holds l l.w l.h (plane_of a.plane.now a.stride) r.plane) a.x a.row c.requires.1 r.inside in
+    let h = inside in omega arith
 
 pub sample-requires : goal.sample-requires
 sample-requires c =
-    let h = (let it : place c.args.layout.sample_bytes c.args.stride c.args.row c.args.x + c.args.layout.sample_bytes ≤ length c.args.plane.now = let a = c.args in
+    let inside : place c.args.layout.sample_bytes c.args.stride c.args.row c.args.x + c.args.layout.sample_bytes ≤ length c.args.plane.now = let a = c.args in
     let l = a.layout in
     let r = c.requires.0 in
-    sample_inside (short_holds l l.w l.h (plane_of a.plane.now a.stride) r.plane) a.x a.row c.requires.1 r.inside in it) in let s = c.requires.0.shaped in (s.bytes_some, s.bytes_most, h)
+    sample_inside (short_holds l l.w l.h (plane_of a.plane.now a.stride) r.plane) a.x a.row c.requires.1 r.inside in
+    let h = inside in let s = c.requires.0.shaped in (s.bytes_some, s.bytes_most, h)
 
 pub returns : goal.returns
 unfolding sample_at

@@ -14,31 +14,37 @@ overflow_sub-layout c =
 
 pub studio_at-rows-requires : goal.studio_at-rows-requires
 studio_at-rows-requires c =
+    let place : (let a = c.args in BlockPlace a.layout.w a.at 4 (length c.loop-done.out) c.loop-done.done c.least-x.result) = block_place c.loop-done.invariant.1 _ _ c.least-x.ensures c.requires.fact.0 (omega arith) (omega arith) in
     let p = c.requires in
-    record { row_lent = p.row_lent; n_bound = ((let it : (let a = c.args in BlockPlace a.layout.w a.at 4 (length c.loop-done.out) c.loop-done.done c.least-x.result) = block_place c.loop-done.invariant.1 _ _ c.least-x.ensures c.requires.fact.0 (omega arith) (omega arith) in it)).inside }
+    record { row_lent = p.row_lent; n_bound = place.inside }
 
 pub overflow_mul-x : goal.overflow_mul-x
 overflow_mul-x c =
-    let h = (let it : (let a = c.args in BlockPlace a.layout.w a.at 4 (length c.loop-done.out) c.loop-done.done c.least-x.result) = block_place c.loop-done.invariant.1 _ _ c.least-x.ensures c.requires.fact.0 (omega arith) (omega arith) in it) in omega arith
+    let place : (let a = c.args in BlockPlace a.layout.w a.at 4 (length c.loop-done.out) c.loop-done.done c.least-x.result) = block_place c.loop-done.invariant.1 _ _ c.least-x.ensures c.requires.fact.0 (omega arith) (omega arith) in
+    let h = place in omega arith
 
 pub overflow_add-at : goal.overflow_add-at
 overflow_add-at c =
-    let h = (let it : (let a = c.args in BlockPlace a.layout.w a.at 4 (length c.loop-done.out) c.loop-done.done c.least-x.result) = block_place c.loop-done.invariant.1 _ _ c.least-x.ensures c.requires.fact.0 (omega arith) (omega arith) in it) in
+    let place : (let a = c.args in BlockPlace a.layout.w a.at 4 (length c.loop-done.out) c.loop-done.done c.least-x.result) = block_place c.loop-done.invariant.1 _ _ c.least-x.ensures c.requires.fact.0 (omega arith) (omega arith) in
+    let h = place in
     let n = c.loop-done.invariant.1.len in
     let g = c.well_formed in
     omega arith
 
 pub put_words-requires : goal.put_words-requires
 put_words-requires c =
-    (c.requires.fact.2, ((let it : (let a = c.args in BlockPlace a.layout.w a.at 4 (length c.loop-done.out) c.loop-done.done c.least-x.result) = block_place c.loop-done.invariant.1 _ _ c.least-x.ensures c.requires.fact.0 (omega arith) (omega arith) in it)).fits)
+    let place : (let a = c.args in BlockPlace a.layout.w a.at 4 (length c.loop-done.out) c.loop-done.done c.least-x.result) = block_place c.loop-done.invariant.1 _ _ c.least-x.ensures c.requires.fact.0 (omega arith) (omega arith) in
+    (c.requires.fact.2, place.fits)
 
 pub overflow_add-done : goal.overflow_add-done
 overflow_add-done c =
-    let h = (let it : (let a = c.args in BlockPlace a.layout.w a.at 4 (length c.loop-done.out) c.loop-done.done c.least-x.result) = block_place c.loop-done.invariant.1 _ _ c.least-x.ensures c.requires.fact.0 (omega arith) (omega arith) in it) in omega arith
+    let place : (let a = c.args in BlockPlace a.layout.w a.at 4 (length c.loop-done.out) c.loop-done.done c.least-x.result) = block_place c.loop-done.invariant.1 _ _ c.least-x.ensures c.requires.fact.0 (omega arith) (omega arith) in
+    let h = place in omega arith
 
 pub loop-done-smaller : goal.loop-done-smaller
 loop-done-smaller c =
-    let h = (let it : (let a = c.args in BlockPlace a.layout.w a.at 4 (length c.loop-done.out) c.loop-done.done c.least-x.result) = block_place c.loop-done.invariant.1 _ _ c.least-x.ensures c.requires.fact.0 (omega arith) (omega arith) in it) in omega arith
+    let place : (let a = c.args in BlockPlace a.layout.w a.at 4 (length c.loop-done.out) c.loop-done.done c.least-x.result) = block_place c.loop-done.invariant.1 _ _ c.least-x.ensures c.requires.fact.0 (omega arith) (omega arith) in
+    let h = place in omega arith
 
 pub loop-done-preserved : goal.loop-done-preserved
 loop-done-preserved c =

@@ -3,7 +3,7 @@ use mathlib.Core.Path.{◌≡◌, sym, ap, ◌∙◌}
 use mathlib.Core.Bool.{true}
 use Rattle.laws.specs.Refusals.{accepted}
 use Rattle.laws.proofs.Refusals.{first_further, then_passed, then_either}
-use Rattle.image.specs.Picture.{planes_of}
+use Rattle.image.specs.Picture.{Planes, planes_of}
 use Rattle.image.proofs.Layouts.{neither, sound_answer}
 use Rattle.fill.specs.Inner.Refill.{planes_tests}
 use Rattle.fill.proofs.Taken.{PlanesTaken}
@@ -11,7 +11,9 @@ use Rattle.fill.proofs.refills.planes_answer.Goals as goal
 
 pub then_above-answer-requires : goal.then_above-answer-requires
 then_above-answer-requires c =
-    λ a. let passed : accepted c.then-answer-2.result ≡ true → PlanesTaken c.args.layout ((let a = c.args in planes_of a.old_y.now a.old_cb.now a.old_cr.now a.old_strides)) ((let a = c.args in planes_of a.y.now a.cb.now a.cr.now a.strides)) = λ a. let f = then_passed _ _ _ (sym (ap accepted c.then-answer-2.ensures) ∙ a) in
+    λ a. let old : Planes = let a = c.args in planes_of a.old_y.now a.old_cb.now a.old_cr.now a.old_strides in
+    let new : Planes = let a = c.args in planes_of a.y.now a.cb.now a.cr.now a.strides in
+    let passed : accepted c.then-answer-2.result ≡ true → PlanesTaken c.args.layout old new = λ a. let f = then_passed _ _ _ (sym (ap accepted c.then-answer-2.ensures) ∙ a) in
     let d = then_passed _ _ _ (sym (ap accepted c.then-answer.ensures) ∙ f.0) in
     let p = neither _ _ (sym c.either.ensures ∙ f.1) in
     record {
@@ -23,7 +25,9 @@ then_above-answer-requires c =
 
 pub then_above-requires : goal.then_above-requires
 then_above-requires c =
-    λ a. let passed : accepted c.then-answer-2.result ≡ true → PlanesTaken c.args.layout ((let a = c.args in planes_of a.old_y.now a.old_cb.now a.old_cr.now a.old_strides)) ((let a = c.args in planes_of a.y.now a.cb.now a.cr.now a.strides)) = λ a. let f = then_passed _ _ _ (sym (ap accepted c.then-answer-2.ensures) ∙ a) in
+    λ a. let old : Planes = let a = c.args in planes_of a.old_y.now a.old_cb.now a.old_cr.now a.old_strides in
+    let new : Planes = let a = c.args in planes_of a.y.now a.cb.now a.cr.now a.strides in
+    let passed : accepted c.then-answer-2.result ≡ true → PlanesTaken c.args.layout old new = λ a. let f = then_passed _ _ _ (sym (ap accepted c.then-answer-2.ensures) ∙ a) in
     let d = then_passed _ _ _ (sym (ap accepted c.then-answer.ensures) ∙ f.0) in
     let p = neither _ _ (sym c.either.ensures ∙ f.1) in
     record {

@@ -5,7 +5,7 @@ use Prim.Native.Nat.{ℕ, ◌-◌}
 use Rattle.laws.proofs.Refusals.{Asked, kept, made, passed}
 use Rattle.image.specs.Picture.{picture_of, planes_of}
 use Rattle.fill.specs.Fill.{fill_colour, pixel_rows, fill_scratch}
-use Rattle.fill.specs.Refill.{refill_call, refill_tests, near_first}
+use Rattle.fill.specs.Refill.{RefillCall, refill_call, refill_tests, near_first}
 use Rattle.fill.specs.declared.options.ChromaUpsampling.TheVariants.{LumaGuided}
 use Rattle.fill.proofs.Taken.{RefillTaken, taken}
 use Rattle.fill.proofs.Near.{near_order, near_rows}
@@ -13,38 +13,35 @@ use Rattle.fill.proofs.refills.refill.Goals as goal
 
 pub returns-then-refused : goal.returns-then-refused
 returns-then-refused c =
-    let asked : Asked (refill_tests ((let a = c.args in
-    refill_call a.layout (planes_of a.old_y.now a.old_cb.now a.old_cr.now a.old_strides) (planes_of a.y.now a.cb.now a.cr.now a.strides) a.cells a.kernel a.size a.s.now a.out.now))) c.refill_answer-answer.result c.refused.result = record { answers = c.refill_answer-answer.ensures; tells = c.refused.ensures } in
+    let call : RefillCall = let a = c.args in
+    refill_call a.layout (planes_of a.old_y.now a.old_cb.now a.old_cr.now a.old_strides) (planes_of a.y.now a.cb.now a.cr.now a.strides) a.cells a.kernel a.size a.s.now a.out.now in
+    let asked : Asked (refill_tests call) c.refill_answer-answer.result c.refused.result = record { answers = c.refill_answer-answer.ensures; tells = c.refused.ensures } in
     let a = asked in let e = c.if-refused.true in record { answers = a.answers; gives = kept a e _ _; scratches = kept a e _ _ }
 
 pub near_first-a-requires : goal.near_first-a-requires
 near_first-a-requires c =
-    let asked : Asked (refill_tests ((let a = c.args in
-    refill_call a.layout (planes_of a.old_y.now a.old_cb.now a.old_cr.now a.old_strides) (planes_of a.y.now a.cb.now a.cr.now a.strides) a.cells a.kernel a.size a.s.now a.out.now))) c.refill_answer-answer.result c.refused.result = record { answers = c.refill_answer-answer.ensures; tells = c.refused.ensures } in
-    let relied : RefillTaken ((let a = c.args in
-    refill_call a.layout (planes_of a.old_y.now a.old_cb.now a.old_cr.now a.old_strides) (planes_of a.y.now a.cb.now a.cr.now a.strides) a.cells a.kernel a.size a.s.now a.out.now)) = taken ((let a = c.args in
-    refill_call a.layout (planes_of a.old_y.now a.old_cb.now a.old_cr.now a.old_strides) (planes_of a.y.now a.cb.now a.cr.now a.strides) a.cells a.kernel a.size a.s.now a.out.now)) (passed (asked) c.if-refused.false) in
-    let t = (relied).rest in (t.planes.sound, t.cells)
+    let call : RefillCall = let a = c.args in
+    refill_call a.layout (planes_of a.old_y.now a.old_cb.now a.old_cr.now a.old_strides) (planes_of a.y.now a.cb.now a.cr.now a.strides) a.cells a.kernel a.size a.s.now a.out.now in
+    let asked : Asked (refill_tests call) c.refill_answer-answer.result c.refused.result = record { answers = c.refill_answer-answer.ensures; tells = c.refused.ensures } in
+    let relied : RefillTaken call = taken call (passed asked c.if-refused.false) in
+    let t = relied.rest in (t.planes.sound, t.cells)
 
 pub near_end-b-requires : goal.near_end-b-requires
 near_end-b-requires c =
-    let asked : Asked (refill_tests ((let a = c.args in
-    refill_call a.layout (planes_of a.old_y.now a.old_cb.now a.old_cr.now a.old_strides) (planes_of a.y.now a.cb.now a.cr.now a.strides) a.cells a.kernel a.size a.s.now a.out.now))) c.refill_answer-answer.result c.refused.result = record { answers = c.refill_answer-answer.ensures; tells = c.refused.ensures } in
-    let relied : RefillTaken ((let a = c.args in
-    refill_call a.layout (planes_of a.old_y.now a.old_cb.now a.old_cr.now a.old_strides) (planes_of a.y.now a.cb.now a.cr.now a.strides) a.cells a.kernel a.size a.s.now a.out.now)) = taken ((let a = c.args in
-    refill_call a.layout (planes_of a.old_y.now a.old_cb.now a.old_cr.now a.old_strides) (planes_of a.y.now a.cb.now a.cr.now a.strides) a.cells a.kernel a.size a.s.now a.out.now)) (passed (asked) c.if-refused.false) in
-    let t = (relied).rest in (t.planes.sound, t.cells)
+    let call : RefillCall = let a = c.args in
+    refill_call a.layout (planes_of a.old_y.now a.old_cb.now a.old_cr.now a.old_strides) (planes_of a.y.now a.cb.now a.cr.now a.strides) a.cells a.kernel a.size a.s.now a.out.now in
+    let asked : Asked (refill_tests call) c.refill_answer-answer.result c.refused.result = record { answers = c.refill_answer-answer.ensures; tells = c.refused.ensures } in
+    let relied : RefillTaken call = taken call (passed asked c.if-refused.false) in
+    let t = relied.rest in (t.planes.sound, t.cells)
 
 pub fill_rows-requires : goal.fill_rows-requires
 fill_rows-requires c =
-    let asked : Asked (refill_tests ((let a = c.args in
-    refill_call a.layout (planes_of a.old_y.now a.old_cb.now a.old_cr.now a.old_strides) (planes_of a.y.now a.cb.now a.cr.now a.strides) a.cells a.kernel a.size a.s.now a.out.now))) c.refill_answer-answer.result c.refused.result = record { answers = c.refill_answer-answer.ensures; tells = c.refused.ensures } in
-    let relied : RefillTaken ((let a = c.args in
-    refill_call a.layout (planes_of a.old_y.now a.old_cb.now a.old_cr.now a.old_strides) (planes_of a.y.now a.cb.now a.cr.now a.strides) a.cells a.kernel a.size a.s.now a.out.now)) = taken ((let a = c.args in
-    refill_call a.layout (planes_of a.old_y.now a.old_cb.now a.old_cr.now a.old_strides) (planes_of a.y.now a.cb.now a.cr.now a.strides) a.cells a.kernel a.size a.s.now a.out.now)) (passed (asked) c.if-refused.false) in
-    let t = (relied).rest in
-    let k = (let a = c.args in
-    refill_call a.layout (planes_of a.old_y.now a.old_cb.now a.old_cr.now a.old_strides) (planes_of a.y.now a.cb.now a.cr.now a.strides) a.cells a.kernel a.size a.s.now a.out.now) in
+    let call : RefillCall = let a = c.args in
+    refill_call a.layout (planes_of a.old_y.now a.old_cb.now a.old_cr.now a.old_strides) (planes_of a.y.now a.cb.now a.cr.now a.strides) a.cells a.kernel a.size a.s.now a.out.now in
+    let asked : Asked (refill_tests call) c.refill_answer-answer.result c.refused.result = record { answers = c.refill_answer-answer.ensures; tells = c.refused.ensures } in
+    let relied : RefillTaken call = taken call (passed asked c.if-refused.false) in
+    let t = relied.rest in
+    let k = call in
     let o = near_order k.layout k.cells t.planes.sound t.cells in
     let f = c.near_first-a.ensures in
     let g = c.near_end-b.ensures in
@@ -52,16 +49,14 @@ fill_rows-requires c =
 
 pub returns : goal.returns
 returns c =
-    let asked : Asked (refill_tests ((let a = c.args in
-    refill_call a.layout (planes_of a.old_y.now a.old_cb.now a.old_cr.now a.old_strides) (planes_of a.y.now a.cb.now a.cr.now a.strides) a.cells a.kernel a.size a.s.now a.out.now))) c.refill_answer-answer.result c.refused.result = record { answers = c.refill_answer-answer.ensures; tells = c.refused.ensures } in
-    let relied : RefillTaken ((let a = c.args in
-    refill_call a.layout (planes_of a.old_y.now a.old_cb.now a.old_cr.now a.old_strides) (planes_of a.y.now a.cb.now a.cr.now a.strides) a.cells a.kernel a.size a.s.now a.out.now)) = taken ((let a = c.args in
-    refill_call a.layout (planes_of a.old_y.now a.old_cb.now a.old_cr.now a.old_strides) (planes_of a.y.now a.cb.now a.cr.now a.strides) a.cells a.kernel a.size a.s.now a.out.now)) (passed (asked) c.if-refused.false) in
+    let call : RefillCall = let a = c.args in
+    refill_call a.layout (planes_of a.old_y.now a.old_cb.now a.old_cr.now a.old_strides) (planes_of a.y.now a.cb.now a.cr.now a.strides) a.cells a.kernel a.size a.s.now a.out.now in
+    let asked : Asked (refill_tests call) c.refill_answer-answer.result c.refused.result = record { answers = c.refill_answer-answer.ensures; tells = c.refused.ensures } in
+    let relied : RefillTaken call = taken call (passed asked c.if-refused.false) in
     let a = asked in
     let v = c.if-refused.false in
-    let t = (relied).rest in
-    let k = (let a = c.args in
-    refill_call a.layout (planes_of a.old_y.now a.old_cb.now a.old_cr.now a.old_strides) (planes_of a.y.now a.cb.now a.cr.now a.strides) a.cells a.kernel a.size a.s.now a.out.now) in
+    let t = relied.rest in
+    let k = call in
     let l = k.layout in
     let h = fill_colour LumaGuided k.kernel (picture_of l k.new) in
     let x = c.fill_rows.ensures in

@@ -11,7 +11,8 @@ pair_sums-one-requires c =
 
 pub returns-then-m-eq1 : goal.returns-then-m-eq1
 returns-then-m-eq1 c =
-    let a = c.args in sums_all a.plane.now a.at a.stride 1 a.m c.pair_sums-one.result ((let it : (let a = c.args in Sums a.plane.now a.at a.stride 1 c.pair_sums-one.result) = let a = c.args in sums_one a.plane.now a.at a.stride c.pair_sums-one.result c.pair_sums-one.ensures in it)) (omega arith) (omega arith)
+    let one : (let a = c.args in Sums a.plane.now a.at a.stride 1 c.pair_sums-one.result) = let a = c.args in sums_one a.plane.now a.at a.stride c.pair_sums-one.result c.pair_sums-one.ensures in
+    let a = c.args in sums_all a.plane.now a.at a.stride 1 a.m c.pair_sums-one.result one (omega arith) (omega arith)
 
 pub overflow_add-at : goal.overflow_add-at
 overflow_add-at c =
@@ -27,8 +28,10 @@ added-two-requires c =
 
 pub returns-then-m-eq2 : goal.returns-then-m-eq2
 returns-then-m-eq2 c =
-    let a = c.args in sums_all a.plane.now a.at a.stride 2 a.m c.added-two.result ((let it : (let a = c.args in Sums a.plane.now a.at a.stride 2 c.added-two.result) = let a = c.args in
-    sums_more a.plane.now a.at a.stride 1 (a.at + a.stride) c.pair_sums-one.result c.pair_sums.result c.added-two.result (omega arith) ((let it : (let a = c.args in Sums a.plane.now a.at a.stride 1 c.pair_sums-one.result) = let a = c.args in sums_one a.plane.now a.at a.stride c.pair_sums-one.result c.pair_sums-one.ensures in it)) c.pair_sums.ensures c.added-two.ensures in it)) (omega arith) (omega arith)
+    let one : (let a = c.args in Sums a.plane.now a.at a.stride 1 c.pair_sums-one.result) = let a = c.args in sums_one a.plane.now a.at a.stride c.pair_sums-one.result c.pair_sums-one.ensures in
+    let two : (let a = c.args in Sums a.plane.now a.at a.stride 2 c.added-two.result) = let a = c.args in
+    sums_more a.plane.now a.at a.stride 1 (a.at + a.stride) c.pair_sums-one.result c.pair_sums.result c.added-two.result (omega arith) one c.pair_sums.ensures c.added-two.ensures in
+    let a = c.args in sums_all a.plane.now a.at a.stride 2 a.m c.added-two.result two (omega arith) (omega arith)
 
 pub overflow_mul-stride : goal.overflow_mul-stride
 overflow_mul-stride c =
@@ -44,14 +47,19 @@ pair_sums-requires-2 c =
 
 pub added-three-requires : goal.added-three-requires
 added-three-requires c =
-    λ k l. let a = ((let it : (let a = c.args in Sums a.plane.now a.at a.stride 2 c.added-two.result) = let a = c.args in
-    sums_more a.plane.now a.at a.stride 1 (a.at + a.stride) c.pair_sums-one.result c.pair_sums.result c.added-two.result (omega arith) ((let it : (let a = c.args in Sums a.plane.now a.at a.stride 1 c.pair_sums-one.result) = let a = c.args in sums_one a.plane.now a.at a.stride c.pair_sums-one.result c.pair_sums-one.ensures in it)) c.pair_sums.ensures c.added-two.ensures in it) k l).1 in let b = (c.pair_sums-2.ensures k l).1 in omega arith
+    let one : (let a = c.args in Sums a.plane.now a.at a.stride 1 c.pair_sums-one.result) = let a = c.args in sums_one a.plane.now a.at a.stride c.pair_sums-one.result c.pair_sums-one.ensures in
+    let two : (let a = c.args in Sums a.plane.now a.at a.stride 2 c.added-two.result) = let a = c.args in
+    sums_more a.plane.now a.at a.stride 1 (a.at + a.stride) c.pair_sums-one.result c.pair_sums.result c.added-two.result (omega arith) one c.pair_sums.ensures c.added-two.ensures in
+    λ k l. let a = (two k l).1 in let b = (c.pair_sums-2.ensures k l).1 in omega arith
 
 pub returns-then-m-eq3 : goal.returns-then-m-eq3
 returns-then-m-eq3 c =
-    let a = c.args in sums_all a.plane.now a.at a.stride 3 a.m c.added-three.result ((let it : (let a = c.args in Sums a.plane.now a.at a.stride 3 c.added-three.result) = let a = c.args in
-    sums_more a.plane.now a.at a.stride 2 (a.at + 2 * a.stride) c.added-two.result c.pair_sums-2.result c.added-three.result (omega arith) ((let it : (let a = c.args in Sums a.plane.now a.at a.stride 2 c.added-two.result) = let a = c.args in
-    sums_more a.plane.now a.at a.stride 1 (a.at + a.stride) c.pair_sums-one.result c.pair_sums.result c.added-two.result (omega arith) ((let it : (let a = c.args in Sums a.plane.now a.at a.stride 1 c.pair_sums-one.result) = let a = c.args in sums_one a.plane.now a.at a.stride c.pair_sums-one.result c.pair_sums-one.ensures in it)) c.pair_sums.ensures c.added-two.ensures in it)) c.pair_sums-2.ensures c.added-three.ensures in it)) (omega arith) (omega arith)
+    let one : (let a = c.args in Sums a.plane.now a.at a.stride 1 c.pair_sums-one.result) = let a = c.args in sums_one a.plane.now a.at a.stride c.pair_sums-one.result c.pair_sums-one.ensures in
+    let two : (let a = c.args in Sums a.plane.now a.at a.stride 2 c.added-two.result) = let a = c.args in
+    sums_more a.plane.now a.at a.stride 1 (a.at + a.stride) c.pair_sums-one.result c.pair_sums.result c.added-two.result (omega arith) one c.pair_sums.ensures c.added-two.ensures in
+    let three : (let a = c.args in Sums a.plane.now a.at a.stride 3 c.added-three.result) = let a = c.args in
+    sums_more a.plane.now a.at a.stride 2 (a.at + 2 * a.stride) c.added-two.result c.pair_sums-2.result c.added-three.result (omega arith) two c.pair_sums-2.ensures c.added-three.ensures in
+    let a = c.args in sums_all a.plane.now a.at a.stride 3 a.m c.added-three.result three (omega arith) (omega arith)
 
 pub overflow_mul-stride-2 : goal.overflow_mul-stride-2
 overflow_mul-stride-2 c =
@@ -67,13 +75,20 @@ pair_sums-requires-3 c =
 
 pub added-requires : goal.added-requires
 added-requires c =
-    λ k l. let a = ((let it : (let a = c.args in Sums a.plane.now a.at a.stride 3 c.added-three.result) = let a = c.args in
-    sums_more a.plane.now a.at a.stride 2 (a.at + 2 * a.stride) c.added-two.result c.pair_sums-2.result c.added-three.result (omega arith) ((let it : (let a = c.args in Sums a.plane.now a.at a.stride 2 c.added-two.result) = let a = c.args in
-    sums_more a.plane.now a.at a.stride 1 (a.at + a.stride) c.pair_sums-one.result c.pair_sums.result c.added-two.result (omega arith) ((let it : (let a = c.args in Sums a.plane.now a.at a.stride 1 c.pair_sums-one.result) = let a = c.args in sums_one a.plane.now a.at a.stride c.pair_sums-one.result c.pair_sums-one.ensures in it)) c.pair_sums.ensures c.added-two.ensures in it)) c.pair_sums-2.ensures c.added-three.ensures in it) k l).1 in let b = (c.pair_sums-3.ensures k l).1 in omega arith
+    let one : (let a = c.args in Sums a.plane.now a.at a.stride 1 c.pair_sums-one.result) = let a = c.args in sums_one a.plane.now a.at a.stride c.pair_sums-one.result c.pair_sums-one.ensures in
+    let two : (let a = c.args in Sums a.plane.now a.at a.stride 2 c.added-two.result) = let a = c.args in
+    sums_more a.plane.now a.at a.stride 1 (a.at + a.stride) c.pair_sums-one.result c.pair_sums.result c.added-two.result (omega arith) one c.pair_sums.ensures c.added-two.ensures in
+    let three : (let a = c.args in Sums a.plane.now a.at a.stride 3 c.added-three.result) = let a = c.args in
+    sums_more a.plane.now a.at a.stride 2 (a.at + 2 * a.stride) c.added-two.result c.pair_sums-2.result c.added-three.result (omega arith) two c.pair_sums-2.ensures c.added-three.ensures in
+    λ k l. let a = (three k l).1 in let b = (c.pair_sums-3.ensures k l).1 in omega arith
 
 pub returns : goal.returns
 returns c =
-    let a = c.args in sums_all a.plane.now a.at a.stride 4 a.m c.added.result ((let it : (let a = c.args in Sums a.plane.now a.at a.stride 4 c.added.result) = let a = c.args in
-    sums_more a.plane.now a.at a.stride 3 (a.at + 3 * a.stride) c.added-three.result c.pair_sums-3.result c.added.result (omega arith) ((let it : (let a = c.args in Sums a.plane.now a.at a.stride 3 c.added-three.result) = let a = c.args in
-    sums_more a.plane.now a.at a.stride 2 (a.at + 2 * a.stride) c.added-two.result c.pair_sums-2.result c.added-three.result (omega arith) ((let it : (let a = c.args in Sums a.plane.now a.at a.stride 2 c.added-two.result) = let a = c.args in
-    sums_more a.plane.now a.at a.stride 1 (a.at + a.stride) c.pair_sums-one.result c.pair_sums.result c.added-two.result (omega arith) ((let it : (let a = c.args in Sums a.plane.now a.at a.stride 1 c.pair_sums-one.result) = let a = c.args in sums_one a.plane.now a.at a.stride c.pair_sums-one.result c.pair_sums-one.ensures in it)) c.pair_sums.ensures c.added-two.ensures in it)) c.pair_sums-2.ensures c.added-three.ensures in it)) c.pair_sums-3.ensures c.added.ensures in it)) (omega arith) (omega arith)
+    let one : (let a = c.args in Sums a.plane.now a.at a.stride 1 c.pair_sums-one.result) = let a = c.args in sums_one a.plane.now a.at a.stride c.pair_sums-one.result c.pair_sums-one.ensures in
+    let two : (let a = c.args in Sums a.plane.now a.at a.stride 2 c.added-two.result) = let a = c.args in
+    sums_more a.plane.now a.at a.stride 1 (a.at + a.stride) c.pair_sums-one.result c.pair_sums.result c.added-two.result (omega arith) one c.pair_sums.ensures c.added-two.ensures in
+    let three : (let a = c.args in Sums a.plane.now a.at a.stride 3 c.added-three.result) = let a = c.args in
+    sums_more a.plane.now a.at a.stride 2 (a.at + 2 * a.stride) c.added-two.result c.pair_sums-2.result c.added-three.result (omega arith) two c.pair_sums-2.ensures c.added-three.ensures in
+    let four : (let a = c.args in Sums a.plane.now a.at a.stride 4 c.added.result) = let a = c.args in
+    sums_more a.plane.now a.at a.stride 3 (a.at + 3 * a.stride) c.added-three.result c.pair_sums-3.result c.added.result (omega arith) three c.pair_sums-3.ensures c.added.ensures in
+    let a = c.args in sums_all a.plane.now a.at a.stride 4 a.m c.added.result four (omega arith) (omega arith)

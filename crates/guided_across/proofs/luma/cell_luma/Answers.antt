@@ -10,39 +10,46 @@ use Rattle.guided_across.proofs.luma.cell_luma.Goals as goal
 
 pub overflow_mul-x : goal.overflow_mul-x
 overflow_mul-x c =
-    let h = (let it : Begins c.args.layout c.args.j c.args.i = begins c.args.layout c.requires.luma_pixels.sound c.args.j c.args.i (omega arith) (omega arith) in it) in omega arith
+    let inside : Begins c.args.layout c.args.j c.args.i = begins c.args.layout c.requires.luma_pixels.sound c.args.j c.args.i (omega arith) (omega arith) in
+    let h = inside in omega arith
 
 pub overflow_mul-y : goal.overflow_mul-y
 overflow_mul-y c =
-    let h = (let it : Begins c.args.layout c.args.j c.args.i = begins c.args.layout c.requires.luma_pixels.sound c.args.j c.args.i (omega arith) (omega arith) in it) in omega arith
+    let inside : Begins c.args.layout c.args.j c.args.i = begins c.args.layout c.requires.luma_pixels.sound c.args.j c.args.i (omega arith) (omega arith) in
+    let h = inside in omega arith
 
 pub overflow_sub-layout : goal.overflow_sub-layout
 overflow_sub-layout c =
-    let h = (let it : Begins c.args.layout c.args.j c.args.i = begins c.args.layout c.requires.luma_pixels.sound c.args.j c.args.i (omega arith) (omega arith) in it) in omega arith
+    let inside : Begins c.args.layout c.args.j c.args.i = begins c.args.layout c.requires.luma_pixels.sound c.args.j c.args.i (omega arith) (omega arith) in
+    let h = inside in omega arith
 
 pub overflow_sub-layout-2 : goal.overflow_sub-layout-2
 overflow_sub-layout-2 c =
-    let h = (let it : Begins c.args.layout c.args.j c.args.i = begins c.args.layout c.requires.luma_pixels.sound c.args.j c.args.i (omega arith) (omega arith) in it) in omega arith
+    let inside : Begins c.args.layout c.args.j c.args.i = begins c.args.layout c.requires.luma_pixels.sound c.args.j c.args.i (omega arith) (omega arith) in
+    let h = inside in omega arith
 
 pub cell_sum-requires : goal.cell_sum-requires
 cell_sum-requires c =
-    let h = (let it : Begins c.args.layout c.args.j c.args.i = begins c.args.layout c.requires.luma_pixels.sound c.args.j c.args.i (omega arith) (omega arith) in it) in
+    let inside : Begins c.args.layout c.args.j c.args.i = begins c.args.layout c.requires.luma_pixels.sound c.args.j c.args.i (omega arith) (omega arith) in
+    let h = inside in
     let o = c.requires.luma_pixels.sound in
     record { luma_pixels = c.requires.luma_pixels; n_bound = omega arith }
 
 pub overflow_mul-nx : goal.overflow_mul-nx
 overflow_mul-nx c =
-    let h = (let it : (c.least-nx.result * c.least-ny.result ≤ c.args.layout.rh * c.args.layout.rv) × (c.args.layout.rh * c.args.layout.rv ≤ 4 * 4) = let o = c.requires.luma_pixels.sound in
+    let few : (c.least-nx.result * c.least-ny.result ≤ c.args.layout.rh * c.args.layout.rv) × (c.args.layout.rh * c.args.layout.rv ≤ 4 * 4) = let o = c.requires.luma_pixels.sound in
     let p : c.least-nx.result ≤ c.args.layout.rh = omega arith in
     let q : c.least-ny.result ≤ c.args.layout.rv = omega arith in
-    (mul-le-mul p q, mul-le-mul o.rh_most o.rv_most) in it) in omega arith
+    (mul-le-mul p q, mul-le-mul o.rh_most o.rv_most) in
+    let h = few in omega arith
 
 pub mean_of-requires : goal.mean_of-requires
 mean_of-requires c =
-    let h = (let it : (c.least-nx.result * c.least-ny.result ≤ c.args.layout.rh * c.args.layout.rv) × (c.args.layout.rh * c.args.layout.rv ≤ 4 * 4) = let o = c.requires.luma_pixels.sound in
+    let few : (c.least-nx.result * c.least-ny.result ≤ c.args.layout.rh * c.args.layout.rv) × (c.args.layout.rh * c.args.layout.rv ≤ 4 * 4) = let o = c.requires.luma_pixels.sound in
     let p : c.least-nx.result ≤ c.args.layout.rh = omega arith in
     let q : c.least-ny.result ≤ c.args.layout.rv = omega arith in
-    (mul-le-mul p q, mul-le-mul o.rh_most o.rv_most) in it) in let o = c.requires.luma_pixels.sound in omega arith
+    (mul-le-mul p q, mul-le-mul o.rh_most o.rv_most) in
+    let h = few in let o = c.requires.luma_pixels.sound in omega arith
 
 pub returns : goal.returns
 returns c =

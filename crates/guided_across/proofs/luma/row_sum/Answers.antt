@@ -13,23 +13,28 @@ loop-i-init c =
 
 pub overflow_mul-y : goal.overflow_mul-y
 overflow_mul-y c =
-    let h = (let it : c.args.y * c.args.stride + (c.args.x + c.loop-i.i) * c.args.layout.sample_bytes + c.args.layout.sample_bytes ≤ length c.args.plane.now = let a = c.args in within_plane a.layout (plane_of a.plane.now a.stride) c.requires.luma_pixels (a.x + c.loop-i.i) a.y (omega arith) (omega arith) in it) in omega arith
+    let inside : c.args.y * c.args.stride + (c.args.x + c.loop-i.i) * c.args.layout.sample_bytes + c.args.layout.sample_bytes ≤ length c.args.plane.now = let a = c.args in within_plane a.layout (plane_of a.plane.now a.stride) c.requires.luma_pixels (a.x + c.loop-i.i) a.y (omega arith) (omega arith) in
+    let h = inside in omega arith
 
 pub overflow_add-x : goal.overflow_add-x
 overflow_add-x c =
-    let h = (let it : c.args.y * c.args.stride + (c.args.x + c.loop-i.i) * c.args.layout.sample_bytes + c.args.layout.sample_bytes ≤ length c.args.plane.now = let a = c.args in within_plane a.layout (plane_of a.plane.now a.stride) c.requires.luma_pixels (a.x + c.loop-i.i) a.y (omega arith) (omega arith) in it) in omega arith
+    let inside : c.args.y * c.args.stride + (c.args.x + c.loop-i.i) * c.args.layout.sample_bytes + c.args.layout.sample_bytes ≤ length c.args.plane.now = let a = c.args in within_plane a.layout (plane_of a.plane.now a.stride) c.requires.luma_pixels (a.x + c.loop-i.i) a.y (omega arith) (omega arith) in
+    let h = inside in omega arith
 
 pub overflow_mul-x : goal.overflow_mul-x
 overflow_mul-x c =
-    let h = (let it : c.args.y * c.args.stride + (c.args.x + c.loop-i.i) * c.args.layout.sample_bytes + c.args.layout.sample_bytes ≤ length c.args.plane.now = let a = c.args in within_plane a.layout (plane_of a.plane.now a.stride) c.requires.luma_pixels (a.x + c.loop-i.i) a.y (omega arith) (omega arith) in it) in omega arith
+    let inside : c.args.y * c.args.stride + (c.args.x + c.loop-i.i) * c.args.layout.sample_bytes + c.args.layout.sample_bytes ≤ length c.args.plane.now = let a = c.args in within_plane a.layout (plane_of a.plane.now a.stride) c.requires.luma_pixels (a.x + c.loop-i.i) a.y (omega arith) (omega arith) in
+    let h = inside in omega arith
 
 pub overflow_add-y : goal.overflow_add-y
 overflow_add-y c =
-    let h = (let it : c.args.y * c.args.stride + (c.args.x + c.loop-i.i) * c.args.layout.sample_bytes + c.args.layout.sample_bytes ≤ length c.args.plane.now = let a = c.args in within_plane a.layout (plane_of a.plane.now a.stride) c.requires.luma_pixels (a.x + c.loop-i.i) a.y (omega arith) (omega arith) in it) in omega arith
+    let inside : c.args.y * c.args.stride + (c.args.x + c.loop-i.i) * c.args.layout.sample_bytes + c.args.layout.sample_bytes ≤ length c.args.plane.now = let a = c.args in within_plane a.layout (plane_of a.plane.now a.stride) c.requires.luma_pixels (a.x + c.loop-i.i) a.y (omega arith) (omega arith) in
+    let h = inside in omega arith
 
 pub sample-requires : goal.sample-requires
 sample-requires c =
-    let h = (let it : c.args.y * c.args.stride + (c.args.x + c.loop-i.i) * c.args.layout.sample_bytes + c.args.layout.sample_bytes ≤ length c.args.plane.now = let a = c.args in within_plane a.layout (plane_of a.plane.now a.stride) c.requires.luma_pixels (a.x + c.loop-i.i) a.y (omega arith) (omega arith) in it) in let o = c.requires.luma_pixels.sound in omega arith
+    let inside : c.args.y * c.args.stride + (c.args.x + c.loop-i.i) * c.args.layout.sample_bytes + c.args.layout.sample_bytes ≤ length c.args.plane.now = let a = c.args in within_plane a.layout (plane_of a.plane.now a.stride) c.requires.luma_pixels (a.x + c.loop-i.i) a.y (omega arith) (omega arith) in
+    let h = inside in let o = c.requires.luma_pixels.sound in omega arith
 
 pub loop-i-preserved : goal.loop-i-preserved
 unfolding sample_at

@@ -13,15 +13,18 @@ loop-i-init c =
 
 pub overflow_mul-i : goal.overflow_mul-i
 overflow_mul-i c =
-    let h = (let it : c.loop-i.i * c.args.sample_bytes + c.args.sample_bytes ≤ c.args.n * c.args.sample_bytes = row_fits c.loop-i.i c.args.n c.args.sample_bytes (omega arith) in it) in omega arith
+    let inside : c.loop-i.i * c.args.sample_bytes + c.args.sample_bytes ≤ c.args.n * c.args.sample_bytes = row_fits c.loop-i.i c.args.n c.args.sample_bytes (omega arith) in
+    let h = inside in omega arith
 
 pub overflow_add-at : goal.overflow_add-at
 overflow_add-at c =
-    let h = (let it : c.loop-i.i * c.args.sample_bytes + c.args.sample_bytes ≤ c.args.n * c.args.sample_bytes = row_fits c.loop-i.i c.args.n c.args.sample_bytes (omega arith) in it) in omega arith
+    let inside : c.loop-i.i * c.args.sample_bytes + c.args.sample_bytes ≤ c.args.n * c.args.sample_bytes = row_fits c.loop-i.i c.args.n c.args.sample_bytes (omega arith) in
+    let h = inside in omega arith
 
 pub sample-requires : goal.sample-requires
 sample-requires c =
-    let h = (let it : c.loop-i.i * c.args.sample_bytes + c.args.sample_bytes ≤ c.args.n * c.args.sample_bytes = row_fits c.loop-i.i c.args.n c.args.sample_bytes (omega arith) in it) in omega arith
+    let inside : c.loop-i.i * c.args.sample_bytes + c.args.sample_bytes ≤ c.args.n * c.args.sample_bytes = row_fits c.loop-i.i c.args.n c.args.sample_bytes (omega arith) in
+    let h = inside in omega arith
 
 pub loop-i-preserved : goal.loop-i-preserved
 loop-i-preserved c =

@@ -13,7 +13,7 @@ returns-then-refused c =
 pub plane_rows-requires : goal.plane_rows-requires
 plane_rows-requires c =
     let asked : (let a = c.args in Asked (guided_tests a.layout (plane_of a.y.now a.y_stride) (plane_of a.c.now a.c_stride) (length a.s.now) (length a.out.now)) c.plane_answer-answer.result c.refused.result) = record { answers = c.plane_answer-answer.ensures; tells = c.refused.ensures } in
-    let it = ready _ _ _ _ _ (passed (asked) c.if-refused.false) in record { lent = it.0; layout_in_bounds = it.1 }
+    let it = ready _ _ _ _ _ (passed asked c.if-refused.false) in record { lent = it.0; layout_in_bounds = it.1 }
 
 pub returns : goal.returns
 returns c =

@@ -1,20 +1,26 @@
 use mathlib.Core.Path.{refl}
-use Rattle.image.specs.Picture.{planes_of}
+use Rattle.image.specs.Picture.{Planes, planes_of}
 use Rattle.image.specs.Limits.{above_any}
 use Rattle.image.proofs.Planes.{NoneShort, none_short}
 use Rattle.image.proofs.lent.above_planes.Goals as goal
 
 pub plane_above-above_y-requires : goal.plane_above-above_y-requires
 plane_above-above_y-requires c =
-    (c.requires.0, c.requires.1, ((let it : NoneShort c.args.layout ((let a = c.args in planes_of a.y.now a.cb.now a.cr.now a.strides)) = none_short c.args.layout ((let a = c.args in planes_of a.y.now a.cb.now a.cr.now a.strides)) c.requires.2 in it)).y)
+    let planes : Planes = let a = c.args in planes_of a.y.now a.cb.now a.cr.now a.strides in
+    let none : NoneShort c.args.layout planes = none_short c.args.layout planes c.requires.2 in
+    (c.requires.0, c.requires.1, none.y)
 
 pub plane_above-above_cb-requires : goal.plane_above-above_cb-requires
 plane_above-above_cb-requires c =
-    (c.requires.0, c.requires.1, ((let it : NoneShort c.args.layout ((let a = c.args in planes_of a.y.now a.cb.now a.cr.now a.strides)) = none_short c.args.layout ((let a = c.args in planes_of a.y.now a.cb.now a.cr.now a.strides)) c.requires.2 in it)).cb)
+    let planes : Planes = let a = c.args in planes_of a.y.now a.cb.now a.cr.now a.strides in
+    let none : NoneShort c.args.layout planes = none_short c.args.layout planes c.requires.2 in
+    (c.requires.0, c.requires.1, none.cb)
 
 pub plane_above-above_cr-requires : goal.plane_above-above_cr-requires
 plane_above-above_cr-requires c =
-    (c.requires.0, c.requires.1, ((let it : NoneShort c.args.layout ((let a = c.args in planes_of a.y.now a.cb.now a.cr.now a.strides)) = none_short c.args.layout ((let a = c.args in planes_of a.y.now a.cb.now a.cr.now a.strides)) c.requires.2 in it)).cr)
+    let planes : Planes = let a = c.args in planes_of a.y.now a.cb.now a.cr.now a.strides in
+    let none : NoneShort c.args.layout planes = none_short c.args.layout planes c.requires.2 in
+    (c.requires.0, c.requires.1, none.cr)
 
 pub returns : goal.returns
 unfolding above_any

@@ -15,15 +15,18 @@ returns-then-product_passes c =
 
 pub overflow_mul-layout : goal.overflow_mul-layout
 overflow_mul-layout c =
-    omega (arith, (let it : (let a = c.args in a.layout.w * 8 ≤ a.len) = ltb-false _ _ (sym c.product_passes.ensures ∙ c.if-product_passes.false) in it))
+    let eights : (let a = c.args in a.layout.w * 8 ≤ a.len) = ltb-false _ _ (sym c.product_passes.ensures ∙ c.if-product_passes.false) in
+    omega (arith, eights)
 
 pub overflow_sub-len : goal.overflow_sub-len
 overflow_sub-len c =
-    omega (arith, (let it : (let a = c.args in a.layout.w * 8 ≤ a.len) = ltb-false _ _ (sym c.product_passes.ensures ∙ c.if-product_passes.false) in it))
+    let eights : (let a = c.args in a.layout.w * 8 ≤ a.len) = ltb-false _ _ (sym c.product_passes.ensures ∙ c.if-product_passes.false) in
+    omega (arith, eights)
 
 pub returns : goal.returns
 unfolding scratch_need
 returns c =
-    let h = (let it : (let a = c.args in a.layout.w * 8 ≤ a.len) = ltb-false _ _ (sym c.product_passes.ensures ∙ c.if-product_passes.false) in it) in
+    let eights : (let a = c.args in a.layout.w * 8 ≤ a.len) = ltb-false _ _ (sym c.product_passes.ensures ∙ c.if-product_passes.false) in
+    let h = eights in
     let a = c.args in
     c.product_passes-2.ensures ∙ same_test (a.len - 8 * a.layout.w) (a.layout.cw * 32) a.len (scratch_need a.layout) (λ k. omega arith) (λ k. omega arith)

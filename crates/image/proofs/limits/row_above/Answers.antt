@@ -13,8 +13,10 @@ returns-then-sample_bytes-eq1 c =
 
 pub most_word-requires : goal.most_word-requires
 most_word-requires c =
-    words_fit _ _ _ _ ((let it : c.args.sample_bytes ≡ 2 = omega (arith, c.if-sample_bytes-eq1.false, c.requires.0, c.requires.1) in it)) c.requires.2
+    let two : c.args.sample_bytes ≡ 2 = omega (arith, c.if-sample_bytes-eq1.false, c.requires.0, c.requires.1) in
+    words_fit _ _ _ _ two c.requires.2
 
 pub returns : goal.returns
 returns c =
-    rw (c.from_word.ensures, c.most_word.ensures) (row_words _ _ _ _ _ ((let it : c.args.sample_bytes ≡ 2 = omega (arith, c.if-sample_bytes-eq1.false, c.requires.0, c.requires.1) in it)))
+    let two : c.args.sample_bytes ≡ 2 = omega (arith, c.if-sample_bytes-eq1.false, c.requires.0, c.requires.1) in
+    rw (c.from_word.ensures, c.most_word.ensures) (row_words _ _ _ _ _ two)

@@ -14,19 +14,15 @@ loop-y-init c =
 
 pub overflow_mul-y : goal.overflow_mul-y
 overflow_mul-y c =
-    omega (
-      arith,
-      (let it : (let a = c.args in c.loop-y.y * a.stride + a.w * a.layout.sample_bytes ≤ length a.plane.now) = let a = c.args in
-          row_inside (short_holds a.layout a.w a.h (record { bytes = a.plane.now; stride = a.stride }) c.requires.2) c.loop-y.y c.loop-y-test.true in it),
-    )
+    let inside : (let a = c.args in c.loop-y.y * a.stride + a.w * a.layout.sample_bytes ≤ length a.plane.now) = let a = c.args in
+    row_inside (short_holds a.layout a.w a.h (record { bytes = a.plane.now; stride = a.stride }) c.requires.2) c.loop-y.y c.loop-y-test.true in
+    omega (arith, inside)
 
 pub row_above-requires : goal.row_above-requires
-row_above-requires c = (
-  c.requires.0,
-  c.requires.1,
-  (let it : (let a = c.args in c.loop-y.y * a.stride + a.w * a.layout.sample_bytes ≤ length a.plane.now) = let a = c.args in
-      row_inside (short_holds a.layout a.w a.h (record { bytes = a.plane.now; stride = a.stride }) c.requires.2) c.loop-y.y c.loop-y-test.true in it),
-)
+row_above-requires c =
+    let inside : (let a = c.args in c.loop-y.y * a.stride + a.w * a.layout.sample_bytes ≤ length a.plane.now) = let a = c.args in
+    row_inside (short_holds a.layout a.w a.h (record { bytes = a.plane.now; stride = a.stride }) c.requires.2) c.loop-y.y c.loop-y-test.true in
+    (c.requires.0, c.requires.1, inside)
 
 pub returns-then-row_above : goal.returns-then-row_above
 returns-then-row_above c =

@@ -10,8 +10,10 @@ use Rattle.kernel_blocks.proofs.exact.lower.Goals as goal
 
 pub overflow_sub-result : goal.overflow_sub-result
 overflow_sub-result c =
-    (let it : SFits w32 (to_z w32 c.args.y -ℤ pos 1329594368) = let p = c.requires in record { sfits = holds (less c.args.y 1329594368 (omega arith) (omega arith)) (omega arith) (omega arith) } in it)
+    let fits : SFits w32 (to_z w32 c.args.y -ℤ pos 1329594368) = let p = c.requires in record { sfits = holds (less c.args.y 1329594368 (omega arith) (omega arith)) (omega arith) (omega arith) } in
+    fits
 
 pub returns : goal.returns
 returns c =
-    let p = c.requires in record { most = p; is = to_z-of_z w32 _ ((let it : SFits w32 (to_z w32 c.args.y -ℤ pos 1329594368) = let p = c.requires in record { sfits = holds (less c.args.y 1329594368 (omega arith) (omega arith)) (omega arith) (omega arith) } in it)) ∙ lowered_of (less c.args.y 1329594368 (omega arith) (omega arith)) }
+    let fits : SFits w32 (to_z w32 c.args.y -ℤ pos 1329594368) = let p = c.requires in record { sfits = holds (less c.args.y 1329594368 (omega arith) (omega arith)) (omega arith) (omega arith) } in
+    let p = c.requires in record { most = p; is = to_z-of_z w32 _ fits ∙ lowered_of (less c.args.y 1329594368 (omega arith) (omega arith)) }

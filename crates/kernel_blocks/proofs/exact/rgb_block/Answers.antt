@@ -14,16 +14,19 @@ lowered-low-requires c =
 pub chroma_row-red-requires : goal.chroma_row-red-requires
 unfolding of_bits neg
 chroma_row-red-requires c =
-    ((1402, for_red), λ i h. ((let it : (i : ℕ) → i < 16 → Luma (get_or c.lowered-low.result i (pos 0)) = λ i h. (_, c.lowered-low.ensures i h) in it) i h, (c.requires i h).2))
+    let luma : (i : ℕ) → i < 16 → Luma (get_or c.lowered-low.result i (pos 0)) = λ i h. (_, c.lowered-low.ensures i h) in
+    ((1402, for_red), λ i h. (luma i h, (c.requires i h).2))
 
 pub green_row-green-requires : goal.green_row-green-requires
 green_row-green-requires c =
-    λ i h. ((let it : (i : ℕ) → i < 16 → Luma (get_or c.lowered-low.result i (pos 0)) = λ i h. (_, c.lowered-low.ensures i h) in it) i h, (c.requires i h).1, (c.requires i h).2)
+    let luma : (i : ℕ) → i < 16 → Luma (get_or c.lowered-low.result i (pos 0)) = λ i h. (_, c.lowered-low.ensures i h) in
+    λ i h. (luma i h, (c.requires i h).1, (c.requires i h).2)
 
 pub chroma_row-blue-requires : goal.chroma_row-blue-requires
 unfolding of_bits
 chroma_row-blue-requires c =
-    ((1772, for_blue), λ i h. ((let it : (i : ℕ) → i < 16 → Luma (get_or c.lowered-low.result i (pos 0)) = λ i h. (_, c.lowered-low.ensures i h) in it) i h, (c.requires i h).1))
+    let luma : (i : ℕ) → i < 16 → Luma (get_or c.lowered-low.result i (pos 0)) = λ i h. (_, c.lowered-low.ensures i h) in
+    ((1772, for_blue), λ i h. (luma i h, (c.requires i h).1))
 
 pub returns : goal.returns
 unfolding of_bits neg exact255 red_offset blue_offset plus_chroma chroma_offset

@@ -12,8 +12,12 @@ use Rattle.kernel_blocks.proofs.fixed.plus.Goals as goal
 
 pub overflow_add-y : goal.overflow_add-y
 overflow_add-y c =
-    fits _ ((let it : mag (to_z w32 c.args.y +ℤ to_z w32 (of_z w32 c.args.offset)) < 33554432 = rw ((let it : to_z w32 c.args.y +ℤ to_z w32 (of_z w32 c.args.offset) ≡ pos c.args.y +ℤ c.args.offset = rw (to_z_pos w32 c.args.y (omega arith), small_back c.args.offset c.requires) refl in it)) (sum_small (pos c.args.y) c.args.offset (omega arith) c.requires) in it))
+    let as-it-is : to_z w32 c.args.y +ℤ to_z w32 (of_z w32 c.args.offset) ≡ pos c.args.y +ℤ c.args.offset = rw (to_z_pos w32 c.args.y (omega arith), small_back c.args.offset c.requires) refl in
+    let sums : mag (to_z w32 c.args.y +ℤ to_z w32 (of_z w32 c.args.offset)) < 33554432 = rw as-it-is (sum_small (pos c.args.y) c.args.offset (omega arith) c.requires) in
+    fits _ sums
 
 pub returns : goal.returns
 returns c =
-    c.limit_byte.ensures ∙ ap (limit 255) (back _ ((let it : mag (to_z w32 c.args.y +ℤ to_z w32 (of_z w32 c.args.offset)) < 33554432 = rw ((let it : to_z w32 c.args.y +ℤ to_z w32 (of_z w32 c.args.offset) ≡ pos c.args.y +ℤ c.args.offset = rw (to_z_pos w32 c.args.y (omega arith), small_back c.args.offset c.requires) refl in it)) (sum_small (pos c.args.y) c.args.offset (omega arith) c.requires) in it)) ∙ (let it : to_z w32 c.args.y +ℤ to_z w32 (of_z w32 c.args.offset) ≡ pos c.args.y +ℤ c.args.offset = rw (to_z_pos w32 c.args.y (omega arith), small_back c.args.offset c.requires) refl in it))
+    let as-it-is : to_z w32 c.args.y +ℤ to_z w32 (of_z w32 c.args.offset) ≡ pos c.args.y +ℤ c.args.offset = rw (to_z_pos w32 c.args.y (omega arith), small_back c.args.offset c.requires) refl in
+    let sums : mag (to_z w32 c.args.y +ℤ to_z w32 (of_z w32 c.args.offset)) < 33554432 = rw as-it-is (sum_small (pos c.args.y) c.args.offset (omega arith) c.requires) in
+    c.limit_byte.ensures ∙ ap (limit 255) (back _ sums ∙ as-it-is)

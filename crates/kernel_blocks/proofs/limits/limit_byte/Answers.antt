@@ -30,16 +30,21 @@ kept (negsuc n) f e = absurd (subst T e tt)
 
 pub returns-then-z-gt255 : goal.returns-then-z-gt255
 returns-then-z-gt255 c =
-    high _ (subst (λ (v : ℤ). lt_z (pos 255) v ≡ true) ((let it : to_z w32 (of_z w32 c.args.z) ≡ c.args.z = to_z-of_z w32 c.args.z c.ranges.z in it)) c.if-z-gt255.true)
+    let back : to_z w32 (of_z w32 c.args.z) ≡ c.args.z = to_z-of_z w32 c.args.z c.ranges.z in
+    high _ (subst (λ (v : ℤ). lt_z (pos 255) v ≡ true) back c.if-z-gt255.true)
 
 pub returns-then-z-lt0 : goal.returns-then-z-lt0
 returns-then-z-lt0 c =
-    low _ (subst (λ (v : ℤ). lt_z v (pos 0) ≡ true) ((let it : to_z w32 (of_z w32 c.args.z) ≡ c.args.z = to_z-of_z w32 c.args.z c.ranges.z in it)) c.if-z-lt0.true)
+    let back : to_z w32 (of_z w32 c.args.z) ≡ c.args.z = to_z-of_z w32 c.args.z c.ranges.z in
+    low _ (subst (λ (v : ℤ). lt_z v (pos 0) ≡ true) back c.if-z-lt0.true)
 
 pub overflow_cast-result : goal.overflow_cast-result
 overflow_cast-result c =
-    let p = (let it : (let z = to_z w32 (of_z w32 c.args.z) in T (non_neg z) × (nat_abs z ≤ 255) × (nat_abs z ≡ limit 255 z)) = kept _ c.if-z-gt255.false c.if-z-lt0.false in it) in (p.0, record { fits = let h = p.1 in omega arith })
+    let passed : (let z = to_z w32 (of_z w32 c.args.z) in T (non_neg z) × (nat_abs z ≤ 255) × (nat_abs z ≡ limit 255 z)) = kept _ c.if-z-gt255.false c.if-z-lt0.false in
+    let p = passed in (p.0, record { fits = let h = p.1 in omega arith })
 
 pub returns : goal.returns
 returns c =
-    ((let it : (let z = to_z w32 (of_z w32 c.args.z) in T (non_neg z) × (nat_abs z ≤ 255) × (nat_abs z ≡ limit 255 z)) = kept _ c.if-z-gt255.false c.if-z-lt0.false in it)).2 ∙ ap (limit 255) ((let it : to_z w32 (of_z w32 c.args.z) ≡ c.args.z = to_z-of_z w32 c.args.z c.ranges.z in it))
+    let back : to_z w32 (of_z w32 c.args.z) ≡ c.args.z = to_z-of_z w32 c.args.z c.ranges.z in
+    let passed : (let z = to_z w32 (of_z w32 c.args.z) in T (non_neg z) × (nat_abs z ≤ 255) × (nat_abs z ≡ limit 255 z)) = kept _ c.if-z-gt255.false c.if-z-lt0.false in
+    passed.2 ∙ ap (limit 255) back

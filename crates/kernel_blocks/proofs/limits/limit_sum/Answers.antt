@@ -14,21 +14,24 @@ use Rattle.kernel_blocks.proofs.limits.limit_sum.Goals as goal
 
 pub overflow_add-y : goal.overflow_add-y
 overflow_add-y c =
-    (let it : SFits w32 (to_z w32 (of_z w32 c.args.y) +ℤ to_z w32 c.args.offset) = let y = c.requires.0.0 in
+    let as-it-is : to_z w32 (of_z w32 c.args.y) +ℤ to_z w32 c.args.offset ≡ c.args.y +ℤ pos c.args.offset = let p = c.requires.1 in
+    ap (λ (z : ℤ). z +ℤ to_z w32 c.args.offset) (to_z-of_z w32 c.args.y c.ranges.y) ∙ ap (λ (z : ℤ). c.args.y +ℤ z) (to_z_pos w32 c.args.offset (omega arith)) in
+    let fits : SFits w32 (to_z w32 (of_z w32 c.args.y) +ℤ to_z w32 c.args.offset) = let y = c.requires.0.0 in
     let h = c.requires.0.1 in
     let l = h.most in
     let p = c.requires.1 in
-    let d : Diff (to_z w32 (of_z w32 c.args.y) +ℤ to_z w32 c.args.offset) (y + c.args.offset) (1329594368 + 0) = subst (λ (z : ℤ). Diff z (y + c.args.offset) (1329594368 + 0)) (sym ((let it : to_z w32 (of_z w32 c.args.y) +ℤ to_z w32 c.args.offset ≡ c.args.y +ℤ pos c.args.offset = let p = c.requires.1 in
-    ap (λ (z : ℤ). z +ℤ to_z w32 c.args.offset) (to_z-of_z w32 c.args.y c.ranges.y) ∙ ap (λ (z : ℤ). c.args.y +ℤ z) (to_z_pos w32 c.args.offset (omega arith)) in it))) (plus (lowered_diff h) (of_pos c.args.offset)) in
-    record { sfits = holds d (omega arith) (omega arith) } in it)
+    let d : Diff (to_z w32 (of_z w32 c.args.y) +ℤ to_z w32 c.args.offset) (y + c.args.offset) (1329594368 + 0) = subst (λ (z : ℤ). Diff z (y + c.args.offset) (1329594368 + 0)) (sym as-it-is) (plus (lowered_diff h) (of_pos c.args.offset)) in
+    record { sfits = holds d (omega arith) (omega arith) } in
+    fits
 
 pub returns : goal.returns
 returns c =
-    c.limit_byte.ensures ∙ ap (limit 255) (to_z-of_z w32 _ ((let it : SFits w32 (to_z w32 (of_z w32 c.args.y) +ℤ to_z w32 c.args.offset) = let y = c.requires.0.0 in
+    let as-it-is : to_z w32 (of_z w32 c.args.y) +ℤ to_z w32 c.args.offset ≡ c.args.y +ℤ pos c.args.offset = let p = c.requires.1 in
+    ap (λ (z : ℤ). z +ℤ to_z w32 c.args.offset) (to_z-of_z w32 c.args.y c.ranges.y) ∙ ap (λ (z : ℤ). c.args.y +ℤ z) (to_z_pos w32 c.args.offset (omega arith)) in
+    let fits : SFits w32 (to_z w32 (of_z w32 c.args.y) +ℤ to_z w32 c.args.offset) = let y = c.requires.0.0 in
     let h = c.requires.0.1 in
     let l = h.most in
     let p = c.requires.1 in
-    let d : Diff (to_z w32 (of_z w32 c.args.y) +ℤ to_z w32 c.args.offset) (y + c.args.offset) (1329594368 + 0) = subst (λ (z : ℤ). Diff z (y + c.args.offset) (1329594368 + 0)) (sym ((let it : to_z w32 (of_z w32 c.args.y) +ℤ to_z w32 c.args.offset ≡ c.args.y +ℤ pos c.args.offset = let p = c.requires.1 in
-    ap (λ (z : ℤ). z +ℤ to_z w32 c.args.offset) (to_z-of_z w32 c.args.y c.ranges.y) ∙ ap (λ (z : ℤ). c.args.y +ℤ z) (to_z_pos w32 c.args.offset (omega arith)) in it))) (plus (lowered_diff h) (of_pos c.args.offset)) in
-    record { sfits = holds d (omega arith) (omega arith) } in it)) ∙ (let it : to_z w32 (of_z w32 c.args.y) +ℤ to_z w32 c.args.offset ≡ c.args.y +ℤ pos c.args.offset = let p = c.requires.1 in
-    ap (λ (z : ℤ). z +ℤ to_z w32 c.args.offset) (to_z-of_z w32 c.args.y c.ranges.y) ∙ ap (λ (z : ℤ). c.args.y +ℤ z) (to_z_pos w32 c.args.offset (omega arith)) in it))
+    let d : Diff (to_z w32 (of_z w32 c.args.y) +ℤ to_z w32 c.args.offset) (y + c.args.offset) (1329594368 + 0) = subst (λ (z : ℤ). Diff z (y + c.args.offset) (1329594368 + 0)) (sym as-it-is) (plus (lowered_diff h) (of_pos c.args.offset)) in
+    record { sfits = holds d (omega arith) (omega arith) } in
+    c.limit_byte.ensures ∙ ap (limit 255) (to_z-of_z w32 _ fits ∙ as-it-is)

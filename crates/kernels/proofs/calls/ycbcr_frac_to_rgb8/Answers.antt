@@ -12,18 +12,22 @@ returns-in-Refused c =
 
 pub full_pixel-requires : goal.full_pixel-requires
 full_pixel-requires c =
-    exact_passed _ _ _ _ _ ((let it : (let a = c.args in first (exact_tests a.range a.maxval a.y a.cb256 a.cr256) ≡ Accepted) = sym c.exact_answer.ensures ∙ c.in_default.is in it))
+    let accepted : (let a = c.args in first (exact_tests a.range a.maxval a.y a.cb256 a.cr256) ≡ Accepted) = sym c.exact_answer.ensures ∙ c.in_default.is in
+    exact_passed _ _ _ _ _ accepted
 
 pub ycbcr_frac_to_rgb8_studio-requires : goal.ycbcr_frac_to_rgb8_studio-requires
 ycbcr_frac_to_rgb8_studio-requires c =
-    (exact_passed _ _ _ _ _ ((let it : (let a = c.args in first (exact_tests a.range a.maxval a.y a.cb256 a.cr256) ≡ Accepted) = sym c.exact_answer.ensures ∙ c.in_default.is in it))).0
+    let accepted : (let a = c.args in first (exact_tests a.range a.maxval a.y a.cb256 a.cr256) ≡ Accepted) = sym c.exact_answer.ensures ∙ c.in_default.is in
+    (exact_passed _ _ _ _ _ accepted).0
 
 pub returns-in-Full : goal.returns-in-Full
 unfolding exact_pixel ranged_colour
 returns-in-Full c =
-    rw ((let it : (let a = c.args in first (exact_tests a.range a.maxval a.y a.cb256 a.cr256) ≡ Accepted) = sym c.exact_answer.ensures ∙ c.in_default.is in it), c.in-Full.is) c.full_pixel.ensures
+    let accepted : (let a = c.args in first (exact_tests a.range a.maxval a.y a.cb256 a.cr256) ≡ Accepted) = sym c.exact_answer.ensures ∙ c.in_default.is in
+    rw (accepted, c.in-Full.is) c.full_pixel.ensures
 
 pub returns-in-Studio : goal.returns-in-Studio
 unfolding exact_pixel ranged_colour
 returns-in-Studio c =
-    rw ((let it : (let a = c.args in first (exact_tests a.range a.maxval a.y a.cb256 a.cr256) ≡ Accepted) = sym c.exact_answer.ensures ∙ c.in_default.is in it), c.in-Studio.is, sym c.ycbcr_frac_to_rgb8_studio.ensures) c.given.ensures
+    let accepted : (let a = c.args in first (exact_tests a.range a.maxval a.y a.cb256 a.cr256) ≡ Accepted) = sym c.exact_answer.ensures ∙ c.in_default.is in
+    rw (accepted, c.in-Studio.is, sym c.ycbcr_frac_to_rgb8_studio.ensures) c.given.ensures

@@ -12,9 +12,11 @@ returns-in-Refused c =
 
 pub ycbcr_to_rgb8_fixed-p-requires : goal.ycbcr_to_rgb8_fixed-p-requires
 ycbcr_to_rgb8_fixed-p-requires c =
-    fixed_passed _ _ _ ((let it : (let a = c.args in first (fixed_tests a.y a.cb a.cr) ≡ Accepted) = sym c.fixed_answer.ensures ∙ c.in_default.is in it))
+    let accepted : (let a = c.args in first (fixed_tests a.y a.cb a.cr) ≡ Accepted) = sym c.fixed_answer.ensures ∙ c.in_default.is in
+    fixed_passed _ _ _ accepted
 
 pub returns : goal.returns
 unfolding fixed_pixel
 returns c =
-    rw ((let it : (let a = c.args in first (fixed_tests a.y a.cb a.cr) ≡ Accepted) = sym c.fixed_answer.ensures ∙ c.in_default.is in it), sym c.ycbcr_to_rgb8_fixed-p.ensures) refl
+    let accepted : (let a = c.args in first (fixed_tests a.y a.cb a.cr) ≡ Accepted) = sym c.fixed_answer.ensures ∙ c.in_default.is in
+    rw (accepted, sym c.ycbcr_to_rgb8_fixed-p.ensures) refl

@@ -13,11 +13,13 @@ across_taps-requires c =
 
 pub overflow_sub-w : goal.overflow_sub-w
 overflow_sub-w c =
-    let k = (let it : Lead c.args.r c.head_of-head.result c.lead_of-lead.result = let a = c.args in lead_is a.axis.siting a.r c.head_of-head.result c.lead_of-lead.result c.head_of-head.ensures c.lead_of-lead.ensures (omega arith) (omega arith) in it) in omega arith
+    let known : Lead c.args.r c.head_of-head.result c.lead_of-lead.result = let a = c.args in lead_is a.axis.siting a.r c.head_of-head.result c.lead_of-lead.result c.head_of-head.ensures c.lead_of-lead.ensures (omega arith) (omega arith) in
+    let k = known in omega arith
 
 pub across_parts-requires : goal.across_parts-requires
 across_parts-requires c =
+    let known : Lead c.args.r c.head_of-head.result c.lead_of-lead.result = let a = c.args in lead_is a.axis.siting a.r c.head_of-head.result c.lead_of-lead.result c.head_of-head.ensures c.lead_of-lead.ensures (omega arith) (omega arith) in
     let a = c.args in
     let e : a.axis.num ≡ 1 = omega arith in
-    let f = pairs_fit a.r a.cw a.w c.head_of-head.result c.lead_of-lead.result ((let it : Lead c.args.r c.head_of-head.result c.lead_of-lead.result = let a = c.args in lead_is a.axis.siting a.r c.head_of-head.result c.lead_of-lead.result c.head_of-head.ensures c.lead_of-lead.ensures (omega arith) (omega arith) in it)) (omega arith) (omega arith) (one_cell a.w a.axis.num (a.cw * a.r) e c.requires.num_nonzero.6) in
+    let f = pairs_fit a.r a.cw a.w c.head_of-head.result c.lead_of-lead.result known (omega arith) (omega arith) (one_cell a.w a.axis.num (a.cw * a.r) e c.requires.num_nonzero.6) in
     record { num_value = (e, omega arith, omega arith, omega arith); head_value = (c.head_of-head.ensures, f.fit, f.cells, f.eight); w_bound = (omega arith, omega arith) }

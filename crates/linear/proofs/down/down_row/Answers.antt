@@ -11,27 +11,33 @@ loop-i-init c =
 
 pub overflow_mul-i : goal.overflow_mul-i
 overflow_mul-i c =
-    let h = (let it : c.loop-i.i * c.args.sample_bytes + c.args.sample_bytes ≤ c.args.n * c.args.sample_bytes = row_fits c.loop-i.i c.args.n c.args.sample_bytes (omega arith) in it) in omega arith
+    let inside : c.loop-i.i * c.args.sample_bytes + c.args.sample_bytes ≤ c.args.n * c.args.sample_bytes = row_fits c.loop-i.i c.args.n c.args.sample_bytes (omega arith) in
+    let h = inside in omega arith
 
 pub overflow_add-a : goal.overflow_add-a
 overflow_add-a c =
-    let h = (let it : c.loop-i.i * c.args.sample_bytes + c.args.sample_bytes ≤ c.args.n * c.args.sample_bytes = row_fits c.loop-i.i c.args.n c.args.sample_bytes (omega arith) in it) in omega arith
+    let inside : c.loop-i.i * c.args.sample_bytes + c.args.sample_bytes ≤ c.args.n * c.args.sample_bytes = row_fits c.loop-i.i c.args.n c.args.sample_bytes (omega arith) in
+    let h = inside in omega arith
 
 pub sample-near-requires : goal.sample-near-requires
 sample-near-requires c =
-    let h = (let it : c.loop-i.i * c.args.sample_bytes + c.args.sample_bytes ≤ c.args.n * c.args.sample_bytes = row_fits c.loop-i.i c.args.n c.args.sample_bytes (omega arith) in it) in omega arith
+    let inside : c.loop-i.i * c.args.sample_bytes + c.args.sample_bytes ≤ c.args.n * c.args.sample_bytes = row_fits c.loop-i.i c.args.n c.args.sample_bytes (omega arith) in
+    let h = inside in omega arith
 
 pub overflow_mul-i-in-loop-i : goal.overflow_mul-i-in-loop-i
 overflow_mul-i-in-loop-i c =
-    let h = (let it : c.loop-i.i * c.args.sample_bytes + c.args.sample_bytes ≤ c.args.n * c.args.sample_bytes = row_fits c.loop-i.i c.args.n c.args.sample_bytes (omega arith) in it) in omega arith
+    let inside : c.loop-i.i * c.args.sample_bytes + c.args.sample_bytes ≤ c.args.n * c.args.sample_bytes = row_fits c.loop-i.i c.args.n c.args.sample_bytes (omega arith) in
+    let h = inside in omega arith
 
 pub overflow_add-b : goal.overflow_add-b
 overflow_add-b c =
-    let h = (let it : c.loop-i.i * c.args.sample_bytes + c.args.sample_bytes ≤ c.args.n * c.args.sample_bytes = row_fits c.loop-i.i c.args.n c.args.sample_bytes (omega arith) in it) in omega arith
+    let inside : c.loop-i.i * c.args.sample_bytes + c.args.sample_bytes ≤ c.args.n * c.args.sample_bytes = row_fits c.loop-i.i c.args.n c.args.sample_bytes (omega arith) in
+    let h = inside in omega arith
 
 pub sample-far-requires : goal.sample-far-requires
 sample-far-requires c =
-    let h = (let it : c.loop-i.i * c.args.sample_bytes + c.args.sample_bytes ≤ c.args.n * c.args.sample_bytes = row_fits c.loop-i.i c.args.n c.args.sample_bytes (omega arith) in it) in omega arith
+    let inside : c.loop-i.i * c.args.sample_bytes + c.args.sample_bytes ≤ c.args.n * c.args.sample_bytes = row_fits c.loop-i.i c.args.n c.args.sample_bytes (omega arith) in
+    let h = inside in omega arith
 
 pub loop-i-preserved : goal.loop-i-preserved
 loop-i-preserved c =

@@ -21,38 +21,44 @@ tap_at-t-requires c =
 
 pub overflow_mul-a : goal.overflow_mul-a
 overflow_mul-a c =
-    let h = (let it : (c.tap_at-t.result.i0 * c.args.stride + c.args.layout.cw * c.args.layout.sample_bytes ≤ length c.args.plane.now)
+    let rows : (c.tap_at-t.result.i0 * c.args.stride + c.args.layout.cw * c.args.layout.sample_bytes ≤ length c.args.plane.now)
     × (c.tap_at-t.result.i1 * c.args.stride + c.args.layout.cw * c.args.layout.sample_bytes ≤ length c.args.plane.now) = let l = c.args.layout in
     let o = short_holds l l.cw l.ch (plane_of c.args.plane.now c.args.stride) c.requires.ready.plane in
-    (row_inside o c.tap_at-t.result.i0 c.tap_at-t.ensures.i0_inside, row_inside o c.tap_at-t.result.i1 c.tap_at-t.ensures.i1_inside) in it) in omega arith
+    (row_inside o c.tap_at-t.result.i0 c.tap_at-t.ensures.i0_inside, row_inside o c.tap_at-t.result.i1 c.tap_at-t.ensures.i1_inside) in
+    let h = rows in omega arith
 
 pub overflow_mul-b : goal.overflow_mul-b
 overflow_mul-b c =
-    let h = (let it : (c.tap_at-t.result.i0 * c.args.stride + c.args.layout.cw * c.args.layout.sample_bytes ≤ length c.args.plane.now)
+    let rows : (c.tap_at-t.result.i0 * c.args.stride + c.args.layout.cw * c.args.layout.sample_bytes ≤ length c.args.plane.now)
     × (c.tap_at-t.result.i1 * c.args.stride + c.args.layout.cw * c.args.layout.sample_bytes ≤ length c.args.plane.now) = let l = c.args.layout in
     let o = short_holds l l.cw l.ch (plane_of c.args.plane.now c.args.stride) c.requires.ready.plane in
-    (row_inside o c.tap_at-t.result.i0 c.tap_at-t.ensures.i0_inside, row_inside o c.tap_at-t.result.i1 c.tap_at-t.ensures.i1_inside) in it) in omega arith
+    (row_inside o c.tap_at-t.result.i0 c.tap_at-t.ensures.i0_inside, row_inside o c.tap_at-t.result.i1 c.tap_at-t.ensures.i1_inside) in
+    let h = rows in omega arith
 
 pub down_row-requires : goal.down_row-requires
 unfolding scratch_need
 down_row-requires c =
-    let h = (let it : (c.tap_at-t.result.i0 * c.args.stride + c.args.layout.cw * c.args.layout.sample_bytes ≤ length c.args.plane.now)
+    let rows : (c.tap_at-t.result.i0 * c.args.stride + c.args.layout.cw * c.args.layout.sample_bytes ≤ length c.args.plane.now)
     × (c.tap_at-t.result.i1 * c.args.stride + c.args.layout.cw * c.args.layout.sample_bytes ≤ length c.args.plane.now) = let l = c.args.layout in
     let o = short_holds l l.cw l.ch (plane_of c.args.plane.now c.args.stride) c.requires.ready.plane in
-    (row_inside o c.tap_at-t.result.i0 c.tap_at-t.ensures.i0_inside, row_inside o c.tap_at-t.result.i1 c.tap_at-t.ensures.i1_inside) in it) in let k = (let it : 2 * c.args.layout.w + c.args.layout.cw ≤ length c.args.s.now = omega arith in it) in omega arith
+    (row_inside o c.tap_at-t.result.i0 c.tap_at-t.ensures.i0_inside, row_inside o c.tap_at-t.result.i1 c.tap_at-t.ensures.i1_inside) in
+    let room : 2 * c.args.layout.w + c.args.layout.cw ≤ length c.args.s.now = omega arith in
+    let h = rows in let k = room in omega arith
 
 pub across_row-requires : goal.across_row-requires
 unfolding scratch_need
 across_row-requires c =
-    let k = (let it : 2 * c.args.layout.w + c.args.layout.cw ≤ length c.args.s.now = omega arith in it) in omega arith
+    let room : 2 * c.args.layout.w + c.args.layout.cw ≤ length c.args.s.now = omega arith in
+    let k = room in omega arith
 
 pub returns : goal.returns
 unfolding scratch_need
 returns c =
+    let room : 2 * c.args.layout.w + c.args.layout.cw ≤ length c.args.s.now = omega arith in
     let a = c.args in
     let l = a.layout in
     let p : Plane = record { bytes = a.plane.now; stride = a.stride } in
     let t = c.tap_at-t in
     c.across_row.ensures
     ∙ ap (across_run l.across (linear_cells_at l) l.cw l.rh a.dst 0 l.w) (c.down_row.ensures ∙ down_is l p a.y t.result a.s.now t.ensures.is)
-    ∙ row_is l p a.dst a.y a.s.now c.requires.ready.shaped ((let it : 2 * c.args.layout.w + c.args.layout.cw ≤ length c.args.s.now = omega arith in it))
+    ∙ row_is l p a.dst a.y a.s.now c.requires.ready.shaped room

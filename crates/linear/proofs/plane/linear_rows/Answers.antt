@@ -21,26 +21,33 @@ loop-y-init c =
 
 pub linear_row-requires : goal.linear_row-requires
 linear_row-requires c =
-    record { ready = (let it : Ready c.args.layout (plane_of c.args.plane.now c.args.stride) (length c.loop-y.s) = let r = c.requires.ready in record { shaped = r.shaped; plane = r.plane; scratch = rw c.loop-y.invariant.2.len r.scratch } in it); y_lt_h = (omega arith, omega arith) }
+    let ready : Ready c.args.layout (plane_of c.args.plane.now c.args.stride) (length c.loop-y.s) = let r = c.requires.ready in record { shaped = r.shaped; plane = r.plane; scratch = rw c.loop-y.invariant.2.len r.scratch } in
+    record { ready = ready; y_lt_h = (omega arith, omega arith) }
 
 pub overflow_mul-y : goal.overflow_mul-y
 overflow_mul-y c =
-    let h = (let it : c.loop-y.y * c.args.layout.w + c.args.layout.w ≤ length c.loop-y.out = let a = c.args in
-    omega (arith, row_fits c.loop-y.y a.layout.h a.layout.w (omega arith), mul_comm a.layout.w a.layout.h, c.loop-y.invariant.1.len) in it) in omega arith
+    let inside : c.loop-y.y * c.args.layout.w + c.args.layout.w ≤ length c.loop-y.out = let a = c.args in
+    omega (arith, row_fits c.loop-y.y a.layout.h a.layout.w (omega arith), mul_comm a.layout.w a.layout.h, c.loop-y.invariant.1.len) in
+    let h = inside in omega arith
 
 pub store_row-requires : goal.store_row-requires
 unfolding scratch_need
 store_row-requires c =
-    let h = (let it : c.loop-y.y * c.args.layout.w + c.args.layout.w ≤ length c.loop-y.out = let a = c.args in
-    omega (arith, row_fits c.loop-y.y a.layout.h a.layout.w (omega arith), mul_comm a.layout.w a.layout.h, c.loop-y.invariant.1.len) in it) in
-    let r = (let it : Ready c.args.layout (plane_of c.args.plane.now c.args.stride) (length c.loop-y.s) = let r = c.requires.ready in record { shaped = r.shaped; plane = r.plane; scratch = rw c.loop-y.invariant.2.len r.scratch } in it) in
-    let k = (let it : 0 + c.args.layout.w ≤ length c.loop-y.s = let r = (let it : Ready c.args.layout (plane_of c.args.plane.now c.args.stride) (length c.loop-y.s) = let r = c.requires.ready in record { shaped = r.shaped; plane = r.plane; scratch = rw c.loop-y.invariant.2.len r.scratch } in it) in omega arith in it) in
+    let ready : Ready c.args.layout (plane_of c.args.plane.now c.args.stride) (length c.loop-y.s) = let r = c.requires.ready in record { shaped = r.shaped; plane = r.plane; scratch = rw c.loop-y.invariant.2.len r.scratch } in
+    let room : 0 + c.args.layout.w ≤ length c.loop-y.s = let r = ready in omega arith in
+    let inside : c.loop-y.y * c.args.layout.w + c.args.layout.w ≤ length c.loop-y.out = let a = c.args in
+    omega (arith, row_fits c.loop-y.y a.layout.h a.layout.w (omega arith), mul_comm a.layout.w a.layout.h, c.loop-y.invariant.1.len) in
+    let h = inside in
+    let r = ready in
+    let k = room in
     let e = ap length c.linear_row.ensures ∙ length_row _ _ _ _ _ in
     omega arith
 
 pub loop-y-preserved : goal.loop-y-preserved
 unfolding scratch_need
 loop-y-preserved c =
+    let ready : Ready c.args.layout (plane_of c.args.plane.now c.args.stride) (length c.loop-y.s) = let r = c.requires.ready in record { shaped = r.shaped; plane = r.plane; scratch = rw c.loop-y.invariant.2.len r.scratch } in
+    let room : 0 + c.args.layout.w ≤ length c.loop-y.s = let r = ready in omega arith in
     let a = c.args in
     let p : Plane = record { bytes = a.plane.now; stride = a.stride } in
     let l = c.loop-y in
@@ -49,7 +56,7 @@ loop-y-preserved c =
       rows_more l.invariant.1 _
           (c.store_row.ensures
           ∙ ap (λ (z : List Float). store_run z 0 a.layout.w a.layout.maxval (l.y * a.layout.w) l.out) row.ensures
-          ∙ stored_is a.layout p l.y (l.y * a.layout.w) l.s l.out ((let it : 0 + c.args.layout.w ≤ length c.loop-y.s = let r = (let it : Ready c.args.layout (plane_of c.args.plane.now c.args.stride) (length c.loop-y.s) = let r = c.requires.ready in record { shaped = r.shaped; plane = r.plane; scratch = rw c.loop-y.invariant.2.len r.scratch } in it) in omega arith in it))),
+          ∙ stored_is a.layout p l.y (l.y * a.layout.w) l.s l.out room),
       scratch_more l.invariant.2 _ row.ensures,
     )
 

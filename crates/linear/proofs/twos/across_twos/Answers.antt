@@ -13,31 +13,38 @@ loop-done-init c =
 
 pub twos_block-v-requires : goal.twos_block-v-requires
 twos_block-v-requires c =
-    let h = (let it : (let i = c.least-i.result in (i ≤ c.loop-done.done) × (c.loop-done.done < i + 8) × (i + 8 ≤ c.args.n)) = let e = c.least-i.ensures in (omega arith, omega arith, omega arith) in it) in let l = c.loop-done.invariant.1.len in omega arith
+    let place : (let i = c.least-i.result in (i ≤ c.loop-done.done) × (c.loop-done.done < i + 8) × (i + 8 ≤ c.args.n)) = let e = c.least-i.ensures in (omega arith, omega arith, omega arith) in
+    let h = place in let l = c.loop-done.invariant.1.len in omega arith
 
 pub overflow_mul-i : goal.overflow_mul-i
 overflow_mul-i c =
-    let h = (let it : (let i = c.least-i.result in (i ≤ c.loop-done.done) × (c.loop-done.done < i + 8) × (i + 8 ≤ c.args.n)) = let e = c.least-i.ensures in (omega arith, omega arith, omega arith) in it) in omega arith
+    let place : (let i = c.least-i.result in (i ≤ c.loop-done.done) × (c.loop-done.done < i + 8) × (i + 8 ≤ c.args.n)) = let e = c.least-i.ensures in (omega arith, omega arith, omega arith) in
+    let h = place in omega arith
 
 pub overflow_add-dst : goal.overflow_add-dst
 overflow_add-dst c =
-    let h = (let it : (let i = c.least-i.result in (i ≤ c.loop-done.done) × (c.loop-done.done < i + 8) × (i + 8 ≤ c.args.n)) = let e = c.least-i.ensures in (omega arith, omega arith, omega arith) in it) in omega arith
+    let place : (let i = c.least-i.result in (i ≤ c.loop-done.done) × (c.loop-done.done < i + 8) × (i + 8 ≤ c.args.n)) = let e = c.least-i.ensures in (omega arith, omega arith, omega arith) in
+    let h = place in omega arith
 
 pub put_block-requires : goal.put_block-requires
 put_block-requires c =
-    let h = (let it : (let i = c.least-i.result in (i ≤ c.loop-done.done) × (c.loop-done.done < i + 8) × (i + 8 ≤ c.args.n)) = let e = c.least-i.ensures in (omega arith, omega arith, omega arith) in it) in let l = c.loop-done.invariant.1.len in omega arith
+    let place : (let i = c.least-i.result in (i ≤ c.loop-done.done) × (c.loop-done.done < i + 8) × (i + 8 ≤ c.args.n)) = let e = c.least-i.ensures in (omega arith, omega arith, omega arith) in
+    let h = place in let l = c.loop-done.invariant.1.len in omega arith
 
 pub overflow_add-done : goal.overflow_add-done
 overflow_add-done c =
-    let h = (let it : (let i = c.least-i.result in (i ≤ c.loop-done.done) × (c.loop-done.done < i + 8) × (i + 8 ≤ c.args.n)) = let e = c.least-i.ensures in (omega arith, omega arith, omega arith) in it) in omega arith
+    let place : (let i = c.least-i.result in (i ≤ c.loop-done.done) × (c.loop-done.done < i + 8) × (i + 8 ≤ c.args.n)) = let e = c.least-i.ensures in (omega arith, omega arith, omega arith) in
+    let h = place in omega arith
 
 pub loop-done-smaller : goal.loop-done-smaller
 loop-done-smaller c =
-    let h = (let it : (let i = c.least-i.result in (i ≤ c.loop-done.done) × (c.loop-done.done < i + 8) × (i + 8 ≤ c.args.n)) = let e = c.least-i.ensures in (omega arith, omega arith, omega arith) in it) in omega arith
+    let place : (let i = c.least-i.result in (i ≤ c.loop-done.done) × (c.loop-done.done < i + 8) × (i + 8 ≤ c.args.n)) = let e = c.least-i.ensures in (omega arith, omega arith, omega arith) in
+    let h = place in omega arith
 
 pub loop-done-preserved : goal.loop-done-preserved
 loop-done-preserved c =
-    let h = (let it : (let i = c.least-i.result in (i ≤ c.loop-done.done) × (c.loop-done.done < i + 8) × (i + 8 ≤ c.args.n)) = let e = c.least-i.ensures in (omega arith, omega arith, omega arith) in it) in
+    let place : (let i = c.least-i.result in (i ≤ c.loop-done.done) × (c.loop-done.done < i + 8) × (i + 8 ≤ c.args.n)) = let e = c.least-i.ensures in (omega arith, omega arith, omega arith) in
+    let h = place in
     let a = c.args in
     let i = c.least-i.result in
     let r = c.loop-done.invariant.1 in

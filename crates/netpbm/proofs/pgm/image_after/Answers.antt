@@ -12,15 +12,18 @@ returns-then-refused c =
 
 pub header_at-requires : goal.header_at-requires
 header_at-requires c =
-    let p = c.requires in (p.input_len_bound, (p.end_in_bounds ((let it : accepted c.args.before.answer ≡ true = not-false _ (sym c.refused.ensures ∙ c.if-refused.false) in it))).0)
+    let passed : accepted c.args.before.answer ≡ true = not-false _ (sym c.refused.ensures ∙ c.if-refused.false) in
+    let p = c.requires in (p.input_len_bound, (p.end_in_bounds passed).0)
 
 pub image_with-requires : goal.image_with-requires
 image_with-requires c =
+    let passed : accepted c.args.before.answer ≡ true = not-false _ (sym c.refused.ensures ∙ c.if-refused.false) in
     let p = c.requires in
-    let f = p.end_in_bounds ((let it : accepted c.args.before.answer ≡ true = not-false _ (sym c.refused.ensures ∙ c.if-refused.false) in it)) in
+    let f = p.end_in_bounds passed in
     record { input_len_bound = (p.input_len_bound, f.0); header_value = (c.header_at.ensures, f.1) }
 
 pub returns : goal.returns
 unfolding image_behind
 returns c =
-    rw ((let it : accepted c.args.before.answer ≡ true = not-false _ (sym c.refused.ensures ∙ c.if-refused.false) in it)) c.image_with.ensures
+    let passed : accepted c.args.before.answer ≡ true = not-false _ (sym c.refused.ensures ∙ c.if-refused.false) in
+    rw passed c.image_with.ensures

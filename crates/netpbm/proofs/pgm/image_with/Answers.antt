@@ -6,19 +6,23 @@ use Rattle.netpbm.proofs.pgm.image_with.Goals as goal
 
 pub image_answer-answer-requires : goal.image_answer-answer-requires
 image_answer-answer-requires c =
-    let k = (let it : Limits c.args.header = limits c.args.input.now c.args.at c.args.header c.requires.input_len_bound.0 c.requires.input_len_bound.1 c.requires.header_value.0 in it) in (k.width, k.height, k.ends)
+    let known : Limits c.args.header = limits c.args.input.now c.args.at c.args.header c.requires.input_len_bound.0 c.requires.input_len_bound.1 c.requires.header_value.0 in
+    let k = known in (k.width, k.height, k.ends)
 
 pub overflow_add-rows : goal.overflow_add-rows
 overflow_add-rows c =
-    let k = (let it : Limits c.args.header = limits c.args.input.now c.args.at c.args.header c.requires.input_len_bound.0 c.requires.input_len_bound.1 c.requires.header_value.0 in it) in let e = k.ends in omega arith
+    let known : Limits c.args.header = limits c.args.input.now c.args.at c.args.header c.requires.input_len_bound.0 c.requires.input_len_bound.1 c.requires.header_value.0 in
+    let k = known in let e = k.ends in omega arith
 
 pub row_bytes-requires : goal.row_bytes-requires
 row_bytes-requires c =
-    let k = (let it : Limits c.args.header = limits c.args.input.now c.args.at c.args.header c.requires.input_len_bound.0 c.requires.input_len_bound.1 c.requires.header_value.0 in it) in (k.width, k.height)
+    let known : Limits c.args.header = limits c.args.input.now c.args.at c.args.header c.requires.input_len_bound.0 c.requires.input_len_bound.1 c.requires.header_value.0 in
+    let k = known in (k.width, k.height)
 
 pub overflow_add-result : goal.overflow_add-result
 overflow_add-result c =
-    let k = (let it : Limits c.args.header = limits c.args.input.now c.args.at c.args.header c.requires.input_len_bound.0 c.requires.input_len_bound.1 c.requires.header_value.0 in it) in let e = k.ends in let r = c.row_bytes.ensures.1 in omega arith
+    let known : Limits c.args.header = limits c.args.input.now c.args.at c.args.header c.requires.input_len_bound.0 c.requires.input_len_bound.1 c.requires.header_value.0 in
+    let k = known in let e = k.ends in let r = c.row_bytes.ensures.1 in omega arith
 
 pub returns : goal.returns
 returns c =

@@ -12,20 +12,24 @@ loop-value-init c =
 
 pub digit_value-requires : goal.digit_value-requires
 digit_value-requires c =
-    (let it : has_digit c.args.input.now c.loop-value.end ≡ true = sym c.digit_at.ensures ∙ c.loop-value-test.true in it)
+    let digit : has_digit c.args.input.now c.loop-value.end ≡ true = sym c.digit_at.ensures ∙ c.loop-value-test.true in
+    digit
 
 pub overflow_add-end : goal.overflow_add-end
 overflow_add-end c =
-    omega (arith, digit_inside _ _ ((let it : has_digit c.args.input.now c.loop-value.end ≡ true = sym c.digit_at.ensures ∙ c.loop-value-test.true in it)))
+    let digit : has_digit c.args.input.now c.loop-value.end ≡ true = sym c.digit_at.ensures ∙ c.loop-value-test.true in
+    omega (arith, digit_inside _ _ digit)
 
 pub loop-value-smaller : goal.loop-value-smaller
 loop-value-smaller c =
-    omega (arith, digit_inside _ _ ((let it : has_digit c.args.input.now c.loop-value.end ≡ true = sym c.digit_at.ensures ∙ c.loop-value-test.true in it)))
+    let digit : has_digit c.args.input.now c.loop-value.end ≡ true = sym c.digit_at.ensures ∙ c.loop-value-test.true in
+    omega (arith, digit_inside _ _ digit)
 
 pub loop-value-preserved : goal.loop-value-preserved
 loop-value-preserved c =
+    let digit : has_digit c.args.input.now c.loop-value.end ≡ true = sym c.digit_at.ensures ∙ c.loop-value-test.true in
     let d = c.digit_value.ensures in
-    counting_more c.loop-value.invariant ((let it : has_digit c.args.input.now c.loop-value.end ≡ true = sym c.digit_at.ensures ∙ c.loop-value-test.true in it)) _ _ d.0 c.least-value.ensures
+    counting_more c.loop-value.invariant digit _ _ d.0 c.least-value.ensures
 
 pub returns : goal.returns
 returns c =

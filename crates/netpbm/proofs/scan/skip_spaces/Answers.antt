@@ -13,19 +13,23 @@ loop-inside-init c =
 
 pub bounds-input-end : goal.bounds-input-end
 bounds-input-end c =
-    omega (arith, space_inside _ _ _ ((let it : space_held c.args.input.now c.loop-inside.inside c.loop-inside.end ≡ true = sym c.space_at.ensures ∙ c.loop-inside-test.true in it)))
+    let space : space_held c.args.input.now c.loop-inside.inside c.loop-inside.end ≡ true = sym c.space_at.ensures ∙ c.loop-inside-test.true in
+    omega (arith, space_inside _ _ _ space)
 
 pub overflow_add-end : goal.overflow_add-end
 overflow_add-end c =
-    omega (arith, space_inside _ _ _ ((let it : space_held c.args.input.now c.loop-inside.inside c.loop-inside.end ≡ true = sym c.space_at.ensures ∙ c.loop-inside-test.true in it)))
+    let space : space_held c.args.input.now c.loop-inside.inside c.loop-inside.end ≡ true = sym c.space_at.ensures ∙ c.loop-inside-test.true in
+    omega (arith, space_inside _ _ _ space)
 
 pub loop-inside-smaller : goal.loop-inside-smaller
 loop-inside-smaller c =
-    omega (arith, space_inside _ _ _ ((let it : space_held c.args.input.now c.loop-inside.inside c.loop-inside.end ≡ true = sym c.space_at.ensures ∙ c.loop-inside-test.true in it)))
+    let space : space_held c.args.input.now c.loop-inside.inside c.loop-inside.end ≡ true = sym c.space_at.ensures ∙ c.loop-inside-test.true in
+    omega (arith, space_inside _ _ _ space)
 
 pub loop-inside-preserved : goal.loop-inside-preserved
 loop-inside-preserved c =
-    let h = (let it : space_held c.args.input.now c.loop-inside.inside c.loop-inside.end ≡ true = sym c.space_at.ensures ∙ c.loop-inside-test.true in it) in
+    let space : space_held c.args.input.now c.loop-inside.inside c.loop-inside.end ≡ true = sym c.space_at.ensures ∙ c.loop-inside-test.true in
+    let h = space in
     rw c.in_comment-inside.ensures (omega (arith, c.loop-inside.invariant, spaces_more _ _ _ h))
 
 pub returns : goal.returns

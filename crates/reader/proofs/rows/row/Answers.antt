@@ -11,7 +11,7 @@ use Rattle.image.specs.declared.layout.Layout.{Layout}
 use Rattle.image.specs.Picture.{bad_planes, planes_of}
 use Rattle.image.proofs.Layouts.{neither}
 use Rattle.guided.specs.Scratch.{finished_at}
-use Rattle.guided.specs.Calls.{row_call, reader_layout, row_tests, row_scratch, row_out}
+use Rattle.guided.specs.Calls.{RowCall, row_call, reader_layout, row_tests, row_scratch, row_out}
 use Rattle.guided.proofs.Places.{front_fits}
 use Rattle.guided.proofs.FinishedRows.{length_row}
 use Rattle.guided.proofs.Acceptance.{fine, RowHanded, row_handed}
@@ -20,8 +20,9 @@ use Rattle.reader.proofs.rows.row.Goals as goal
 
 pub returns-then-refused : goal.returns-then-refused
 returns-then-refused c =
-    let asked : Asked (row_tests ((let a = c.args in
-    row_call a.row (planes_of a.y.now a.cb.now a.cr.now a.strides) a.reader a.s.now a.out_cb.now a.out_cr.now))) c.row_answer-answer.result c.refused.result = record { answers = c.row_answer-answer.ensures; tells = c.refused.ensures } in
+    let call : RowCall = let a = c.args in
+    row_call a.row (planes_of a.y.now a.cb.now a.cr.now a.strides) a.reader a.s.now a.out_cb.now a.out_cr.now in
+    let asked : Asked (row_tests call) c.row_answer-answer.result c.refused.result = record { answers = c.row_answer-answer.ensures; tells = c.refused.ensures } in
     let a = asked in
     let e = c.if-refused.true in
     record { answers = a.answers; leaves = kept a e _ _; scratches = kept a e _ _; cbs = kept a e _ _; crs = kept a e _ _ }
@@ -29,12 +30,11 @@ returns-then-refused c =
 pub row_steps-requires : goal.row_steps-requires
 unfolding bad_planes
 row_steps-requires c =
-    let asked : Asked (row_tests ((let a = c.args in
-    row_call a.row (planes_of a.y.now a.cb.now a.cr.now a.strides) a.reader a.s.now a.out_cb.now a.out_cr.now))) c.row_answer-answer.result c.refused.result = record { answers = c.row_answer-answer.ensures; tells = c.refused.ensures } in
-    let handed : RowHanded ((let a = c.args in
-    row_call a.row (planes_of a.y.now a.cb.now a.cr.now a.strides) a.reader a.s.now a.out_cb.now a.out_cr.now)) = row_handed _ (accepted_failed _ (passed (asked) c.if-refused.false)) in
-    let lent : (let k = (let a = c.args in
-    row_call a.row (planes_of a.y.now a.cb.now a.cr.now a.strides) a.reader a.s.now a.out_cb.now a.out_cr.now) in Lent (reader_layout k.reader) k.planes Both) = let h = handed in
+    let call : RowCall = let a = c.args in
+    row_call a.row (planes_of a.y.now a.cb.now a.cr.now a.strides) a.reader a.s.now a.out_cb.now a.out_cr.now in
+    let asked : Asked (row_tests call) c.row_answer-answer.result c.refused.result = record { answers = c.row_answer-answer.ensures; tells = c.refused.ensures } in
+    let handed : RowHanded call = row_handed _ (accepted_failed _ (passed asked c.if-refused.false)) in
+    let lent : (let k = call in Lent (reader_layout k.reader) k.planes Both) = let h = handed in
     let n = neither _ _ h.planes in
     let m = neither _ _ n.1 in
     record { sound = (fine _ h.state).sound; luma = n.0; cb = m.0; cr = λ _. m.1 } in
@@ -44,18 +44,15 @@ row_steps-requires c =
 pub copy_rows-requires : goal.copy_rows-requires
 unfolding row_scratch
 copy_rows-requires c =
-    let asked : Asked (row_tests ((let a = c.args in
-    row_call a.row (planes_of a.y.now a.cb.now a.cr.now a.strides) a.reader a.s.now a.out_cb.now a.out_cr.now))) c.row_answer-answer.result c.refused.result = record { answers = c.row_answer-answer.ensures; tells = c.refused.ensures } in
-    let handed : RowHanded ((let a = c.args in
-    row_call a.row (planes_of a.y.now a.cb.now a.cr.now a.strides) a.reader a.s.now a.out_cb.now a.out_cr.now)) = row_handed _ (accepted_failed _ (passed (asked) c.if-refused.false)) in
-    let made_by : c.row_steps.new.s ≡ row_scratch ((let a = c.args in
-    row_call a.row (planes_of a.y.now a.cb.now a.cr.now a.strides) a.reader a.s.now a.out_cb.now a.out_cr.now)) = rw (sym c.reader_layout-layout.ensures) c.row_steps.ensures in
-    let made-room : 3 * (reader_layout ((let a = c.args in
-    row_call a.row (planes_of a.y.now a.cb.now a.cr.now a.strides) a.reader a.s.now a.out_cb.now a.out_cr.now)).reader).w ≤ length c.row_steps.new.s = let k = (let a = c.args in
-    row_call a.row (planes_of a.y.now a.cb.now a.cr.now a.strides) a.reader a.s.now a.out_cb.now a.out_cr.now) in
+    let call : RowCall = let a = c.args in
+    row_call a.row (planes_of a.y.now a.cb.now a.cr.now a.strides) a.reader a.s.now a.out_cb.now a.out_cr.now in
+    let asked : Asked (row_tests call) c.row_answer-answer.result c.refused.result = record { answers = c.row_answer-answer.ensures; tells = c.refused.ensures } in
+    let handed : RowHanded call = row_handed _ (accepted_failed _ (passed asked c.if-refused.false)) in
+    let made_by : c.row_steps.new.s ≡ row_scratch call = rw (sym c.reader_layout-layout.ensures) c.row_steps.ensures in
+    let made-room : 3 * (reader_layout call.reader).w ≤ length c.row_steps.new.s = let k = call in
     let h = handed in
     let f = front_fits (reader_layout k.reader) in
-    let e = ap length (made_by) ∙ length_row _ _ _ _ _ _ _ in
+    let e = ap length made_by ∙ length_row _ _ _ _ _ _ _ in
     omega (arith, h.room) in
     let h = handed in
     let e = ap (λ (l : Layout). l.w) c.reader_layout-layout.ensures in
@@ -65,27 +62,27 @@ copy_rows-requires c =
 pub after_row-requires : goal.after_row-requires
 unfolding reader_layout
 after_row-requires c =
-    let asked : Asked (row_tests ((let a = c.args in
-    row_call a.row (planes_of a.y.now a.cb.now a.cr.now a.strides) a.reader a.s.now a.out_cb.now a.out_cr.now))) c.row_answer-answer.result c.refused.result = record { answers = c.row_answer-answer.ensures; tells = c.refused.ensures } in
-    let handed : RowHanded ((let a = c.args in
-    row_call a.row (planes_of a.y.now a.cb.now a.cr.now a.strides) a.reader a.s.now a.out_cb.now a.out_cr.now)) = row_handed _ (accepted_failed _ (passed (asked) c.if-refused.false)) in
+    let call : RowCall = let a = c.args in
+    row_call a.row (planes_of a.y.now a.cb.now a.cr.now a.strides) a.reader a.s.now a.out_cb.now a.out_cr.now in
+    let asked : Asked (row_tests call) c.row_answer-answer.result c.refused.result = record { answers = c.row_answer-answer.ensures; tells = c.refused.ensures } in
+    let handed : RowHanded call = row_handed _ (accepted_failed _ (passed asked c.if-refused.false)) in
     let h = handed in
     record { sound = (fine _ h.state).sound; y_lt_h = h.inside }
 
 pub returns : goal.returns
 unfolding row_out finished_at reader_layout row_scratch
 returns c =
-    let asked : Asked (row_tests ((let a = c.args in
-    row_call a.row (planes_of a.y.now a.cb.now a.cr.now a.strides) a.reader a.s.now a.out_cb.now a.out_cr.now))) c.row_answer-answer.result c.refused.result = record { answers = c.row_answer-answer.ensures; tells = c.refused.ensures } in
-    let made_by : c.row_steps.new.s ≡ row_scratch ((let a = c.args in
-    row_call a.row (planes_of a.y.now a.cb.now a.cr.now a.strides) a.reader a.s.now a.out_cb.now a.out_cr.now)) = rw (sym c.reader_layout-layout.ensures) c.row_steps.ensures in
+    let call : RowCall = let a = c.args in
+    row_call a.row (planes_of a.y.now a.cb.now a.cr.now a.strides) a.reader a.s.now a.out_cb.now a.out_cr.now in
+    let asked : Asked (row_tests call) c.row_answer-answer.result c.refused.result = record { answers = c.row_answer-answer.ensures; tells = c.refused.ensures } in
+    let made_by : c.row_steps.new.s ≡ row_scratch call = rw (sym c.reader_layout-layout.ensures) c.row_steps.ensures in
     let e = ap (λ (l : Layout). l.w) c.reader_layout-layout.ensures in
     let a = asked in
     let t = c.if-refused.false in
     record {
       answers = a.answers;
       leaves = made a t _ c.after_row.ensures;
-      scratches = made a t _ (made_by);
+      scratches = made a t _ made_by;
       cbs = made a t _ (c.copy_rows.ensures.0 ∙ rw (e, made_by) refl);
       crs = made a t _ (c.copy_rows.ensures.1 ∙ rw (e, made_by) refl);
     }

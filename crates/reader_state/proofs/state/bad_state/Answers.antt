@@ -21,23 +21,30 @@ returns-then-refused c =
 pub bad_phases-requires : goal.bad_phases-requires
 unfolding reader_layout
 bad_phases-requires c =
-    let o = (let it : Sound (reader_layout c.args.reader) = sound_answer false (reader_layout c.args.reader) ((let it : accepted (first (layout_tests false (reader_layout c.args.reader))) ≡ true = let e = c.reader_layout.ensures in rw (sym e, sym c.answer.ensures) (not-false (accepted c.answer.result) (sym c.refused.ensures ∙ c.if-refused.false)) in it)) in it) in o.rh_most
+    let passed : accepted (first (layout_tests false (reader_layout c.args.reader))) ≡ true = let e = c.reader_layout.ensures in rw (sym e, sym c.answer.ensures) (not-false (accepted c.answer.result) (sym c.refused.ensures ∙ c.if-refused.false)) in
+    let sound : Sound (reader_layout c.args.reader) = sound_answer false (reader_layout c.args.reader) passed in
+    let o = sound in o.rh_most
 
 pub returns-then-bad_phases : goal.returns-then-bad_phases
 unfolding bad_state
 returns-then-bad_phases c =
-    rw ((let it : accepted (first (layout_tests false (reader_layout c.args.reader))) ≡ true = let e = c.reader_layout.ensures in rw (sym e, sym c.answer.ensures) (not-false (accepted c.answer.result) (sym c.refused.ensures ∙ c.if-refused.false)) in it), sym c.bad_phases.ensures, c.if-bad_phases.true) refl
+    let passed : accepted (first (layout_tests false (reader_layout c.args.reader))) ≡ true = let e = c.reader_layout.ensures in rw (sym e, sym c.answer.ensures) (not-false (accepted c.answer.result) (sym c.refused.ensures ∙ c.if-refused.false)) in
+    rw (passed, sym c.bad_phases.ensures, c.if-bad_phases.true) refl
 
 pub returns-then-g-reader : goal.returns-then-g-reader
 unfolding bad_state
 returns-then-g-reader c =
-    let a = c.args in rw ((let it : accepted (first (layout_tests false (reader_layout c.args.reader))) ≡ true = let e = c.reader_layout.ensures in rw (sym e, sym c.answer.ensures) (not-false (accepted c.answer.result) (sym c.refused.ensures ∙ c.if-refused.false)) in it), sym c.bad_phases.ensures, c.if-bad_phases.false, le-leb a.reader.geometry.h a.reader.place c.if-g-reader.true) refl
+    let passed : accepted (first (layout_tests false (reader_layout c.args.reader))) ≡ true = let e = c.reader_layout.ensures in rw (sym e, sym c.answer.ensures) (not-false (accepted c.answer.result) (sym c.refused.ensures ∙ c.if-refused.false)) in
+    let a = c.args in rw (passed, sym c.bad_phases.ensures, c.if-bad_phases.false, le-leb a.reader.geometry.h a.reader.place c.if-g-reader.true) refl
 
 pub bad_counters-requires : goal.bad_counters-requires
 bad_counters-requires c =
-    record { sound = (let it : Sound (reader_layout c.args.reader) = sound_answer false (reader_layout c.args.reader) ((let it : accepted (first (layout_tests false (reader_layout c.args.reader))) ≡ true = let e = c.reader_layout.ensures in rw (sym e, sym c.answer.ensures) (not-false (accepted c.answer.result) (sym c.refused.ensures ∙ c.if-refused.false)) in it)) in it); place_lt_h = omega arith }
+    let passed : accepted (first (layout_tests false (reader_layout c.args.reader))) ≡ true = let e = c.reader_layout.ensures in rw (sym e, sym c.answer.ensures) (not-false (accepted c.answer.result) (sym c.refused.ensures ∙ c.if-refused.false)) in
+    let sound : Sound (reader_layout c.args.reader) = sound_answer false (reader_layout c.args.reader) passed in
+    record { sound = sound; place_lt_h = omega arith }
 
 pub returns : goal.returns
 unfolding bad_state
 returns c =
-    let a = c.args in rw ((let it : accepted (first (layout_tests false (reader_layout c.args.reader))) ≡ true = let e = c.reader_layout.ensures in rw (sym e, sym c.answer.ensures) (not-false (accepted c.answer.result) (sym c.refused.ensures ∙ c.if-refused.false)) in it), sym c.bad_phases.ensures, c.if-bad_phases.false, lt-leb a.reader.geometry.h a.reader.place c.if-g-reader.false) c.bad_counters.ensures
+    let passed : accepted (first (layout_tests false (reader_layout c.args.reader))) ≡ true = let e = c.reader_layout.ensures in rw (sym e, sym c.answer.ensures) (not-false (accepted c.answer.result) (sym c.refused.ensures ∙ c.if-refused.false)) in
+    let a = c.args in rw (passed, sym c.bad_phases.ensures, c.if-bad_phases.false, lt-leb a.reader.geometry.h a.reader.place c.if-g-reader.false) c.bad_counters.ensures

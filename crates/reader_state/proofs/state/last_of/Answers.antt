@@ -9,10 +9,11 @@ use Rattle.reader_state.proofs.state.last_of.Goals as goal
 pub returns-then-t-own : goal.returns-then-t-own
 unfolding last_of
 returns-then-t-own c =
+    let own : c.args.y / c.args.layout.rv < c.args.layout.ch = let l = c.args.layout in let o = c.requires.sound in rw o.ch_is (cell_inside l.h l.rv c.args.y o.rv_some c.requires.y_lt_h) in
     let a = c.args in
     let t = c.plain_tap-t in
     let e = ap (λ (u : Tap). u.i1) t.ensures.is in
-    (rw (sym e) (omega arith), (let it : c.args.y / c.args.layout.rv < c.args.layout.ch = let l = c.args.layout in let o = c.requires.sound in rw o.ch_is (cell_inside l.h l.rv c.args.y o.rv_some c.requires.y_lt_h) in it))
+    (rw (sym e) (omega arith), own)
 
 pub returns-else-t-own : goal.returns-else-t-own
 unfolding last_of

@@ -14,17 +14,22 @@ use Rattle.upsample.proofs.plane.triangular_row.Goals as goal
 
 pub overflow_mul-at : goal.overflow_mul-at
 overflow_mul-at c =
-    omega (arith, output_row ((let it : Taken c.args.layout c.args.stride (length c.args.plane.now) (length c.args.out.now) = taken c.args.layout (plane_of c.args.plane.now c.args.stride) (length c.args.out.now) c.requires.out_value in it)) c.args.y c.requires.y_lt_h)
+    let handed : Taken c.args.layout c.args.stride (length c.args.plane.now) (length c.args.out.now) = taken c.args.layout (plane_of c.args.plane.now c.args.stride) (length c.args.out.now) c.requires.out_value in
+    omega (arith, output_row handed c.args.y c.requires.y_lt_h)
 
 pub overflow_mul-row : goal.overflow_mul-row
 overflow_mul-row c =
-    omega (arith, ((let it : RowInside c.args.layout.sample_bytes c.args.layout.cw (c.args.y * c.args.stride) (length c.args.plane.now) = cell_row ((let it : Taken c.args.layout c.args.stride (length c.args.plane.now) (length c.args.out.now) = taken c.args.layout (plane_of c.args.plane.now c.args.stride) (length c.args.out.now) c.requires.out_value in it)) c.args.y (near_one ((let it : Taken c.args.layout c.args.stride (length c.args.plane.now) (length c.args.out.now) = taken c.args.layout (plane_of c.args.plane.now c.args.stride) (length c.args.out.now) c.requires.out_value in it)) c.if-layout-eq1.true c.args.y c.requires.y_lt_h) in it)).ends)
+    let handed : Taken c.args.layout c.args.stride (length c.args.plane.now) (length c.args.out.now) = taken c.args.layout (plane_of c.args.plane.now c.args.stride) (length c.args.out.now) c.requires.out_value in
+    let across-cells : RowInside c.args.layout.sample_bytes c.args.layout.cw (c.args.y * c.args.stride) (length c.args.plane.now) = cell_row handed c.args.y (near_one handed c.if-layout-eq1.true c.args.y c.requires.y_lt_h) in
+    omega (arith, across-cells.ends)
 
 pub across_row-requires : goal.across_row-requires
 across_row-requires c =
-    let k = across_kind c.args.layout ((let it : Taken c.args.layout c.args.stride (length c.args.plane.now) (length c.args.out.now) = taken c.args.layout (plane_of c.args.plane.now c.args.stride) (length c.args.out.now) c.requires.out_value in it)).kind c.if-layout-eq1.true in
-    let row = (let it : RowInside c.args.layout.sample_bytes c.args.layout.cw (c.args.y * c.args.stride) (length c.args.plane.now) = cell_row ((let it : Taken c.args.layout c.args.stride (length c.args.plane.now) (length c.args.out.now) = taken c.args.layout (plane_of c.args.plane.now c.args.stride) (length c.args.out.now) c.requires.out_value in it)) c.args.y (near_one ((let it : Taken c.args.layout c.args.stride (length c.args.plane.now) (length c.args.out.now) = taken c.args.layout (plane_of c.args.plane.now c.args.stride) (length c.args.out.now) c.requires.out_value in it)) c.if-layout-eq1.true c.args.y c.requires.y_lt_h) in it) in
-    record { row_inside = row; row_inside_2 = row; doubled = (doubled c.args.layout ((let it : Taken c.args.layout c.args.stride (length c.args.plane.now) (length c.args.out.now) = taken c.args.layout (plane_of c.args.plane.now c.args.stride) (length c.args.out.now) c.requires.out_value in it)).size k.0 k.1, record { left = lit≤ tt; right = lit≤ tt }); w_in_bounds = output_row ((let it : Taken c.args.layout c.args.stride (length c.args.plane.now) (length c.args.out.now) = taken c.args.layout (plane_of c.args.plane.now c.args.stride) (length c.args.out.now) c.requires.out_value in it)) c.args.y c.requires.y_lt_h }
+    let handed : Taken c.args.layout c.args.stride (length c.args.plane.now) (length c.args.out.now) = taken c.args.layout (plane_of c.args.plane.now c.args.stride) (length c.args.out.now) c.requires.out_value in
+    let across-cells : RowInside c.args.layout.sample_bytes c.args.layout.cw (c.args.y * c.args.stride) (length c.args.plane.now) = cell_row handed c.args.y (near_one handed c.if-layout-eq1.true c.args.y c.requires.y_lt_h) in
+    let k = across_kind c.args.layout handed.kind c.if-layout-eq1.true in
+    let row = across-cells in
+    record { row_inside = row; row_inside_2 = row; doubled = (doubled c.args.layout handed.size k.0 k.1, record { left = lit≤ tt; right = lit≤ tt }); w_in_bounds = output_row handed c.args.y c.requires.y_lt_h }
 
 pub returns-then-layout-eq1 : goal.returns-then-layout-eq1
 returns-then-layout-eq1 c =
@@ -32,22 +37,29 @@ returns-then-layout-eq1 c =
 
 pub overflow_mul-near : goal.overflow_mul-near
 overflow_mul-near c =
-    omega (arith, (cell_row ((let it : Taken c.args.layout c.args.stride (length c.args.plane.now) (length c.args.out.now) = taken c.args.layout (plane_of c.args.plane.now c.args.stride) (length c.args.out.now) c.requires.out_value in it)) (c.args.y / 2) ((let it : c.args.y / 2 < c.args.layout.ch = near_two ((let it : Taken c.args.layout c.args.stride (length c.args.plane.now) (length c.args.out.now) = taken c.args.layout (plane_of c.args.plane.now c.args.stride) (length c.args.out.now) c.requires.out_value in it)) (two_down c.args.layout ((let it : Taken c.args.layout c.args.stride (length c.args.plane.now) (length c.args.out.now) = taken c.args.layout (plane_of c.args.plane.now c.args.stride) (length c.args.out.now) c.requires.out_value in it)).kind c.if-layout-eq1.false) c.args.y c.requires.y_lt_h in it))).ends)
+    let handed : Taken c.args.layout c.args.stride (length c.args.plane.now) (length c.args.out.now) = taken c.args.layout (plane_of c.args.plane.now c.args.stride) (length c.args.out.now) c.requires.out_value in
+    let near-inside : c.args.y / 2 < c.args.layout.ch = near_two handed (two_down c.args.layout handed.kind c.if-layout-eq1.false) c.args.y c.requires.y_lt_h in
+    omega (arith, (cell_row handed (c.args.y / 2) near-inside).ends)
 
 pub far-requires : goal.far-requires
 far-requires c =
-    (let it : c.args.y / 2 < c.args.layout.ch = near_two ((let it : Taken c.args.layout c.args.stride (length c.args.plane.now) (length c.args.out.now) = taken c.args.layout (plane_of c.args.plane.now c.args.stride) (length c.args.out.now) c.requires.out_value in it)) (two_down c.args.layout ((let it : Taken c.args.layout c.args.stride (length c.args.plane.now) (length c.args.out.now) = taken c.args.layout (plane_of c.args.plane.now c.args.stride) (length c.args.out.now) c.requires.out_value in it)).kind c.if-layout-eq1.false) c.args.y c.requires.y_lt_h in it)
+    let handed : Taken c.args.layout c.args.stride (length c.args.plane.now) (length c.args.out.now) = taken c.args.layout (plane_of c.args.plane.now c.args.stride) (length c.args.out.now) c.requires.out_value in
+    let near-inside : c.args.y / 2 < c.args.layout.ch = near_two handed (two_down c.args.layout handed.kind c.if-layout-eq1.false) c.args.y c.requires.y_lt_h in
+    near-inside
 
 pub overflow_mul-far : goal.overflow_mul-far
 overflow_mul-far c =
-    omega (arith, (cell_row ((let it : Taken c.args.layout c.args.stride (length c.args.plane.now) (length c.args.out.now) = taken c.args.layout (plane_of c.args.plane.now c.args.stride) (length c.args.out.now) c.requires.out_value in it)) c.far.result c.far.ensures.1).ends)
+    let handed : Taken c.args.layout c.args.stride (length c.args.plane.now) (length c.args.out.now) = taken c.args.layout (plane_of c.args.plane.now c.args.stride) (length c.args.out.now) c.requires.out_value in
+    omega (arith, (cell_row handed c.far.result c.far.ensures.1).ends)
 
 pub down_row-requires : goal.down_row-requires
 down_row-requires c =
+    let handed : Taken c.args.layout c.args.stride (length c.args.plane.now) (length c.args.out.now) = taken c.args.layout (plane_of c.args.plane.now c.args.stride) (length c.args.out.now) c.requires.out_value in
+    let near-inside : c.args.y / 2 < c.args.layout.ch = near_two handed (two_down c.args.layout handed.kind c.if-layout-eq1.false) c.args.y c.requires.y_lt_h in
     let e = c.if-layout-eq1-2.true in
-    let near = cell_row_all ((let it : Taken c.args.layout c.args.stride (length c.args.plane.now) (length c.args.out.now) = taken c.args.layout (plane_of c.args.plane.now c.args.stride) (length c.args.out.now) c.requires.out_value in it)) e (c.args.y / 2) ((let it : c.args.y / 2 < c.args.layout.ch = near_two ((let it : Taken c.args.layout c.args.stride (length c.args.plane.now) (length c.args.out.now) = taken c.args.layout (plane_of c.args.plane.now c.args.stride) (length c.args.out.now) c.requires.out_value in it)) (two_down c.args.layout ((let it : Taken c.args.layout c.args.stride (length c.args.plane.now) (length c.args.out.now) = taken c.args.layout (plane_of c.args.plane.now c.args.stride) (length c.args.out.now) c.requires.out_value in it)).kind c.if-layout-eq1.false) c.args.y c.requires.y_lt_h in it)) in
-    let far = cell_row_all ((let it : Taken c.args.layout c.args.stride (length c.args.plane.now) (length c.args.out.now) = taken c.args.layout (plane_of c.args.plane.now c.args.stride) (length c.args.out.now) c.requires.out_value in it)) e c.far.result c.far.ensures.1 in
-    record { row_inside = near; row_inside_2 = far; bias_bound = c.one_axis_bias-bias.ensures.1; w_in_bounds = output_row ((let it : Taken c.args.layout c.args.stride (length c.args.plane.now) (length c.args.out.now) = taken c.args.layout (plane_of c.args.plane.now c.args.stride) (length c.args.out.now) c.requires.out_value in it)) c.args.y c.requires.y_lt_h }
+    let near = cell_row_all handed e (c.args.y / 2) near-inside in
+    let far = cell_row_all handed e c.far.result c.far.ensures.1 in
+    record { row_inside = near; row_inside_2 = far; bias_bound = c.one_axis_bias-bias.ensures.1; w_in_bounds = output_row handed c.args.y c.requires.y_lt_h }
 
 pub returns-then-layout-eq1-2 : goal.returns-then-layout-eq1-2
 returns-then-layout-eq1-2 c =
@@ -56,10 +68,12 @@ returns-then-layout-eq1-2 c =
 
 pub across_row-requires-2 : goal.across_row-requires-2
 across_row-requires-2 c =
-    let k = both_kind c.args.layout ((let it : Taken c.args.layout c.args.stride (length c.args.plane.now) (length c.args.out.now) = taken c.args.layout (plane_of c.args.plane.now c.args.stride) (length c.args.out.now) c.requires.out_value in it)).kind c.if-layout-eq1-2.false in
-    let near = cell_row ((let it : Taken c.args.layout c.args.stride (length c.args.plane.now) (length c.args.out.now) = taken c.args.layout (plane_of c.args.plane.now c.args.stride) (length c.args.out.now) c.requires.out_value in it)) (c.args.y / 2) ((let it : c.args.y / 2 < c.args.layout.ch = near_two ((let it : Taken c.args.layout c.args.stride (length c.args.plane.now) (length c.args.out.now) = taken c.args.layout (plane_of c.args.plane.now c.args.stride) (length c.args.out.now) c.requires.out_value in it)) (two_down c.args.layout ((let it : Taken c.args.layout c.args.stride (length c.args.plane.now) (length c.args.out.now) = taken c.args.layout (plane_of c.args.plane.now c.args.stride) (length c.args.out.now) c.requires.out_value in it)).kind c.if-layout-eq1.false) c.args.y c.requires.y_lt_h in it)) in
-    let far = cell_row ((let it : Taken c.args.layout c.args.stride (length c.args.plane.now) (length c.args.out.now) = taken c.args.layout (plane_of c.args.plane.now c.args.stride) (length c.args.out.now) c.requires.out_value in it)) c.far.result c.far.ensures.1 in
-    record { row_inside = near; row_inside_2 = far; doubled = (doubled c.args.layout ((let it : Taken c.args.layout c.args.stride (length c.args.plane.now) (length c.args.out.now) = taken c.args.layout (plane_of c.args.plane.now c.args.stride) (length c.args.out.now) c.requires.out_value in it)).size k.0 k.1, record { left = lit≤ tt; right = lit≤ tt }); w_in_bounds = output_row ((let it : Taken c.args.layout c.args.stride (length c.args.plane.now) (length c.args.out.now) = taken c.args.layout (plane_of c.args.plane.now c.args.stride) (length c.args.out.now) c.requires.out_value in it)) c.args.y c.requires.y_lt_h }
+    let handed : Taken c.args.layout c.args.stride (length c.args.plane.now) (length c.args.out.now) = taken c.args.layout (plane_of c.args.plane.now c.args.stride) (length c.args.out.now) c.requires.out_value in
+    let near-inside : c.args.y / 2 < c.args.layout.ch = near_two handed (two_down c.args.layout handed.kind c.if-layout-eq1.false) c.args.y c.requires.y_lt_h in
+    let k = both_kind c.args.layout handed.kind c.if-layout-eq1-2.false in
+    let near = cell_row handed (c.args.y / 2) near-inside in
+    let far = cell_row handed c.far.result c.far.ensures.1 in
+    record { row_inside = near; row_inside_2 = far; doubled = (doubled c.args.layout handed.size k.0 k.1, record { left = lit≤ tt; right = lit≤ tt }); w_in_bounds = output_row handed c.args.y c.requires.y_lt_h }
 
 pub returns : goal.returns
 returns c =

@@ -15,13 +15,16 @@ returns-then-bad_size c =
 pub returns-then-bad_ratio : goal.returns-then-bad_ratio
 unfolding tests_for
 returns-then-bad_ratio c =
-    sym (passed_over _ 2 _ ((let it : bad_size c.args.self ≡ false = sym c.bad_size.ensures ∙ c.if-bad_size.false in it)) ∙ refused_here _ 3 _ (sym c.bad_ratio.ensures ∙ c.if-bad_ratio.true))
+    let size_passed : bad_size c.args.self ≡ false = sym c.bad_size.ensures ∙ c.if-bad_size.false in
+    sym (passed_over _ 2 _ size_passed ∙ refused_here _ 3 _ (sym c.bad_ratio.ensures ∙ c.if-bad_ratio.true))
 
 pub bad_chroma-requires : goal.bad_chroma-requires
 bad_chroma-requires c =
+    let size_passed : bad_size c.args.self ≡ false = sym c.bad_size.ensures ∙ c.if-bad_size.false in
+    let ratio_passed : bad_ratio c.args.whole c.args.self ≡ false = sym c.bad_ratio.ensures ∙ c.if-bad_ratio.false in
     let a = c.args in
-    let s = P.size_passed a.self ((let it : bad_size c.args.self ≡ false = sym c.bad_size.ensures ∙ c.if-bad_size.false in it)) in
-    let r = P.ratio_passed a.whole a.self ((let it : bad_ratio c.args.whole c.args.self ≡ false = sym c.bad_ratio.ensures ∙ c.if-bad_ratio.false in it)) in
+    let s = P.size_passed a.self size_passed in
+    let r = P.ratio_passed a.whole a.self ratio_passed in
     let x = P.pair_most a.whole a.self.across a.self.rh r.0 in
     let y = P.pair_most a.whole a.self.down a.self.rv r.1 in
     (s.0.1, s.1.1, le_trans x r.0.r_most, le_trans y r.1.r_most)
@@ -29,4 +32,6 @@ bad_chroma-requires c =
 pub returns : goal.returns
 unfolding tests_for
 returns c =
-    sym (passed_over _ 2 _ ((let it : bad_size c.args.self ≡ false = sym c.bad_size.ensures ∙ c.if-bad_size.false in it)) ∙ passed_over _ 3 _ ((let it : bad_ratio c.args.whole c.args.self ≡ false = sym c.bad_ratio.ensures ∙ c.if-bad_ratio.false in it)) ∙ rw first_folded (cc))
+    let size_passed : bad_size c.args.self ≡ false = sym c.bad_size.ensures ∙ c.if-bad_size.false in
+    let ratio_passed : bad_ratio c.args.whole c.args.self ≡ false = sym c.bad_ratio.ensures ∙ c.if-bad_ratio.false in
+    sym (passed_over _ 2 _ size_passed ∙ passed_over _ 3 _ ratio_passed ∙ rw first_folded (cc))

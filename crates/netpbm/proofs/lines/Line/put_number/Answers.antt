@@ -13,7 +13,8 @@ use Rattle.netpbm.proofs.lines.Line.put_number.Goals as goal
 
 pub push_digit-requires : goal.push_digit-requires
 push_digit-requires c =
-    let l = (let it : length (digits_of c.args.n) ≡ 1 = ap length (one_digit c.args.n c.if-n-lt10.true) in it) in (omega arith, omega arith)
+    let has_1 : length (digits_of c.args.n) ≡ 1 = ap length (one_digit c.args.n c.if-n-lt10.true) in
+    let l = has_1 in (omega arith, omega arith)
 
 pub returns-then-n-lt10 : goal.returns-then-n-lt10
 unfolding written
@@ -22,11 +23,13 @@ returns-then-n-lt10 c =
 
 pub push_digit-requires-then-n-lt100 : goal.push_digit-requires-then-n-lt100
 push_digit-requires-then-n-lt100 c =
-    let l = (let it : length (digits_of c.args.n) ≡ 2 = ap length (two_digits c.args.n c.if-n-lt10.false c.if-n-lt100.true) in it) in (omega arith, omega arith)
+    let has-2 : length (digits_of c.args.n) ≡ 2 = ap length (two_digits c.args.n c.if-n-lt10.false c.if-n-lt100.true) in
+    let l = has-2 in (omega arith, omega arith)
 
 pub push_digit-requires-then-n-lt100-2 : goal.push_digit-requires-then-n-lt100-2
 push_digit-requires-then-n-lt100-2 c =
-    let l = (let it : length (digits_of c.args.n) ≡ 2 = ap length (two_digits c.args.n c.if-n-lt10.false c.if-n-lt100.true) in it) in (omega arith, omega arith)
+    let has-2 : length (digits_of c.args.n) ≡ 2 = ap length (two_digits c.args.n c.if-n-lt10.false c.if-n-lt100.true) in
+    let l = has-2 in (omega arith, omega arith)
 
 pub returns-then-n-lt100 : goal.returns-then-n-lt100
 unfolding written
@@ -35,15 +38,18 @@ returns-then-n-lt100 c =
 
 pub push_digit-requires-then-n-lt1000 : goal.push_digit-requires-then-n-lt1000
 push_digit-requires-then-n-lt1000 c =
-    let l = (let it : length (digits_of c.args.n) ≡ 3 = ap length (three_digits c.args.n c.if-n-lt100.false c.if-n-lt1000.true) in it) in (omega arith, omega arith)
+    let has-3 : length (digits_of c.args.n) ≡ 3 = ap length (three_digits c.args.n c.if-n-lt100.false c.if-n-lt1000.true) in
+    let l = has-3 in (omega arith, omega arith)
 
 pub push_digit-requires-then-n-lt1000-2 : goal.push_digit-requires-then-n-lt1000-2
 push_digit-requires-then-n-lt1000-2 c =
-    let l = (let it : length (digits_of c.args.n) ≡ 3 = ap length (three_digits c.args.n c.if-n-lt100.false c.if-n-lt1000.true) in it) in (omega arith, omega arith)
+    let has-3 : length (digits_of c.args.n) ≡ 3 = ap length (three_digits c.args.n c.if-n-lt100.false c.if-n-lt1000.true) in
+    let l = has-3 in (omega arith, omega arith)
 
 pub push_digit-requires-then-n-lt1000-3 : goal.push_digit-requires-then-n-lt1000-3
 push_digit-requires-then-n-lt1000-3 c =
-    let l = (let it : length (digits_of c.args.n) ≡ 3 = ap length (three_digits c.args.n c.if-n-lt100.false c.if-n-lt1000.true) in it) in (omega arith, omega arith)
+    let has-3 : length (digits_of c.args.n) ≡ 3 = ap length (three_digits c.args.n c.if-n-lt100.false c.if-n-lt1000.true) in
+    let l = has-3 in (omega arith, omega arith)
 
 pub returns-then-n-lt1000 : goal.returns-then-n-lt1000
 unfolding written
@@ -52,19 +58,23 @@ returns-then-n-lt1000 c =
 
 pub push_digit-requires-2 : goal.push_digit-requires-2
 push_digit-requires-2 c =
-    let l = (let it : length (digits_of c.args.n) ≡ 4 = ap length (four_digits c.args.n c.if-n-lt1000.false c.requires.n_bound) in it) in (omega arith, omega arith)
+    let has-4 : length (digits_of c.args.n) ≡ 4 = ap length (four_digits c.args.n c.if-n-lt1000.false c.requires.n_bound) in
+    let l = has-4 in (omega arith, omega arith)
 
 pub push_digit-front-requires : goal.push_digit-front-requires
 push_digit-front-requires c =
-    let l = (let it : length (digits_of c.args.n) ≡ 4 = ap length (four_digits c.args.n c.if-n-lt1000.false c.requires.n_bound) in it) in (omega arith, omega arith)
+    let has-4 : length (digits_of c.args.n) ≡ 4 = ap length (four_digits c.args.n c.if-n-lt1000.false c.requires.n_bound) in
+    let l = has-4 in (omega arith, omega arith)
 
 pub push_digit-requires-3 : goal.push_digit-requires-3
 push_digit-requires-3 c =
-    let l = (let it : length (digits_of c.args.n) ≡ 4 = ap length (four_digits c.args.n c.if-n-lt1000.false c.requires.n_bound) in it) in (omega arith, omega arith)
+    let has-4 : length (digits_of c.args.n) ≡ 4 = ap length (four_digits c.args.n c.if-n-lt1000.false c.requires.n_bound) in
+    let l = has-4 in (omega arith, omega arith)
 
 pub push_digit-requires-4 : goal.push_digit-requires-4
 push_digit-requires-4 c =
-    let l = (let it : length (digits_of c.args.n) ≡ 4 = ap length (four_digits c.args.n c.if-n-lt1000.false c.requires.n_bound) in it) in (omega arith, omega arith)
+    let has-4 : length (digits_of c.args.n) ≡ 4 = ap length (four_digits c.args.n c.if-n-lt1000.false c.requires.n_bound) in
+    let l = has-4 in (omega arith, omega arith)
 
 pub returns : goal.returns
 unfolding written
