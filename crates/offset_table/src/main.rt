@@ -7,59 +7,39 @@
 ghost use Rattle.std.specs.Prelude.{◌<◌};
 
 use kernels::Raise;
-use libc::STDOUT_FILENO;
+use std::io;
+use std::io::Print;
 
-// Writes a blank and an entry with its sign, from the entry raised by a bias; says whether all of it was written.
-fn print_entry(raised: u32, bias: u32) -> bool {
+// Writes a blank and an entry with its sign, from the entry raised by a bias.
+fn print_entry(rt: &impl Print, raised: u32, bias: u32) -> io::Result<()> {
     if raised < bias {
-        if !io::write_all(STDOUT_FILENO, b" -") {
-            return false;
-        }
-        return io::print_decimal(STDOUT_FILENO, (bias - raised) as u64);
+        return print!(rt; " -{}", bias - raised);
     }
-    if !io::write_all(STDOUT_FILENO, b" ") {
-        return false;
-    }
-    io::print_decimal(STDOUT_FILENO, (raised - bias) as u64)
+    print!(rt; " {}", raised - bias)
 }
 
 // Writes green's two parts and the end of the line.
-fn print_green(c: usize) -> bool
+fn print_green(rt: &impl Print, c: usize) -> io::Result<()>
     requires { c < 256 }
 {
-    if !print_entry(kernels::green_cb_raised(c), Raise::GREEN_CB as u32) {
-        return false;
-    }
-    if !print_entry(kernels::green_cr_raised(c), Raise::GREEN_CR as u32) {
-        return false;
-    }
-    io::write_all(STDOUT_FILENO, b"\n")
+    print_entry(rt, kernels::green_cb_raised(c), Raise::GREEN_CB as u32)?;
+    print_entry(rt, kernels::green_cr_raised(c), Raise::GREEN_CR as u32)?;
+    println!(rt)
 }
 
 // Writes the line of chroma c.
-fn print_line(c: usize) -> bool
+fn print_line(rt: &impl Print, c: usize) -> io::Result<()>
     requires { c < 256 }
 {
-    if !io::print_decimal(STDOUT_FILENO, c as u64) {
-        return false;
-    }
-    if !print_entry(kernels::red_raised(c), Raise::RED as u32) {
-        return false;
-    }
-    if !print_entry(kernels::blue_raised(c), Raise::BLUE as u32) {
-        return false;
-    }
-    print_green(c)
+    print!(rt; "{c}")?;
+    print_entry(rt, kernels::red_raised(c), Raise::RED as u32)?;
+    print_entry(rt, kernels::blue_raised(c), Raise::BLUE as u32)?;
+    print_green(rt, c)
 }
 
-fn main() {
-    let mut written = true;
+fn main(rt: HostRuntime) -> io::Result<()> {
     for c in 0..256usize {
-        if written {
-            written = print_line(c);
-        }
+        print_line(&rt, c)?;
     }
-    if !written {
-        os::fail(b"standard output");
-    }
+    Ok(())
 }

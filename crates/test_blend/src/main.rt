@@ -13,7 +13,8 @@ ghost use Rattle.std.specs.Prelude.{◌≤◌};
 use colorimetry::{Between, BlendReply, ChartReading, Nearest};
 use guided::{Geometry, Reader, Reply};
 use image::{Range, Rectangle};
-use libc::STDIN_FILENO;
+use std::io;
+use std::io::{Print, Read};
 use taps::Phase;
 
 // Both readers.
@@ -250,12 +251,13 @@ fn keep(rows: &mut [u8], at: usize, out: &[u8]) {
 
 // Makes a line's call on one reader into an output that no call has written, writes its line and gives the reader for the next one.
 fn lone_into(
+    rt: &impl Print,
     text: &[u8],
     reader: Reader,
     s: &mut [f32],
     rows: &mut [u8],
     out: &mut [u8],
-) -> Reader {
+) -> io::Result<Reader> {
     let change = test_support::word(text, 24);
     let need = test_support::scratch_part(text, 0);
     let before = test_support::scratch_sums(s, need);
@@ -266,23 +268,30 @@ fn lone_into(
     let left = reply.reader;
     let sum = sum_reader(test_support::sum_bytes(0, out), left);
     test_support::write_line(
+        rt,
         number,
         test_support::added(sum, test_support::scratch_fault(before, after, number)),
-    );
+    )?;
     if change != 0 {
-        return reader;
+        return Ok(reader);
     }
     if number == 0 {
         keep(rows, test_support::word(text, 26), out);
     }
-    left
+    Ok(left)
 }
 
 // The same, into as much of an output as the line says.
-fn lone(text: &[u8], reader: Reader, s: &mut [f32], rows: &mut [u8]) -> Reader {
+fn lone(
+    rt: &impl Print,
+    text: &[u8],
+    reader: Reader,
+    s: &mut [f32],
+    rows: &mut [u8],
+) -> io::Result<Reader> {
     let mut out = unwritten();
     let room = test_support::word(text, 21);
-    lone_into(text, reader, s, rows, &mut out[..room])
+    lone_into(rt, text, reader, s, rows, &mut out[..room])
 }
 
 // What a blend left, as one sum: of the output, of both readers and of whether it changed scratch that it may not touch.
@@ -294,6 +303,7 @@ fn sum_blend(out: &[u8], early: Reader, late: Reader, early_fault: u32, late_fau
 
 // Makes a line's blend into an output that no call has written, writes its line and gives the readers for the next one.
 fn mixed_into(
+    rt: &impl Print,
     text: &[u8],
     early: &[u8],
     pair: Pair,
@@ -301,7 +311,7 @@ fn mixed_into(
     t: &mut [f32],
     rows: &mut [u8],
     out: &mut [u8],
-) -> Pair {
+) -> io::Result<Pair> {
     let need = test_support::scratch_part(text, 0);
     let early_need = test_support::scratch_part(early, 0);
     let s_before = test_support::scratch_sums(s, early_need);
@@ -316,31 +326,33 @@ fn mixed_into(
     let early_fault = test_support::scratch_fault(s_before, s_after, number);
     let late_fault = test_support::scratch_fault(t_before, t_after, number);
     test_support::write_line(
+        rt,
         number,
         sum_blend(out, first, second, early_fault, late_fault),
-    );
+    )?;
     if number != 0 {
-        return pair;
+        return Ok(pair);
     }
     keep(rows, test_support::word(text, 26), out);
-    Pair {
+    Ok(Pair {
         early: first,
         late: second,
-    }
+    })
 }
 
 // The same, into as much of an output as the line says.
 fn mixed(
+    rt: &impl Print,
     text: &[u8],
     early: &[u8],
     pair: Pair,
     s: &mut [f32],
     t: &mut [f32],
     rows: &mut [u8],
-) -> Pair {
+) -> io::Result<Pair> {
     let mut out = unwritten();
     let room = test_support::word(text, 21);
-    mixed_into(text, early, pair, s, t, rows, &mut out[..room])
+    mixed_into(rt, text, early, pair, s, t, rows, &mut out[..room])
 }
 
 // The reading of the rows given so far, as a picture of a line's sides, on the chart that its second plane is.
@@ -383,7 +395,7 @@ fn weight_number(between: Between) -> usize {
 }
 
 // Makes a line's reading and writes its line: the sum is of the indices, the weight, the whole-number means and the number of pixels.
-fn read(text: &[u8], rows: &[u8]) {
+fn read(rt: &impl Print, text: &[u8], rows: &[u8]) -> io::Result<()> {
     let r = reading(text, rows);
     let answer = r.answer;
     let nearest = r.nearest;
@@ -399,46 +411,56 @@ fn read(text: &[u8], rows: &[u8]) {
         r.pixels,
     ];
     test_support::write_line(
+        rt,
         test_support::number(answer),
         test_support::sum_numbers(0, &n),
-    );
+    )
 }
 
 // Makes a line's call on the late reader, or else on the early one.
-fn alone(text: &[u8], pair: Pair, s: &mut [f32], t: &mut [f32], rows: &mut [u8]) -> Pair {
+fn alone(
+    rt: &impl Print,
+    text: &[u8],
+    pair: Pair,
+    s: &mut [f32],
+    t: &mut [f32],
+    rows: &mut [u8],
+) -> io::Result<Pair> {
     let early = pair.early;
     let late = pair.late;
     match test_support::kind(text) {
-        b'p' | b't' | b'u' => Pair {
-            early,
-            late: lone(text, late, t, rows),
-        },
-        _ => Pair {
-            early: lone(text, early, s, rows),
-            late,
-        },
+        b'p' | b't' | b'u' => {
+            let late = lone(rt, text, late, t, rows)?;
+            Ok(Pair { early, late })
+        }
+        _ => {
+            let early = lone(rt, text, early, s, rows)?;
+            Ok(Pair { early, late })
+        }
     }
 }
 
 // Makes a line's call with as much of the fronts of both scratches as the lines say, and gives the readers for the next one.
 fn replay(
+    rt: &impl Print,
     text: &[u8; 142],
     early: &[u8; 142],
     pair: Pair,
     s: &mut [f32],
     t: &mut [f32],
     rows: &mut [u8],
-) -> Pair {
+) -> io::Result<Pair> {
     let space = test_support::long(text, 19);
     match test_support::kind(text) {
         b'c' => {
-            read(text, rows);
-            pair
+            read(rt, text, rows)?;
+            Ok(pair)
         }
         b'm' => {
             let early_space = laws::least(test_support::long(early, 19), s.len());
             let late_space = laws::least(space, t.len());
             mixed(
+                rt,
                 text,
                 early,
                 pair,
@@ -451,6 +473,7 @@ fn replay(
             let early_space = laws::least(space, s.len());
             let late_space = laws::least(space, t.len());
             alone(
+                rt,
                 text,
                 pair,
                 &mut s[..early_space],
@@ -463,7 +486,13 @@ fn replay(
 
 // Makes the calls of all lines, which have 142 bytes each, the newline too. The list ends where fewer are left. A line of kind e is no
 // call: it is kept as what speaks of the early picture.
-fn replay_all(s: &mut [f32], t: &mut [f32], rows: &mut [u8]) {
+fn replay_all<R: Read>(
+    rt: &impl Print,
+    input: &mut R,
+    s: &mut [f32],
+    t: &mut [f32],
+    rows: &mut [u8],
+) -> io::Result<()> {
     let mut early = [0u8; 142];
     let mut pair = Pair {
         early: nobody(),
@@ -471,15 +500,16 @@ fn replay_all(s: &mut [f32], t: &mut [f32], rows: &mut [u8]) {
     };
     for _ in 0..65_536usize {
         let mut text = [0u8; 142];
-        if io::read_full(STDIN_FILENO, &mut text) < 142 {
+        if test_support::read_full(input, &mut text)? < 142 {
             break;
         }
         if test_support::byte(&text, 0) == b'e' {
             early = text;
             continue;
         }
-        pair = replay(&text, &early, pair, s, t, rows);
+        pair = replay(rt, &text, &early, pair, s, t, rows)?;
     }
+    Ok(())
 }
 
 // Scratch before the first call, not-a-number throughout, so that a value which is read before it was written shows.
@@ -492,9 +522,9 @@ fn no_rows() -> [u8; 4_096] {
     [0; 4_096]
 }
 
-fn main() {
+fn main(rt: HostRuntime) -> io::Result<()> {
     let mut s = scratch();
     let mut t = scratch();
     let mut rows = no_rows();
-    replay_all(&mut s, &mut t, &mut rows);
+    replay_all(&rt, &mut rt.stdin(), &mut s, &mut t, &mut rows)
 }

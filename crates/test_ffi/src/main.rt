@@ -14,7 +14,8 @@
 ghost use Rattle.std.specs.Prelude.{◌<◌};
 
 use ffi::{ChromaLayout, ChromaPhase, ChromaPixel, ChromaReader, ChromaReply, ChromaStrides};
-use libc::STDIN_FILENO;
+use std::io;
+use std::io::{Print, Read};
 
 // What a call answered, and the sum of its outputs.
 #[derive(Clone, Copy)]
@@ -332,63 +333,82 @@ fn called(text: &[u8], spelling: &[u8], given: ChromaReader, s: &mut [f32]) -> D
 }
 
 // Writes a call's line. The sum is of its outputs, of the state afterwards, and of whether it changed scratch that it may not touch.
-fn write_call(done: Done, fault: u32) {
+fn write_call(rt: &impl Print, done: Done, fault: u32) -> io::Result<()> {
     let n = numbers(done.reader);
     let sum = test_support::sum_numbers(done.left.sum, &n);
-    test_support::write_line(done.left.answer as usize, test_support::added(sum, fault));
+    test_support::write_line(
+        rt,
+        done.left.answer as usize,
+        test_support::added(sum, fault),
+    )
 }
 
 // Makes the call of a line with the state that it is handed, and writes its line.
-fn written(text: &[u8], spelling: &[u8], given: ChromaReader, s: &mut [f32]) -> Done {
+fn written(
+    rt: &impl Print,
+    text: &[u8],
+    spelling: &[u8],
+    given: ChromaReader,
+    s: &mut [f32],
+) -> io::Result<Done> {
     let need = test_support::scratch_part(text, 0);
     let before = test_support::scratch_sums(s, need);
     let done = called(text, spelling, given, s);
     let after = test_support::scratch_sums(s, need);
     write_call(
+        rt,
         done,
         test_support::scratch_fault(before, after, done.left.answer as usize),
-    );
-    done
+    )?;
+    Ok(done)
 }
 
 // Makes a line's call and gives the state for the next line: the one that the call gave, or, where a number was changed by an index below
 // 16, the one from before it.
-fn replayed(text: &[u8], spelling: &[u8], reader: ChromaReader, s: &mut [f32]) -> ChromaReader {
-    let done = written(text, spelling, handed(text, reader), s);
+fn replayed(
+    rt: &impl Print,
+    text: &[u8],
+    spelling: &[u8],
+    reader: ChromaReader,
+    s: &mut [f32],
+) -> io::Result<ChromaReader> {
+    let done = written(rt, text, spelling, handed(text, reader), s)?;
     let change = test_support::word(text, 21);
     if laws::both(0 < change, change < 16) {
-        return reader;
+        return Ok(reader);
     }
-    done.reader
+    Ok(done.reader)
 }
 
 // Makes a line's call with as much of the front of scratch as the line says, and gives the state for the next line.
 fn replay(
+    rt: &impl Print,
     text: &[u8; 142],
     spelling: &[u8; 142],
     reader: ChromaReader,
     s: &mut [f32],
-) -> ChromaReader {
+) -> io::Result<ChromaReader> {
     let space = laws::least(test_support::long(text, 19), s.len());
-    replayed(text, spelling, reader, &mut s[..space])
+    replayed(rt, text, spelling, reader, &mut s[..space])
 }
 
 // Makes the calls of all lines, which have 142 bytes each, the newline too. The list ends where fewer are left. The first state has 0
 // throughout, which no open gave.
-fn replay_all(s: &mut [f32]) {
+fn replay_all<R: Read>(rt: &impl Print, input: &mut R, s: &mut [f32]) -> io::Result<()> {
     let mut text = [0u8; 142];
     let mut spelling = [0u8; 142];
     let mut reader = reader_of([0; 16]);
     for _ in 0..65_536usize {
-        if io::read_full(STDIN_FILENO, &mut text) < 142 {
+        if test_support::read_full(input, &mut text)? < 142 {
             break;
         }
         if test_support::byte(&text, 0) == b'b' {
             spelling = text;
             continue;
         }
-        reader = replay(&text, &spelling, reader, s);
+        reader = replay(rt, &text, &spelling, reader, s)?;
     }
+    Ok(())
 }
 
 // Scratch before the first call, not-a-number throughout, so that a value which is read before it was written shows.
@@ -396,7 +416,7 @@ fn scratch() -> [f32; 200_000] {
     [0.0 / 0.0; 200_000]
 }
 
-fn main() {
+fn main(rt: HostRuntime) -> io::Result<()> {
     let mut s = scratch();
-    replay_all(&mut s);
+    replay_all(&rt, &mut rt.stdin(), &mut s)
 }

@@ -13,7 +13,8 @@ mod refills;
 
 use fill::ChromaUpsampling;
 use kernels::{Pixel, YcbcrKernel};
-use libc::STDIN_FILENO;
+use std::io;
+use std::io::Print;
 
 // Inner: scratch that holds one value throughout, so that the sum shows a call that writes where it may not.
 pub fn marked() -> [f32; 600_000] {
@@ -26,14 +27,12 @@ pub fn unwritten() -> [u8; 65_536] {
 }
 
 // Writes the line of a single pixel: its refusal, or its three bytes in place of a sum.
-fn write_pixel(pixel: Pixel) {
+fn write_pixel(rt: &impl Print, pixel: Pixel) -> io::Result<()> {
     match pixel {
         Pixel::Rgb(r, g, b) => {
-            test_support::write_line(0, r as u32 * 65_536 + g as u32 * 256 + b as u32);
+            test_support::write_line(rt, 0, r as u32 * 65_536 + g as u32 * 256 + b as u32)
         }
-        Pixel::Refused(n) => {
-            test_support::write_line(n as usize, 0);
-        }
+        Pixel::Refused(n) => test_support::write_line(rt, n as usize, 0),
     }
 }
 
@@ -45,23 +44,25 @@ fn number(text: &[u8], k: usize) -> u32
 }
 
 // Makes the call of a pixel by the exact kernel and writes its line.
-fn exact(text: &[u8]) {
-    write_pixel(reconstruction::ycbcr_frac_to_rgb8(
+fn exact(rt: &impl Print, text: &[u8]) -> io::Result<()> {
+    let pixel = reconstruction::ycbcr_frac_to_rgb8(
         number(text, 0),
         number(text, 2),
         number(text, 4),
         number(text, 6),
         test_support::range_of(test_support::word(text, 8) as u32),
-    ));
+    );
+    write_pixel(rt, pixel)
 }
 
 // Makes the call of a pixel by the fixed kernel, which has no maxval, and writes its line.
-fn fixed(text: &[u8]) {
-    write_pixel(reconstruction::ycbcr_to_rgb8_fixed16(
+fn fixed(rt: &impl Print, text: &[u8]) -> io::Result<()> {
+    let pixel = reconstruction::ycbcr_to_rgb8_fixed16(
         number(text, 0),
         number(text, 2),
         number(text, 4),
-    ));
+    );
+    write_pixel(rt, pixel)
 }
 
 // How a fill's chroma is reconstructed, which its line's kind says: `l` is linear, `g` guided.
@@ -81,7 +82,15 @@ pub fn kernel(text: &[u8]) -> YcbcrKernel {
 }
 
 // Makes the call of a fill and writes its line. The sum is of all of `out`, and of the scratch that the call may not touch.
-fn fill_lent(text: &[u8], y: &[u8], cb: &[u8], cr: &[u8], s: &mut [f32], out: &mut [u8]) {
+fn fill_lent(
+    rt: &impl Print,
+    text: &[u8],
+    y: &[u8],
+    cb: &[u8],
+    cr: &[u8],
+    s: &mut [f32],
+    out: &mut [u8],
+) -> io::Result<()> {
     let answer = test_support::number(reconstruction::fill(
         test_support::layout(text),
         y,
@@ -99,47 +108,53 @@ fn fill_lent(text: &[u8], y: &[u8], cb: &[u8], cr: &[u8], s: &mut [f32], out: &m
         s,
         test_support::scratch_part(text, answer),
     );
-    test_support::write_line(answer, sum);
+    test_support::write_line(rt, answer, sum)
 }
 
 // Makes the call of a fill with scratch and `out` that no call has touched, as long as its line says.
-fn fill_marked(text: &[u8], y: &[u8], cb: &[u8], cr: &[u8]) {
+fn fill_marked(rt: &impl Print, text: &[u8], y: &[u8], cb: &[u8], cr: &[u8]) -> io::Result<()> {
     let mut s = marked();
     let mut out = unwritten();
     let space = laws::least(test_support::long(text, 21), 600_000);
     let room = test_support::word(text, 23);
-    fill_lent(text, y, cb, cr, &mut s[..space], &mut out[..room]);
+    fill_lent(rt, text, y, cb, cr, &mut s[..space], &mut out[..room])
 }
 
 // Makes the call of a fill with the three planes that its line speaks of.
-fn fill(text: &[u8], spelling: &[u8]) {
+fn fill(rt: &impl Print, text: &[u8], spelling: &[u8]) -> io::Result<()> {
     let y = test_support::plane(text, spelling, 0);
     let cb = test_support::plane(text, spelling, 1);
     let cr = test_support::plane(text, spelling, 2);
     let y_len = test_support::word(text, 12);
     let cb_len = test_support::word(text, 13);
     let cr_len = test_support::word(text, 14);
-    fill_marked(text, &y[..y_len], &cb[..cb_len], &cr[..cr_len]);
+    fill_marked(rt, text, &y[..y_len], &cb[..cb_len], &cr[..cr_len])
 }
 
 // Makes the call that a line's kind names.
-fn replay(text: &[u8; 122], spelling: &[u8; 122], change: &[u8; 122]) {
+fn replay(
+    rt: &impl Print,
+    text: &[u8; 122],
+    spelling: &[u8; 122],
+    change: &[u8; 122],
+) -> io::Result<()> {
     match test_support::kind(text) {
-        b'e' => exact(text),
-        b'f' => fixed(text),
-        b'r' => refills::refill(text, spelling, change),
-        _ => fill(text, spelling),
+        b'e' => exact(rt, text),
+        b'f' => fixed(rt, text),
+        b'r' => refills::refill(rt, text, spelling, change),
+        _ => fill(rt, text, spelling),
     }
 }
 
 // A line has 122 bytes, its newline too; the list ends where fewer are left. A line of kind `b` is no call: it is kept as the spelling; nor
 // is one of kind `c`, which is kept as the change.
-fn main() {
+fn main(rt: HostRuntime) -> io::Result<()> {
+    let mut input = rt.stdin();
     let mut text = [0u8; 122];
     let mut spelling = [0u8; 122];
     let mut change = [0u8; 122];
     for _ in 0..65_536usize {
-        if io::read_full(STDIN_FILENO, &mut text) < 122 {
+        if test_support::read_full(&mut input, &mut text)? < 122 {
             break;
         }
         if test_support::byte(&text, 0) == b'b' {
@@ -150,6 +165,7 @@ fn main() {
             change = text;
             continue;
         }
-        replay(&text, &spelling, &change);
+        replay(&rt, &text, &spelling, &change)?;
     }
+    Ok(())
 }

@@ -8,6 +8,8 @@ ghost use Rattle.std.specs.Prelude.{◌<◌, length};
 
 use fill::ChromaUpsampling;
 use image::{Rectangle, Strides};
+use std::io;
+use std::io::Print;
 use test_support::{byte, size, word};
 
 // Scratch for the fill before the change.
@@ -117,7 +119,7 @@ fn put_old(text: &[u8], change: &[u8], new: &[u8], k: usize, plane: &mut [u8])
 fn old_plane(text: &[u8], change: &[u8], new: &[u8], k: usize) -> [u8; 65_536]
     requires { k < 3 }
 {
-    let mut plane = io::large_buffer();
+    let mut plane = test_support::large_buffer();
     let n = word(change, 7 + k);
     put_old(text, change, new, k, &mut plane[..n]);
     plane
@@ -173,6 +175,7 @@ fn held(text: &[u8], change: &[u8], y: &[u8], cb: &[u8], cr: &[u8]) -> [u8; 65_5
 // Makes the call of a refill and writes its line. The sum is of all of out, and of the scratch that the call may not touch: all of it where
 // the rectangle has no cell.
 fn refill_lent(
+    rt: &impl Print,
     text: &[u8],
     change: &[u8],
     old_y: &[u8],
@@ -183,7 +186,7 @@ fn refill_lent(
     cr: &[u8],
     s: &mut [f32],
     out: &mut [u8],
-) {
+) -> io::Result<()> {
     let answer = test_support::number(reconstruction::refill(
         test_support::layout(text),
         old_y,
@@ -206,11 +209,12 @@ fn refill_lent(
         test_support::scratch_part(text, answer)
     };
     let sum = test_support::sum_floats(test_support::sum_bytes(0, out), s, part);
-    test_support::write_line(answer, sum);
+    test_support::write_line(rt, answer, sum)
 }
 
 // Makes the call of a refill with scratch that no call has touched and out as its line says.
 fn refill_marked(
+    rt: &impl Print,
     text: &[u8],
     change: &[u8],
     old_y: &[u8],
@@ -219,12 +223,13 @@ fn refill_marked(
     y: &[u8],
     cb: &[u8],
     cr: &[u8],
-) {
+) -> io::Result<()> {
     let mut s = crate::marked();
     let mut out = held(text, change, old_y, old_cb, old_cr);
     let space = laws::least(test_support::long(text, 21), 600_000);
     let room = word(text, 23);
     refill_lent(
+        rt,
         text,
         change,
         old_y,
@@ -235,11 +240,18 @@ fn refill_marked(
         cr,
         &mut s[..space],
         &mut out[..room],
-    );
+    )
 }
 
 // Makes the call of a refill with the planes before the change that go with those after it.
-fn refill_after(text: &[u8], change: &[u8], y: &[u8], cb: &[u8], cr: &[u8]) {
+fn refill_after(
+    rt: &impl Print,
+    text: &[u8],
+    change: &[u8],
+    y: &[u8],
+    cb: &[u8],
+    cr: &[u8],
+) -> io::Result<()> {
     let old_y = old_plane(text, change, y, 0);
     let old_cb = old_plane(text, change, cb, 1);
     let old_cr = old_plane(text, change, cr, 2);
@@ -247,6 +259,7 @@ fn refill_after(text: &[u8], change: &[u8], y: &[u8], cb: &[u8], cr: &[u8]) {
     let cb_len = word(change, 8);
     let cr_len = word(change, 9);
     refill_marked(
+        rt,
         text,
         change,
         &old_y[..y_len],
@@ -255,17 +268,17 @@ fn refill_after(text: &[u8], change: &[u8], y: &[u8], cb: &[u8], cr: &[u8]) {
         y,
         cb,
         cr,
-    );
+    )
 }
 
 // Inner: makes the call of a refill with the planes that its line and the change's speak of, and writes its line, which rt compares with the
-// stored one. It gives nothing and is lent nothing to write, so that there is nothing else to promise.
-pub fn refill(text: &[u8], spelling: &[u8], change: &[u8]) {
+// stored one. It gives nothing but an error where writing failed and is lent nothing to write, so that there is nothing else to promise.
+pub fn refill(rt: &impl Print, text: &[u8], spelling: &[u8], change: &[u8]) -> io::Result<()> {
     let y = test_support::plane(text, spelling, 0);
     let cb = test_support::plane(text, spelling, 1);
     let cr = test_support::plane(text, spelling, 2);
     let y_len = word(text, 12);
     let cb_len = word(text, 13);
     let cr_len = word(text, 14);
-    refill_after(text, change, &y[..y_len], &cb[..cb_len], &cr[..cr_len]);
+    refill_after(rt, text, change, &y[..y_len], &cb[..cb_len], &cr[..cr_len])
 }

@@ -11,8 +11,9 @@ ghost use Rattle.std.specs.Prelude.{◌<◌};
 
 use colorimetry::{Between, ChartReading, Nearest, Patch, Patched};
 use ffi::{ChromaChartReading, ChromaPatch, ChromaRectangle};
-use libc::{STDIN_FILENO, STDOUT_FILENO};
 use reconstruction::Rectangle;
+use std::io;
+use std::io::Print;
 
 // A line's rectangle.
 fn rectangle(text: &[u8]) -> Rectangle {
@@ -33,58 +34,55 @@ fn bits(x: f64) -> u64 {
 }
 
 // Writes a blank and the bits of a mean.
-fn write_mean(x: f64) {
-    io::write_all(STDOUT_FILENO, b" ");
-    io::print_hex(STDOUT_FILENO, bits(x), 16);
+fn write_mean(rt: &impl Print, x: f64) -> io::Result<()> {
+    print!(rt; " {:016x}", bits(x))
 }
 
 // Writes a blank and a number.
-fn write_number(n: usize) {
-    io::write_all(STDOUT_FILENO, b" ");
-    io::print_decimal(STDOUT_FILENO, n as u64);
+fn write_number(rt: &impl Print, n: usize) -> io::Result<()> {
+    print!(rt; " {n}")
 }
 
 // Writes the three whole-number means.
-fn write_whole(whole: [u8; 3]) {
-    write_number(whole[0] as usize);
-    write_number(whole[1] as usize);
-    write_number(whole[2] as usize);
+fn write_whole(rt: &impl Print, whole: [u8; 3]) -> io::Result<()> {
+    write_number(rt, whole[0] as usize)?;
+    write_number(rt, whole[1] as usize)?;
+    write_number(rt, whole[2] as usize)
 }
 
 // Writes the means, or that there are none.
-fn write_patch(patch: Patch) {
+fn write_patch(rt: &impl Print, patch: Patch) -> io::Result<()> {
     match patch {
         Patch::Mean(r, g, b) => {
-            write_mean(r);
-            write_mean(g);
-            write_mean(b);
+            write_mean(rt, r)?;
+            write_mean(rt, g)?;
+            write_mean(rt, b)
         }
-        Patch::Nothing => {
-            io::write_all(STDOUT_FILENO, b" nothing");
-        }
+        Patch::Nothing => print!(rt; " nothing"),
     }
 }
 
 // Writes the line of a patch.
-fn write_patched(p: Patched) {
+fn write_patched(rt: &impl Print, p: Patched) -> io::Result<()> {
     let answer = p.answer;
     let patch = p.patch;
     let whole = p.whole;
-    io::print_decimal(STDOUT_FILENO, test_support::number(answer) as u64);
-    write_number(p.pixels);
-    write_patch(patch);
-    write_whole(whole);
-    io::write_all(STDOUT_FILENO, b"\n");
+    print!(rt; "{}", test_support::number(answer))?;
+    write_number(rt, p.pixels)?;
+    write_patch(rt, patch)?;
+    write_whole(rt, whole)?;
+    println!(rt)
 }
 
 // Makes the call of a patch of a picture and writes its line.
-fn patch(text: &[u8], rgb: &[u8]) {
-    write_patched(colorimetry::patch_mean(
+fn patch(rt: &impl Print, text: &[u8], rgb: &[u8]) -> io::Result<()> {
+    let patched = colorimetry::patch_mean(
         rectangle(text),
         test_support::size(text, 12),
         test_support::size(text, 13),
         rgb,
-    ));
+    );
+    write_patched(rt, patched)
 }
 
 // A line's rectangle in C's form.
@@ -99,114 +97,114 @@ fn c_rectangle(text: &[u8]) -> ChromaRectangle {
 }
 
 // Writes the line of a patch in C's form, what is 0 beside nothing too.
-fn write_c_patch(p: ChromaPatch) {
+fn write_c_patch(rt: &impl Print, p: ChromaPatch) -> io::Result<()> {
     let mean = p.mean;
     let whole = p.whole;
-    io::print_decimal(STDOUT_FILENO, p.refusal as u64);
-    write_number(p.pixels);
-    write_number(p.given as usize);
-    write_mean(mean[0]);
-    write_mean(mean[1]);
-    write_mean(mean[2]);
-    write_whole(whole);
-    io::write_all(STDOUT_FILENO, b"\n");
+    print!(rt; "{}", p.refusal)?;
+    write_number(rt, p.pixels)?;
+    write_number(rt, p.given as usize)?;
+    write_mean(rt, mean[0])?;
+    write_mean(rt, mean[1])?;
+    write_mean(rt, mean[2])?;
+    write_whole(rt, whole)?;
+    println!(rt)
 }
 
 // Makes the call of a patch as C makes it and writes its line.
-fn c_patch(text: &[u8], rgb: &[u8]) {
-    write_c_patch(ffi::chroma_patch(
+fn c_patch(rt: &impl Print, text: &[u8], rgb: &[u8]) -> io::Result<()> {
+    let patched = ffi::chroma_patch(
         c_rectangle(text),
         test_support::size(text, 12),
         test_support::size(text, 13),
         rgb,
-    ));
+    );
+    write_c_patch(rt, patched)
 }
 
 // Writes the nearest shade and how far it is, or that there is none.
-fn write_nearest(nearest: Nearest, off: u32) {
+fn write_nearest(rt: &impl Print, nearest: Nearest, off: u32) -> io::Result<()> {
     match nearest {
         Nearest::Shade(i) => {
-            write_number(i);
-            write_number(off as usize);
+            write_number(rt, i)?;
+            write_number(rt, off as usize)
         }
-        Nearest::Nothing => {
-            io::write_all(STDOUT_FILENO, b" nothing");
-        }
+        Nearest::Nothing => print!(rt; " nothing"),
     }
 }
 
 // Writes the nearest mix and how far it is, or that there is none.
-fn write_between(between: Between, off: u32) {
+fn write_between(rt: &impl Print, between: Between, off: u32) -> io::Result<()> {
     match between {
         Between::Mix(i, k) => {
-            write_number(i);
-            write_number(k);
-            write_number(off as usize);
+            write_number(rt, i)?;
+            write_number(rt, k)?;
+            write_number(rt, off as usize)
         }
-        Between::Nothing => {
-            io::write_all(STDOUT_FILENO, b" nothing");
-        }
+        Between::Nothing => print!(rt; " nothing"),
     }
 }
 
 // Writes the line of a reading.
-fn write_reading(r: ChartReading) {
+fn write_reading(rt: &impl Print, r: ChartReading) -> io::Result<()> {
     let answer = r.answer;
     let nearest = r.nearest;
     let between = r.between;
     let whole = r.whole;
-    io::print_decimal(STDOUT_FILENO, test_support::number(answer) as u64);
-    write_number(r.pixels);
-    write_nearest(nearest, r.nearest_off);
-    write_between(between, r.between_off);
-    write_whole(whole);
-    io::write_all(STDOUT_FILENO, b"\n");
+    print!(rt; "{}", test_support::number(answer))?;
+    write_number(rt, r.pixels)?;
+    write_nearest(rt, nearest, r.nearest_off)?;
+    write_between(rt, between, r.between_off)?;
+    write_whole(rt, whole)?;
+    println!(rt)
 }
 
 // Makes the call of a reading and writes its line.
-fn reading(text: &[u8], chart: &[u8], rgb: &[u8]) {
-    write_reading(colorimetry::chart_reading(
+fn reading(rt: &impl Print, text: &[u8], chart: &[u8], rgb: &[u8]) -> io::Result<()> {
+    let read = colorimetry::chart_reading(
         chart,
         rectangle(text),
         test_support::size(text, 12),
         test_support::size(text, 13),
         rgb,
-    ));
+    );
+    write_reading(rt, read)
 }
 
 // Writes the line of a reading in C's form, what is 0 beside nothing too.
-fn write_c_reading(r: ChromaChartReading) {
+fn write_c_reading(rt: &impl Print, r: ChromaChartReading) -> io::Result<()> {
     let whole = r.whole;
-    io::print_decimal(STDOUT_FILENO, r.refusal as u64);
-    write_number(r.pixels);
-    write_number(r.given as usize);
-    write_number(r.nearest);
-    write_number(r.nearest_off as usize);
-    write_number(r.pair);
-    write_number(r.weight);
-    write_number(r.between_off as usize);
-    write_whole(whole);
-    io::write_all(STDOUT_FILENO, b"\n");
+    let between_off = r.between_off as usize;
+    print!(rt; "{}", r.refusal)?;
+    write_number(rt, r.pixels)?;
+    write_number(rt, r.given as usize)?;
+    write_number(rt, r.nearest)?;
+    write_number(rt, r.nearest_off as usize)?;
+    write_number(rt, r.pair)?;
+    write_number(rt, r.weight)?;
+    write_number(rt, between_off)?;
+    write_whole(rt, whole)?;
+    println!(rt)
 }
 
 // Makes the call of a reading as C makes it and writes its line.
-fn c_reading(text: &[u8], chart: &[u8], rgb: &[u8]) {
-    write_c_reading(ffi::chroma_chart_reading(
+fn c_reading(rt: &impl Print, text: &[u8], chart: &[u8], rgb: &[u8]) -> io::Result<()> {
+    let read = ffi::chroma_chart_reading(
         chart,
         c_rectangle(text),
         test_support::size(text, 12),
         test_support::size(text, 13),
         rgb,
-    ));
+    );
+    write_c_reading(rt, read)
 }
 
 // Makes the call that a line's kind names.
-fn call(text: &[u8], chart: &[u8], rgb: &[u8]) {
+fn call(rt: &impl Print, text: &[u8], chart: &[u8], rgb: &[u8]) -> io::Result<()> {
     match test_support::byte(text, 0) {
-        b'q' => c_patch(text, rgb),
-        b'c' => reading(text, chart, rgb),
-        b'd' => c_reading(text, chart, rgb),
-        _ => patch(text, rgb),
+        b'q' => c_patch(rt, text, rgb),
+        b'c' => reading(rt, text, chart, rgb),
+        b'd' => c_reading(rt, text, chart, rgb),
+        _ => patch(rt, text, rgb),
     }
 }
 
@@ -223,21 +221,27 @@ fn bytes(text: &[u8], k: usize, spelling: &[u8]) -> [u8; 65_536]
 }
 
 // Makes a line's call with the picture and the chart that the line speaks of.
-fn replay(text: &[u8; 202], pixels: &[u8; 202], shades: &[u8; 202]) {
+fn replay(
+    rt: &impl Print,
+    text: &[u8; 202],
+    pixels: &[u8; 202],
+    shades: &[u8; 202],
+) -> io::Result<()> {
     let rgb = bytes(text, 14, pixels);
     let chart = bytes(text, 17, shades);
     let len = test_support::word(text, 14);
     let chart_len = test_support::word(text, 17);
-    call(text, &chart[..chart_len], &rgb[..len]);
+    call(rt, text, &chart[..chart_len], &rgb[..len])
 }
 
 // A line has 202 bytes, its newline too; the list ends where fewer are left.
-fn main() {
+fn main(rt: HostRuntime) -> io::Result<()> {
+    let mut input = rt.stdin();
     let mut text = [0u8; 202];
     let mut pixels = [0u8; 202];
     let mut shades = [0u8; 202];
     for _ in 0..65_536usize {
-        if io::read_full(STDIN_FILENO, &mut text) < 202 {
+        if test_support::read_full(&mut input, &mut text)? < 202 {
             break;
         }
         if test_support::byte(&text, 0) == b'b' {
@@ -248,6 +252,7 @@ fn main() {
             shades = text;
             continue;
         }
-        replay(&text, &pixels, &shades);
+        replay(&rt, &text, &pixels, &shades)?;
     }
+    Ok(())
 }

@@ -4,10 +4,11 @@
 // there are.
 #![tactic(auto)]
 
-ghost use Rattle.std.specs.Prelude.{◌≤◌, length};
+ghost use Rattle.std.specs.Prelude.{◌≤◌, length, IfOk};
 
-use libc::STDIN_FILENO;
 use picture::Outcome;
+use std::io;
+use std::io::{Print, Read};
 
 // Scratch before the first call, not-a-number throughout, as long as the program's own: `SCRATCH` of ycbcrtoppm, 32 · 128 + 8 · 128.
 fn scratch() -> [f32; 5_120] {
@@ -84,68 +85,95 @@ fn refused_sum(n: u8, out: &[u8]) -> u32 {
 
 // Writes a call's line. The sum is of `out` and of the length; on refusal, of `out`, of the refusal's line and of whether scratch was
 // changed.
-fn write_outcome(outcome: Outcome, out: &[u8], changed: bool) {
+fn write_outcome(rt: &impl Print, outcome: Outcome, out: &[u8], changed: bool) -> io::Result<()> {
     match outcome {
         Outcome::Written(len) => {
             let sum = test_support::sum_bytes(0, out);
-            test_support::write_line(0, test_support::added(sum, (len % 4_294_967_296) as u32));
+            test_support::write_line(
+                rt,
+                0,
+                test_support::added(sum, (len % 4_294_967_296) as u32),
+            )
         }
         Outcome::Refused(n) => {
             let fault = if changed { 1 } else { 0 };
-            test_support::write_line(n as usize, test_support::added(refused_sum(n, out), fault));
+            test_support::write_line(
+                rt,
+                n as usize,
+                test_support::added(refused_sum(n, out), fault),
+            )
         }
     }
 }
 
 // Calls `picture` and writes its line.
-fn called(input: &[u8], s: &mut [f32], out: &mut [u8]) {
+fn called(rt: &impl Print, input: &[u8], s: &mut [f32], out: &mut [u8]) -> io::Result<()> {
     let before = test_support::sum_floats(0, s, 0);
     let outcome = picture::picture(input, s, out);
-    write_outcome(outcome, out, test_support::sum_floats(0, s, 0) != before);
+    write_outcome(
+        rt,
+        outcome,
+        out,
+        test_support::sum_floats(0, s, 0) != before,
+    )
 }
 
 // Makes the call of an input whose last line this is, with scratch and `out` as long as the line says, or as long as there is.
-fn call(text: &[u8], input: &[u8], s: &mut [f32]) {
+fn call(rt: &impl Print, text: &[u8], input: &[u8], s: &mut [f32]) -> io::Result<()> {
     let mut out = unwritten();
     let space = laws::least(test_support::word(text, 0), s.len());
     let room = laws::least(test_support::long(text, 1), 147_472);
-    called(input, &mut s[..space], &mut out[..room]);
+    called(rt, input, &mut s[..space], &mut out[..room])
 }
 
 // Does what a line says: makes the input so far the base that pieces are taken from, calls `picture` with it, or adds a piece to it. Gives how
 // long the input is then.
-fn replayed(text: &[u8], base: &mut [u8], input: &mut [u8], len: usize, s: &mut [f32]) -> usize
+fn replayed(
+    rt: &impl Print,
+    text: &[u8],
+    base: &mut [u8],
+    input: &mut [u8],
+    len: usize,
+    s: &mut [f32],
+) -> io::Result<usize>
     requires { len ≤ length input.old }
-    ensures { result ≤ length input.new }
+    ensures { IfOk result (λ n. n ≤ length input.new) }
 {
     let kind = test_support::byte(text, 0);
     if kind == b'=' {
         copied(input, 0, len, base);
-        return 0;
+        return Ok(0);
     }
     if kind == b'c' {
-        call(text, &input[..len], s);
-        return 0;
+        call(rt, text, &input[..len], s)?;
+        return Ok(0);
     }
-    len + put_piece(text, base, &mut input[len..])
+    Ok(len + put_piece(text, base, &mut input[len..]))
 }
 
 // Takes all lines, which have 17 bytes each, the newline too. The list ends where fewer are left.
-fn replay_all(base: &mut [u8], input: &mut [u8], s: &mut [f32]) {
+fn replay_all<R: Read>(
+    rt: &impl Print,
+    list: &mut R,
+    base: &mut [u8],
+    input: &mut [u8],
+    s: &mut [f32],
+) -> io::Result<()> {
     let mut len = 0;
     let mut text = [0u8; 17];
     for _ in 0..65_536usize {
-        if io::read_full(STDIN_FILENO, &mut text) < 17 {
+        if test_support::read_full(list, &mut text)? < 17 {
             break;
         }
-        len = replayed(&text, base, input, len, s);
+        len = replayed(rt, &text, base, input, len, s)?;
     }
+    Ok(())
 }
 
 // The base and the input have 65,536 bytes each, more than the longest input that the program takes.
-fn main() {
-    let mut base = io::large_buffer();
-    let mut input = io::large_buffer();
+fn main(rt: HostRuntime) -> io::Result<()> {
+    let mut base = test_support::large_buffer();
+    let mut input = test_support::large_buffer();
     let mut s = scratch();
-    replay_all(&mut base, &mut input, &mut s);
+    replay_all(&rt, &mut rt.stdin(), &mut base, &mut input, &mut s)
 }

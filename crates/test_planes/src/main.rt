@@ -10,7 +10,8 @@
 ghost use Rattle.std.specs.Prelude.{◌<◌};
 
 use laws::Answer;
-use libc::STDIN_FILENO;
+use std::io;
+use std::io::Print;
 
 // Scratch that holds one value throughout, so that the sum shows a call that writes where it may not.
 fn marked() -> [f32; 200_000] {
@@ -89,31 +90,45 @@ fn called(text: &[u8], plane: &[u8], s: &mut [f32], out: &mut [u16]) -> Answer {
 }
 
 // Makes a line's call and writes what came of it. The sum is of all of `out`, and of the scratch that the call may not touch.
-fn write_call(text: &[u8], plane: &[u8], s: &mut [f32], out: &mut [u16]) {
+fn write_call(
+    rt: &impl Print,
+    text: &[u8],
+    plane: &[u8],
+    s: &mut [f32],
+    out: &mut [u16],
+) -> io::Result<()> {
     let answer = test_support::number(called(text, plane, s, out));
     let sum = test_support::sum_values(0, out);
     let spared = test_support::scratch_part(text, answer);
-    test_support::write_line(answer, test_support::sum_floats(sum, s, spared));
+    test_support::write_line(rt, answer, test_support::sum_floats(sum, s, spared))
 }
 
 // Makes a line's call with scratch and `out` that no call has touched, as long as the line says.
-fn replay(text: &[u8]) {
+fn replay(rt: &impl Print, text: &[u8]) -> io::Result<()> {
     let plane_len = test_support::word(text, 10);
     let space = laws::least(test_support::long(text, 11), 200_000);
     let room = test_support::word(text, 13);
     let plane = drawn(text, plane_len, test_support::word(text, 14));
     let mut s = marked();
     let mut out = unwritten();
-    write_call(text, &plane[..plane_len], &mut s[..space], &mut out[..room]);
+    write_call(
+        rt,
+        text,
+        &plane[..plane_len],
+        &mut s[..space],
+        &mut out[..room],
+    )
 }
 
 // A line has 77 bytes, its newline too; the list ends where fewer are left.
-fn main() {
+fn main(rt: HostRuntime) -> io::Result<()> {
+    let mut input = rt.stdin();
     let mut text = [0u8; 77];
     for _ in 0..65_536usize {
-        if io::read_full(STDIN_FILENO, &mut text) < 77 {
+        if test_support::read_full(&mut input, &mut text)? < 77 {
             break;
         }
-        replay(&text);
+        replay(&rt, &text)?;
     }
+    Ok(())
 }

@@ -11,7 +11,8 @@ ghost use Rattle.std.specs.Prelude.{◌≤◌};
 
 use guided::{Geometry, Reader, Reply};
 use image::Range;
-use libc::STDIN_FILENO;
+use std::io;
+use std::io::{Print, Read};
 use taps::Phase;
 
 // What a call answered, the reader that it gave, and the sum of its outputs.
@@ -211,58 +212,78 @@ fn row_need(reader: Reader) -> usize {
 }
 
 // Writes a call's line. The sum is of its outputs, of the reader that it gave, and of whether it changed scratch that it may not touch.
-fn write_call(done: Done, fault: u32) {
+fn write_call(rt: &impl Print, done: Done, fault: u32) -> io::Result<()> {
     let n = numbers(done.reader);
     let sum = test_support::sum_numbers(done.sum, &n);
-    test_support::write_line(done.answer, test_support::added(sum, fault));
+    test_support::write_line(rt, done.answer, test_support::added(sum, fault))
 }
 
 // Makes the call of a line with the reader that it is handed, and writes its line.
-fn written(text: &[u8], spelling: &[u8], given: Reader, s: &mut [f32]) -> Done {
+fn written(
+    rt: &impl Print,
+    text: &[u8],
+    spelling: &[u8],
+    given: Reader,
+    s: &mut [f32],
+) -> io::Result<Done> {
     let need = row_need(given);
     let before = test_support::scratch_sums(s, need);
     let done = called(text, spelling, given, s);
     let after = test_support::scratch_sums(s, need);
     write_call(
+        rt,
         done,
         test_support::scratch_fault(before, after, done.answer),
-    );
-    done
+    )?;
+    Ok(done)
 }
 
 // Makes a line's call and gives the reader for the next line: the one that the call gave, or, where a number was changed by an index below
 // 16, the one from before it.
-fn replayed(text: &[u8], spelling: &[u8], reader: Reader, s: &mut [f32]) -> Reader {
-    let done = written(text, spelling, handed(text, reader), s);
+fn replayed(
+    rt: &impl Print,
+    text: &[u8],
+    spelling: &[u8],
+    reader: Reader,
+    s: &mut [f32],
+) -> io::Result<Reader> {
+    let done = written(rt, text, spelling, handed(text, reader), s)?;
     let change = test_support::word(text, 24);
     if laws::both(0 < change, change < 16) {
-        return reader;
+        return Ok(reader);
     }
-    done.reader
+    Ok(done.reader)
 }
 
 // Makes a line's call with as much of the front of scratch as the line says, and gives the reader for the next line.
-fn replay(text: &[u8; 142], spelling: &[u8; 142], reader: Reader, s: &mut [f32]) -> Reader {
+fn replay(
+    rt: &impl Print,
+    text: &[u8; 142],
+    spelling: &[u8; 142],
+    reader: Reader,
+    s: &mut [f32],
+) -> io::Result<Reader> {
     let space = laws::least(test_support::long(text, 19), s.len());
-    replayed(text, spelling, reader, &mut s[..space])
+    replayed(rt, text, spelling, reader, &mut s[..space])
 }
 
 // Makes the calls of all lines, which have 142 bytes each, the newline too. The list ends where fewer are left. The first reader has 0
 // throughout, which no open gave. A line of kind `b` is no call: it is kept as the spelling.
-fn replay_all(s: &mut [f32]) {
+fn replay_all<R: Read>(rt: &impl Print, input: &mut R, s: &mut [f32]) -> io::Result<()> {
     let mut text = [0u8; 142];
     let mut spelling = [0u8; 142];
     let mut reader = reader_of([0; 16]);
     for _ in 0..65_536usize {
-        if io::read_full(STDIN_FILENO, &mut text) < 142 {
+        if test_support::read_full(input, &mut text)? < 142 {
             break;
         }
         if test_support::byte(&text, 0) == b'b' {
             spelling = text;
             continue;
         }
-        reader = replay(&text, &spelling, reader, s);
+        reader = replay(rt, &text, &spelling, reader, s)?;
     }
+    Ok(())
 }
 
 // Scratch before the first call, not-a-number throughout, so that a value which is read before it was written shows.
@@ -270,7 +291,7 @@ fn scratch() -> [f32; 200_000] {
     [0.0 / 0.0; 200_000]
 }
 
-fn main() {
+fn main(rt: HostRuntime) -> io::Result<()> {
     let mut s = scratch();
-    replay_all(&mut s);
+    replay_all(&rt, &mut rt.stdin(), &mut s)
 }

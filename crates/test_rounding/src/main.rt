@@ -2,7 +2,7 @@
 // oracle/rounding-cases made the list, lines `K AAAAAAAA BBBBBBBB` of a kind and two operands, and what must be written for it.
 #![tactic(auto)]
 
-use libc::STDIN_FILENO;
+use std::io;
 
 // The plane whose four bytes are n's, the highest first.
 fn plane(n: u32) -> [u8; 4] {
@@ -50,12 +50,14 @@ fn answer(text: &[u8]) -> u32 {
 }
 
 // A line has 20 bytes, its newline too; the list ends where fewer are left.
-fn main() {
+fn main(rt: HostRuntime) -> io::Result<()> {
+    let mut input = rt.stdin();
     let mut text = [0u8; 20];
     for _ in 0..65_536usize {
-        if io::read_full(STDIN_FILENO, &mut text) < 20 {
+        if test_support::read_full(&mut input, &mut text)? < 20 {
             break;
         }
-        test_support::write_line(0, answer(&text));
+        test_support::write_line(&rt, 0, answer(&text))?;
     }
+    Ok(())
 }

@@ -1,6 +1,7 @@
 // The line that a test program writes for a call: its answer as a number, and the sum of what it left.
 use laws::Answer;
-use libc::STDOUT_FILENO;
+use std::io;
+use std::io::Print;
 
 // Inner: an answer as a line gives it: 0 where the call was accepted, and the refusal's number otherwise.
 pub fn number(answer: Answer) -> usize {
@@ -11,9 +12,6 @@ pub fn number(answer: Answer) -> usize {
 }
 
 // Inner: writes what a call answered and the sum of what it left, in eight hex digits. rt compares the line with the stored one.
-pub fn write_line(answer: usize, sum: u32) {
-    io::print_decimal(STDOUT_FILENO, answer as u64);
-    io::write_all(STDOUT_FILENO, b" ");
-    io::print_hex(STDOUT_FILENO, sum as u64, 8);
-    io::write_all(STDOUT_FILENO, b"\n");
+pub fn write_line(rt: &impl Print, answer: usize, sum: u32) -> io::Result<()> {
+    println!(rt; "{answer} {sum:08x}")
 }

@@ -1,6 +1,6 @@
 // The planes that calls are handed: grown from a seed by a generator that oracle/*-cases has too, or, where no seed gives the bytes that are
 // wanted, spelled by a line of their own.
-ghost use Rattle.std.specs.Prelude.{◌<◌};
+ghost use Rattle.std.specs.Prelude.{◌≡◌, ◌<◌, length};
 
 // The next state of a linear congruential generator, modulo 2^32.
 fn next(state: u32) -> u32 {
@@ -53,11 +53,18 @@ pub fn grow(plane: &mut [u8], seed: usize, shape: usize) {
     }
 }
 
+// Inner: a buffer of 65,536 zeros.
+pub fn large_buffer() -> [u8; 65_536]
+    ensures { 65536 ≡ length result }
+{
+    [0; 65_536]
+}
+
 // Inner: a plane of n bytes at the front of a buffer of 65,536, which has room for as many as a word of four hex digits can say.
 pub fn grown(n: usize, seed: usize, shape: usize) -> [u8; 65_536]
     requires { n < 65536 }
 {
-    let mut plane = io::large_buffer();
+    let mut plane = large_buffer();
     grow(&mut plane[..n], seed, shape);
     plane
 }
@@ -97,7 +104,7 @@ fn grow_held(plane: &mut [u8], seed: usize, sample_bytes: usize, most: u32) {
 pub fn grown_held(n: usize, seed: usize, sample_bytes: usize, most: u32) -> [u8; 65_536]
     requires { n < 65536 }
 {
-    let mut plane = io::large_buffer();
+    let mut plane = large_buffer();
     grow_held(&mut plane[..n], seed, sample_bytes, most);
     plane
 }
@@ -115,7 +122,7 @@ fn spell(plane: &mut [u8], spelling: &[u8], from: usize) {
 pub fn spelled_plane(n: usize, spelling: &[u8], from: usize) -> [u8; 65_536]
     requires { n < 65536 }
 {
-    let mut plane = io::large_buffer();
+    let mut plane = large_buffer();
     spell(&mut plane[..n], spelling, from);
     plane
 }

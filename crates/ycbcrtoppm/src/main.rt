@@ -3,11 +3,12 @@
 // All that it decides is `picture::picture`'s; this reads, lends the memory and writes.
 #![tactic(auto)]
 
-ghost use Rattle.std.specs.Prelude.{◌+◌, ◌≤◌, length};
+ghost use Rattle.std.specs.Prelude.{◌+◌, ◌≤◌, length, IfOk};
 ghost use Rattle.ycbcrtoppm.specs.Inner.Lengths.{written_length};
 
-use libc::{STDIN_FILENO, STDOUT_FILENO};
 use picture::Outcome;
+use std::io;
+use std::io::{Eprint, Print, Read, Write};
 
 // How much is read: the longest input, netpbm's `Reading::LONGEST` of 49,152 bytes, and one more, by which a longer one is seen to be
 // too long.
@@ -21,77 +22,77 @@ const SCRATCH: usize = 5_120;
 // 16 + 3 · 49,152. With `SCRATCH` and `OUT` refusals 9 and 10 are never given: `room_enough` of picture's proofs.
 const OUT: usize = 147_472;
 
-// Writes the picture that stands at the front of `out`, or the refusal's line, to standard output; says whether all of it was written.
-fn write_outcome(outcome: Outcome, out: &[u8]) -> bool
+// Writes the picture that stands at the front of `out`, or the refusal's line, to standard output.
+fn write_outcome(rt: &impl Print, outcome: Outcome, out: &[u8]) -> io::Result<()>
     requires { written_length outcome ≤ length out.now }
 {
     match outcome {
-        Outcome::Written(n) => io::write_all(STDOUT_FILENO, &out[..n]),
+        Outcome::Written(n) => rt.write_all(&out[..n]),
         Outcome::Refused(n) => {
             let line = picture::refusal_line(n);
             let len = line.len;
             let bytes = line.bytes;
-            io::write_all(STDOUT_FILENO, &bytes[..len])
+            rt.write_all(&bytes[..len])
         }
     }
 }
 
-// What reading came to: how many bytes were read, and whether a read failed.
-#[derive(Clone, Copy)]
-struct Taken {
-    len: usize,
-    failed: bool,
-}
-
-// One read of standard input into `buf`, from index `from` on. No bytes are its end, or a read that failed: those answer 0 and less.
-fn read_more(buf: &mut [u8], from: usize) -> Taken
+// One read into `buf`, from index `from` on: how many bytes were read. None are the input's end.
+fn read_more<R: Read>(input: &mut R, buf: &mut [u8], from: usize) -> io::Result<usize>
     requires { from ≤ length buf.old }
-    ensures { from + result.len ≤ length buf.new }
+    ensures { IfOk result (λ n. from + n ≤ length buf.new) }
 {
-    let got = libc::read(STDIN_FILENO, &mut buf[from..]);
-    Taken {
-        len: io::count(got, &buf[from..]),
-        failed: got < 0,
-    }
+    input.read(&mut buf[from..])
 }
 
-// Reads standard input to its end, or as much of it as `buf` has room for, or until a read fails.
-fn read_all(buf: &mut [u8]) -> Taken
-    ensures { result.len ≤ length buf.new }
+// Reads the input to its end, or as much of it as `buf` has room for, or until a read fails.
+fn read_all<R: Read>(input: &mut R, buf: &mut [u8]) -> io::Result<usize>
+    ensures { IfOk result (λ n. n ≤ length buf.new) }
 {
     let mut len = 0;
     while len < buf.len() {
-        let more = read_more(buf, len);
-        if more.len == 0 {
-            return Taken {
-                len,
-                failed: more.failed,
-            };
+        let more = read_more(input, buf, len)?;
+        if more == 0 {
+            break;
         }
-        len += more.len;
+        len += more;
     }
-    Taken { len, failed: false }
+    Ok(len)
+}
+
+// Writes a line to standard error: what failed, a colon, and the system's words for why. The number that std puts behind those is left out.
+fn fail(rt: &impl Eprint, what: &str, error: io::Error) -> io::Result<()> {
+    let mut text = [0u8; 256];
+    let mut room = &mut text[..];
+    write!(room, "{error}")?;
+    let why = match str::from_utf8(&text) {
+        Ok(words) => words.trim_end_matches('\0'),
+        Err(_) => "",
+    };
+    match why.split_once(" (os error ") {
+        Some((words, _)) => eprintln!(rt; "{what}: {words}"),
+        None => eprintln!(rt; "{what}: {why}"),
+    }
 }
 
 // Writes what comes of an input, or says on standard error why that couldn't be written.
-fn answer(input: &[u8]) {
+fn answer(rt: &(impl Print + Eprint), input: &[u8]) -> io::Result<()> {
     let mut s = [0.0f32; SCRATCH];
     let mut out = [0u8; OUT];
     let outcome = picture::picture(input, &mut s, &mut out);
-    if !write_outcome(outcome, &out) {
-        os::fail(b"ycbcrtoppm: standard output");
+    match write_outcome(rt, outcome, &out) {
+        Ok(()) => Ok(()),
+        Err(error) => fail(rt, "ycbcrtoppm: standard output", error),
     }
 }
 
-// A program has no status of its own: where reading fails it writes nothing but why, to standard error, and the script ycbcrtoppm, which
-// runs it, tells a picture, a refusal and nothing apart by the first line of standard output.
-fn main() {
+// The status doesn't say what came of an input: where reading fails the program writes nothing but why, to standard error, and the script
+// ycbcrtoppm, which runs it, tells a picture, a refusal and nothing apart by the first line of standard output. Only where standard error
+// can't be written either, it ends with an error.
+fn main(rt: HostRuntime) -> io::Result<()> {
     let mut input = [0u8; INPUT];
-    let taken = read_all(&mut input);
-    if taken.failed {
-        os::fail(b"ycbcrtoppm: standard input");
-        return;
+    match read_all(&mut rt.stdin(), &mut input) {
+        Ok(n) => answer(&rt, &input[..n]),
+        Err(error) => fail(&rt, "ycbcrtoppm: standard input", error),
     }
-    let n = taken.len;
-    answer(&input[..n]);
 }

@@ -1,0 +1,15 @@
+use native.Mathlib.Omega.{arith}
+use lib.ListN.{length-take}
+use Rattle.test_blend.proofs.called.Goals as goal
+
+pub slice_bounds-lent-end : goal.slice_bounds-lent-end
+slice_bounds-lent-end c =
+    simp length-take (omega arith)
+
+pub slice_bounds-lent-end-2 : goal.slice_bounds-lent-end-2
+slice_bounds-lent-end-2 c =
+    simp length-take (omega arith)
+
+pub slice_bounds-lent-end-3 : goal.slice_bounds-lent-end-3
+slice_bounds-lent-end-3 c =
+    simp length-take (omega arith)
