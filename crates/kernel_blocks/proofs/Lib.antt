@@ -1,5 +1,6 @@
--- Laws of blocks: the offsets in floats (RedAndBlue, Greens, GridBits), the fixed kernel (FixedRows), stored pixels (Puts, Stored, Packed).
+-- Laws of blocks: the offsets in floats (RedAndBlue, ChromaOffsets, Greens, GridBits), the fixed kernel (FixedRows), stored pixels (Puts, Stored, Packed).
 pub mod Blocks
+pub mod ChromaOffsets
 pub mod Chromas
 pub mod FixedRows
 pub mod GreenQuotient

@@ -2,14 +2,14 @@
 -- Off those edges the float's slack of 3 / 256 can't reach the next step (`steady`). At an edge lies at most one chroma for each step (`edge_at`),
 -- so that 360 steps of red and 455 of blue, computed in `checked`, are all of them.
 use mathlib.Core.Path.{◌≡◌, refl, sym, ap, ◌∙◌, subst}
-use mathlib.Core.Bool.{Bool, true, false, not, ◌&&◌}
+use mathlib.Core.Bool.{Bool, true, false, ◌&&◌}
 use mathlib.Core.Logic.{◌⊎◌, inl, inr}
 use Prim.Native.Nat.{ℕ, zero, suc, ◌+◌, ◌-◌, ◌*◌, ◌/◌, ◌%◌, ◌≤◌, ◌<◌}
 use native.Mathlib.Nat.{mul-le-mul_left, eq-or-lt_of_le, le_of_suc-le-suc, div-lt_iff_lt-mul}
 use native.Mathlib.Omega.{arith}
 use lib.Arith.{digits_div}
 use lib.Dec.{T, ltb, eqb, ltb→lt, eqb→eq, lit<}
-use lib.Ieee.{Float, binary32, add, sub, mul, of_int, is_nan, to_bits}
+use lib.Ieee.{Float, binary32, add, sub, mul, of_int, to_bits}
 use lib.Ieee.Exact.{HasValue}
 use lib.Ieee.Fits.{and_l, and_r}
 use borrow.Author.Tests.{ltb-false}
@@ -19,7 +19,7 @@ use Rattle.laws.proofs.Nearness.{mild_step, near_chain, value_near, add_near}
 use Rattle.kernels.specs.Kernels.{centred}
 use Rattle.kernels.specs.Inner.Forms.{chroma_offset, Suits, raised}
 use Rattle.kernels.proofs.Channels.{red_suits, blue_suits, chroma_biased}
-use Rattle.kernel_blocks.specs.Inner.Floating.{Centred, OnGrid, Multiplier, red1402, blue1772, no_tie, blue_tie, for_red, for_blue, middle}
+use Rattle.kernel_blocks.specs.Inner.Floating.{Centred, OnGrid, red1402, blue1772, no_tie, blue_tie, middle}
 use Rattle.kernel_blocks.proofs.GridBits.{Counts, Bits, plus_bits}
 use Rattle.kernel_blocks.proofs.Chromas.{scaled}
 use Rattle.kernel_blocks.proofs.Lumas.{on_grid_from}
@@ -72,7 +72,7 @@ right : Float → Float → ℕ → ℕ → ℕ → ℕ → Bool
 right k tie m s bias c = judge (edge m s c) (bits k tie c) (wanted m s bias c)
 
 -- k is F / G, for m thousandths; tie is t / 128000
-record Numbers (k tie : Float) (F G m t s bias steps : ℕ) : Type 0 where
+pub record Numbers (k tie : Float) (F G m t s bias steps : ℕ) : Type 0 where
   value : HasValue k false F G
   some : 0 < G
   thrice : F ≤ 3 * G
@@ -99,7 +99,7 @@ module _ {k tie : Float} {F G m t s bias steps : ℕ} (n : Numbers k tie F G m t
       (near_chain (k ⊗ x) (F * c) (F * 32768) G (128 * (m * c)) (128 * (m * 32768)) 128000 1 1 n.some (scaled k x F G c n.value n.some n.thrice h) (n.close c h.most))
       n.tie_near
 
-  chroma_offset_bits : Bits (middle ⊕ (k ⊗ x ⊕ tie)) (128 * (m * c) + t) (128 * (m * 32768) + 0) 128000 3
+  pub chroma_offset_bits : Bits (middle ⊕ (k ⊗ x ⊕ tie)) (128 * (m * c) + t) (128 * (m * 32768) + 0) 128000 3
   chroma_offset_bits =
       let l = n.suits.multiplier in
       let w = n.low in
@@ -133,14 +133,14 @@ module _ {k tie : Float} {F G m t s bias steps : ℕ} (n : Numbers k tie F G m t
           ap (λ (y : Float). to_bits binary32 (middle ⊕ (k ⊗ y ⊕ tie))) h.is
           ∙ eqb→eq (bits k tie c) (wanted m s bias c) (subst (λ (b : Bool). T (judge b (bits k tie c) (wanted m s bias c))) e (seen e))
 
-  chroma_offset_on_grid : OnGrid (chroma_offset m (centred c)) (to_bits binary32 (middle ⊕ (k ⊗ x ⊕ tie)))
+  pub chroma_offset_on_grid : OnGrid (chroma_offset m (centred c)) (to_bits binary32 (middle ⊕ (k ⊗ x ⊕ tie)))
   unfolding wanted
   chroma_offset_on_grid =
       let e : m * c + s ≡ raised m bias c = let z = n.sum in omega arith in
       on_grid_from bias _ _ (chroma_biased n.suits c ((m * c + s) / 256000) h.most (ap (λ (y : ℕ). y / 256000) e)) n.suits.bias_most (let z = settled in let b = n.suits.bias_most in omega arith)
 
 -- ---- the two
-red_numbers : Numbers red1402 no_tie 2940207 2097152 1402 0 267264 180 360
+pub red_numbers : Numbers red1402 no_tie 2940207 2097152 1402 0 267264 180 360
 unfolding every right judge edge at bits wanted of_int add sub mul to_bits
 red_numbers =
     record {
@@ -157,7 +157,7 @@ red_numbers =
       suits = red_suits;
     }
 
-blue_numbers : Numbers blue1772 blue_tie 14864613 8388608 1772 375 175104 227 455
+pub blue_numbers : Numbers blue1772 blue_tie 14864613 8388608 1772 375 175104 227 455
 unfolding every right judge edge at bits wanted of_int add sub mul to_bits
 blue_numbers =
     record {
@@ -173,11 +173,3 @@ blue_numbers =
       checked = tt;
       suits = blue_suits;
     }
-
-pub chroma_offset_is : {k tie x : Float} {m c : ℕ} → Multiplier k tie m → Centred x c → OnGrid (chroma_offset m (centred c)) (to_bits binary32 (middle ⊕ (k ⊗ x ⊕ tie)))
-chroma_offset_is for_red h = chroma_offset_on_grid red_numbers h
-chroma_offset_is for_blue h = chroma_offset_on_grid blue_numbers h
-
-pub chroma_offset_number : {k tie x : Float} {m c : ℕ} → Multiplier k tie m → Centred x c → T (not (is_nan (middle ⊕ (k ⊗ x ⊕ tie))))
-chroma_offset_number for_red h = (chroma_offset_bits red_numbers h).number
-chroma_offset_number for_blue h = (chroma_offset_bits blue_numbers h).number

@@ -1,5 +1,5 @@
 use lib.Ieee.{of_bits}
-use Rattle.kernel_blocks.proofs.RedAndBlue.{chroma_offset_is, chroma_offset_number}
+use Rattle.kernel_blocks.proofs.ChromaOffsets.{chroma_offset_is, chroma_offset_number}
 use Rattle.kernel_blocks.proofs.chroma_offsets.chroma_offset.Goals as goal
 
 pub float_to_bits-result : goal.float_to_bits-result
