@@ -1,13 +1,13 @@
 /* Chroma reconstruction and colour conversion: from Y, Cb and Cr planes to RGB.
  * tests/c/example.c is a first program.
  *
- * Every function here is proved to meet a contract (crates/ffi, over crates/reconstruction,
+ * Every function here is proved to meet a contract (crates/ffi_c, over crates/ffi, crates/reconstruction,
  * crates/colorimetry and crates/picture). It answers for everything it can be handed: any number, any content of
  * a slice or of a state. It reads and writes nothing outside the slices it is lent, keeps
  * nothing between calls (so threads may call at once), allocates nothing, and always returns. A
  * call that is refused changes no slice.
  *
- * Link target/staticlib/libffi.a, which `rt staticlib ffi` writes (x86-64), or libchroma.a, as
+ * Link target/staticlib/libffi.a, which `tools/build staticlib ffi` writes (x86-64-v2), or libchroma.a, as
  * tools/install names it (`pkg-config --cflags --libs chroma`). Of other libraries it needs memcpy
  * and memset alone.
  *

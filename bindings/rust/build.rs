@@ -1,4 +1,4 @@
-//! Links the static library: libffi.a, as `rt staticlib ffi` writes it, or libchroma.a, as
+//! Links the static library: libffi.a, as `tools/build staticlib ffi` writes it, or libchroma.a, as
 //! tools/install names it. CHROMA_LIB_DIR names its folder; without it, target/staticlib at the top
 //! of the repository is taken.
 
@@ -19,7 +19,7 @@ fn main() {
         .find(|name| archive(name).is_file())
     else {
         panic!(
-            "{} is missing: run `rt staticlib ffi` at the top of the repository, or set CHROMA_LIB_DIR",
+            "{} is missing: run `tools/build staticlib ffi` at the top of the repository, or set CHROMA_LIB_DIR",
             archive("ffi").display()
         );
     };

@@ -2,7 +2,7 @@
 //! whose every function is proved to meet its contract. This crate is a thin safe wrapper over
 //! its C interface (include/chroma.h); slices and lifetimes keep what C callers must.
 //!
-//! The library is linked from the repository's target/staticlib, where `rt staticlib ffi` writes
+//! The library is linked from the repository's target/staticlib, where `tools/build staticlib ffi` writes
 //! it, or from the folder that CHROMA_LIB_DIR names when cargo runs. A crate of your own needs
 //! `chroma = { path = "…/bindings/rust" }` among its dependencies and nothing else.
 //!
