@@ -34,7 +34,7 @@ fn exact_at(
     x: usize,
 ) -> [[u8; Block::LEN]; 3]
     requires row_lent { RowLent layout (plane_of plane.now stride) row (length s.now) }
-    requires fact { Blocked Block.LEN Exact layout × (x + Block.LEN ≤ layout.w) }
+    requires blocks_lent { Blocked Block.LEN Exact layout × (x + Block.LEN ≤ layout.w) }
     ensures { ((k : ℕ) → k < Block.LEN → block_pixel result k ≡ row_colour
         Exact layout (plane_of plane.now stride) row s.now (x + k)) }
 {
@@ -53,7 +53,7 @@ fn exact3(
     at: usize,
 )
     requires row_lent { RowLent layout (plane_of plane.now stride) row (length s.now) }
-    requires fact { Blocked Block.LEN Exact layout × (at + layout.w * 3 ≤ length out.old) }
+    requires blocks_lent { Blocked Block.LEN Exact layout × (at + layout.w * 3 ≤ length out.old) }
     ensures { out.new ≡ colour_row
         Exact layout (plane_of plane.now stride) row s.now at 3 out.old }
 {
@@ -79,7 +79,7 @@ fn exact4(
     low: u32,
 )
     requires row_lent { RowLent layout (plane_of plane.now stride) row (length s.now) }
-    requires fact { Blocked Block.LEN Exact layout × (at + layout.w * 4 ≤ length out.old) × (low ≡ 16777215) }
+    requires blocks_lent { Blocked Block.LEN Exact layout × (at + layout.w * 4 ≤ length out.old) × (low ≡ 16777215) }
     ensures { out.new ≡ colour_row
         Exact layout (plane_of plane.now stride) row s.now at 4 out.old }
 {
@@ -105,7 +105,7 @@ pub fn exact_row(
     at: usize,
 )
     requires row_lent { RowLent layout (plane_of plane.now stride) row (length s.now) }
-    requires fact { Blocked Block.LEN Exact layout × (3 ≤ size) × (size ≤ 4) × (at + layout.w * size ≤ length out.old) }
+    requires blocks_lent { Blocked Block.LEN Exact layout × (3 ≤ size) × (size ≤ 4) × (at + layout.w * size ≤ length out.old) }
     ensures { out.new ≡ colour_row
         Exact layout (plane_of plane.now stride) row s.now at size out.old }
 {

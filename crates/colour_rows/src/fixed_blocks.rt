@@ -42,7 +42,7 @@ fn fixed_at(
     tables: &[[i32; 256]],
 ) -> [[u8; Block::LEN]; 3]
     requires row_lent { RowLent layout (plane_of plane.now stride) row (length s.now) }
-    requires fact { Blocked Block.LEN FixedPoint16 layout × (x + Block.LEN ≤ layout.w) × Tabled tables.now }
+    requires blocks_lent { Blocked Block.LEN FixedPoint16 layout × (x + Block.LEN ≤ layout.w) × Tabled tables.now }
     ensures { ((k : ℕ) → k < Block.LEN → block_pixel result k ≡ row_colour
         FixedPoint16 layout (plane_of plane.now stride) row s.now (x + k)) }
 {
@@ -62,7 +62,7 @@ fn fixed3(
     tables: &[[i32; 256]],
 )
     requires row_lent { RowLent layout (plane_of plane.now stride) row (length s.now) }
-    requires fact { Blocked Block.LEN FixedPoint16 layout × (at + layout.w * 3 ≤ length out.old) × Tabled tables.now }
+    requires blocks_lent { Blocked Block.LEN FixedPoint16 layout × (at + layout.w * 3 ≤ length out.old) × Tabled tables.now }
     ensures { out.new ≡ colour_row
         FixedPoint16 layout (plane_of plane.now stride) row s.now at 3 out.old }
 {
@@ -89,7 +89,7 @@ fn fixed4(
     tables: &[[i32; 256]],
 )
     requires row_lent { RowLent layout (plane_of plane.now stride) row (length s.now) }
-    requires fact { Blocked Block.LEN FixedPoint16 layout × (at + layout.w * 4 ≤ length out.old) × (low ≡ 16777215) × Tabled tables.now }
+    requires blocks_lent { Blocked Block.LEN FixedPoint16 layout × (at + layout.w * 4 ≤ length out.old) × (low ≡ 16777215) × Tabled tables.now }
     ensures { out.new ≡ colour_row
         FixedPoint16 layout (plane_of plane.now stride) row s.now at 4 out.old }
 {
@@ -116,7 +116,7 @@ pub fn fixed_row(
     tables: &[[i32; 256]],
 )
     requires row_lent { RowLent layout (plane_of plane.now stride) row (length s.now) }
-    requires fact { Blocked Block.LEN FixedPoint16 layout × (3 ≤ size) × (size ≤ 4) × (at + layout.w * size ≤ length out.old) × Tabled tables.now }
+    requires blocks_lent { Blocked Block.LEN FixedPoint16 layout × (3 ≤ size) × (size ≤ 4) × (at + layout.w * size ≤ length out.old) × Tabled tables.now }
     ensures { out.new ≡ colour_row
         FixedPoint16 layout (plane_of plane.now stride) row s.now at size out.old }
 {

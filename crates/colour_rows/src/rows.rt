@@ -39,7 +39,7 @@ fn block_row(
     tables: &[[i32; 256]],
 )
     requires row_lent { RowLent layout (plane_of plane.now stride) row (length s.now) }
-    requires fact { Blocked Block.LEN kernel layout × (3 ≤ size) × (size ≤ 4) × (at + layout.w * size ≤ length out.old) × TablesFor kernel tables.now }
+    requires blocks_lent { Blocked Block.LEN kernel layout × (3 ≤ size) × (size ≤ 4) × (at + layout.w * size ≤ length out.old) × TablesFor kernel tables.now }
     ensures { out.new ≡ colour_row
         kernel layout (plane_of plane.now stride) row s.now at size out.old }
 {

@@ -33,7 +33,7 @@ fn studio_at(
     x: usize,
 ) -> [[u8; Block::LEN]; 3]
     requires row_lent { RowLent layout (plane_of plane.now stride) row (length s.now) }
-    requires n_bound { x + Block.LEN ≤ layout.w }
+    requires block_inside { x + Block.LEN ≤ layout.w }
     ensures { ((k : ℕ) → k < Block.LEN → block_pixel result k ≡ studio_colour
         layout (plane_of plane.now stride) row s.now (x + k)) }
 {
@@ -52,7 +52,7 @@ fn studio3(
     at: usize,
 )
     requires row_lent { RowLent layout (plane_of plane.now stride) row (length s.now) }
-    requires fact { (Block.LEN ≤ layout.w) × (at + layout.w * 3 ≤ length out.old) }
+    requires blocks_lent { (Block.LEN ≤ layout.w) × (at + layout.w * 3 ≤ length out.old) }
     ensures { out.new ≡ studio_row
         layout (plane_of plane.now stride) row s.now at 3 out.old }
 {
@@ -78,7 +78,7 @@ fn studio4(
     low: u32,
 )
     requires row_lent { RowLent layout (plane_of plane.now stride) row (length s.now) }
-    requires fact { (Block.LEN ≤ layout.w) × (at + layout.w * 4 ≤ length out.old) × (low ≡ 16777215) }
+    requires blocks_lent { (Block.LEN ≤ layout.w) × (at + layout.w * 4 ≤ length out.old) × (low ≡ 16777215) }
     ensures { out.new ≡ studio_row
         layout (plane_of plane.now stride) row s.now at 4 out.old }
 {
@@ -104,7 +104,7 @@ pub fn studio_block_row(
     at: usize,
 )
     requires row_lent { RowLent layout (plane_of plane.now stride) row (length s.now) }
-    requires fact { (Block.LEN ≤ layout.w) × (3 ≤ size) × (size ≤ 4) × (at + layout.w * size ≤ length out.old) }
+    requires blocks_lent { (Block.LEN ≤ layout.w) × (3 ≤ size) × (size ≤ 4) × (at + layout.w * size ≤ length out.old) }
     ensures { out.new ≡ studio_row
         layout (plane_of plane.now stride) row s.now at size out.old }
 {

@@ -12,7 +12,7 @@ pub exact3-requires : goal.exact3-requires
 exact3-requires c =
     let p = c.requires in
     let e : c.args.size ≡ 3 = omega arith in
-    record { row_lent = p.row_lent; fact = (p.fact.0, rw e at p.fact.3) }
+    record { row_lent = p.row_lent; blocks_lent = (p.blocks_lent.0, rw e at p.blocks_lent.3) }
 
 pub returns-then-size-eq3 : goal.returns-then-size-eq3
 returns-then-size-eq3 c =
@@ -24,7 +24,7 @@ pub exact4-requires : goal.exact4-requires
 exact4-requires c =
     let p = c.requires in
     let e : c.args.size ≡ 4 = omega arith in
-    record { row_lent = p.row_lent; fact = (p.fact.0, rw e at p.fact.3, omega arith) }
+    record { row_lent = p.row_lent; blocks_lent = (p.blocks_lent.0, rw e at p.blocks_lent.3, omega arith) }
 
 pub returns : goal.returns
 returns c =

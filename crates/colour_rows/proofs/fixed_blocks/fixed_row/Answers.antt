@@ -12,7 +12,7 @@ pub fixed3-requires : goal.fixed3-requires
 fixed3-requires c =
     let p = c.requires in
     let e : c.args.size ≡ 3 = omega arith in
-    record { row_lent = p.row_lent; fact = (p.fact.0, rw e at p.fact.3, p.fact.4) }
+    record { row_lent = p.row_lent; blocks_lent = (p.blocks_lent.0, rw e at p.blocks_lent.3, p.blocks_lent.4) }
 
 pub returns-then-size-eq3 : goal.returns-then-size-eq3
 returns-then-size-eq3 c =
@@ -24,7 +24,7 @@ pub fixed4-requires : goal.fixed4-requires
 fixed4-requires c =
     let p = c.requires in
     let e : c.args.size ≡ 4 = omega arith in
-    record { row_lent = p.row_lent; fact = (p.fact.0, rw e at p.fact.3, omega arith, p.fact.4) }
+    record { row_lent = p.row_lent; blocks_lent = (p.blocks_lent.0, rw e at p.blocks_lent.3, omega arith, p.blocks_lent.4) }
 
 pub returns : goal.returns
 returns c =

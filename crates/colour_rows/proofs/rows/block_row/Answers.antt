@@ -5,13 +5,13 @@ pub exact_row-requires : goal.exact_row-requires
 exact_row-requires c =
     let p = c.requires in
     let e = c.in-Exact.is in
-    record { row_lent = p.row_lent; fact = (rw e at p.fact.0, p.fact.1, p.fact.2, p.fact.3) }
+    record { row_lent = p.row_lent; blocks_lent = (rw e at p.blocks_lent.0, p.blocks_lent.1, p.blocks_lent.2, p.blocks_lent.3) }
 
 pub fixed_row-requires : goal.fixed_row-requires
 fixed_row-requires c =
     let p = c.requires in
     let e = c.in-FixedPoint16.is in
-    record { row_lent = p.row_lent; fact = (rw e at p.fact.0, p.fact.1, p.fact.2, p.fact.3, p.fact.4.fixed e) }
+    record { row_lent = p.row_lent; blocks_lent = (rw e at p.blocks_lent.0, p.blocks_lent.1, p.blocks_lent.2, p.blocks_lent.3, p.blocks_lent.4.fixed e) }
 
 pub returns-in-Exact : goal.returns-in-Exact
 returns-in-Exact c =

@@ -10,22 +10,22 @@ loop-done-init c =
 
 pub overflow_sub-layout : goal.overflow_sub-layout
 overflow_sub-layout c =
-    c.requires.fact.0
+    c.requires.blocks_lent.0
 
 pub studio_at-rows-requires : goal.studio_at-rows-requires
 studio_at-rows-requires c =
-    let place : (let a = c.args in BlockPlace a.layout.w a.at 3 (length c.loop-done.out) c.loop-done.done c.least-x.result) = block_place c.loop-done.invariant.1 _ _ c.least-x.ensures c.requires.fact.0 (omega arith) (omega arith) in
+    let place : (let a = c.args in BlockPlace a.layout.w a.at 3 (length c.loop-done.out) c.loop-done.done c.least-x.result) = block_place c.loop-done.invariant.1 _ _ c.least-x.ensures c.requires.blocks_lent.0 (omega arith) (omega arith) in
     let p = c.requires in
-    record { row_lent = p.row_lent; n_bound = place.inside }
+    record { row_lent = p.row_lent; block_inside = place.inside }
 
 pub overflow_mul-x : goal.overflow_mul-x
 overflow_mul-x c =
-    let place : (let a = c.args in BlockPlace a.layout.w a.at 3 (length c.loop-done.out) c.loop-done.done c.least-x.result) = block_place c.loop-done.invariant.1 _ _ c.least-x.ensures c.requires.fact.0 (omega arith) (omega arith) in
+    let place : (let a = c.args in BlockPlace a.layout.w a.at 3 (length c.loop-done.out) c.loop-done.done c.least-x.result) = block_place c.loop-done.invariant.1 _ _ c.least-x.ensures c.requires.blocks_lent.0 (omega arith) (omega arith) in
     let h = place in omega arith
 
 pub overflow_add-at : goal.overflow_add-at
 overflow_add-at c =
-    let place : (let a = c.args in BlockPlace a.layout.w a.at 3 (length c.loop-done.out) c.loop-done.done c.least-x.result) = block_place c.loop-done.invariant.1 _ _ c.least-x.ensures c.requires.fact.0 (omega arith) (omega arith) in
+    let place : (let a = c.args in BlockPlace a.layout.w a.at 3 (length c.loop-done.out) c.loop-done.done c.least-x.result) = block_place c.loop-done.invariant.1 _ _ c.least-x.ensures c.requires.blocks_lent.0 (omega arith) (omega arith) in
     let h = place in
     let n = c.loop-done.invariant.1.len in
     let g = c.well_formed in
@@ -33,22 +33,22 @@ overflow_add-at c =
 
 pub put_block-requires : goal.put_block-requires
 put_block-requires c =
-    let place : (let a = c.args in BlockPlace a.layout.w a.at 3 (length c.loop-done.out) c.loop-done.done c.least-x.result) = block_place c.loop-done.invariant.1 _ _ c.least-x.ensures c.requires.fact.0 (omega arith) (omega arith) in
+    let place : (let a = c.args in BlockPlace a.layout.w a.at 3 (length c.loop-done.out) c.loop-done.done c.least-x.result) = block_place c.loop-done.invariant.1 _ _ c.least-x.ensures c.requires.blocks_lent.0 (omega arith) (omega arith) in
     (omega arith, place.fits)
 
 pub overflow_add-done : goal.overflow_add-done
 overflow_add-done c =
-    let place : (let a = c.args in BlockPlace a.layout.w a.at 3 (length c.loop-done.out) c.loop-done.done c.least-x.result) = block_place c.loop-done.invariant.1 _ _ c.least-x.ensures c.requires.fact.0 (omega arith) (omega arith) in
+    let place : (let a = c.args in BlockPlace a.layout.w a.at 3 (length c.loop-done.out) c.loop-done.done c.least-x.result) = block_place c.loop-done.invariant.1 _ _ c.least-x.ensures c.requires.blocks_lent.0 (omega arith) (omega arith) in
     let h = place in omega arith
 
 pub loop-done-smaller : goal.loop-done-smaller
 loop-done-smaller c =
-    let place : (let a = c.args in BlockPlace a.layout.w a.at 3 (length c.loop-done.out) c.loop-done.done c.least-x.result) = block_place c.loop-done.invariant.1 _ _ c.least-x.ensures c.requires.fact.0 (omega arith) (omega arith) in
+    let place : (let a = c.args in BlockPlace a.layout.w a.at 3 (length c.loop-done.out) c.loop-done.done c.least-x.result) = block_place c.loop-done.invariant.1 _ _ c.least-x.ensures c.requires.blocks_lent.0 (omega arith) (omega arith) in
     let h = place in omega arith
 
 pub loop-done-preserved : goal.loop-done-preserved
 loop-done-preserved c =
-    block_stored c.loop-done.invariant.1 _ _ c.least-x.ensures c.requires.fact.0 (omega arith) (omega arith) _ _ c.put_block.ensures (omega arith) c.studio_at-rows.ensures
+    block_stored c.loop-done.invariant.1 _ _ c.least-x.ensures c.requires.blocks_lent.0 (omega arith) (omega arith) _ _ c.put_block.ensures (omega arith) c.studio_at-rows.ensures
 
 pub shape_of-out : goal.shape_of-out
 shape_of-out c =

@@ -11,7 +11,7 @@ pub studio3-requires : goal.studio3-requires
 studio3-requires c =
     let p = c.requires in
     let e : c.args.size ≡ 3 = omega arith in
-    record { row_lent = p.row_lent; fact = (p.fact.0, rw e at p.fact.3) }
+    record { row_lent = p.row_lent; blocks_lent = (p.blocks_lent.0, rw e at p.blocks_lent.3) }
 
 pub returns-then-size-eq3 : goal.returns-then-size-eq3
 returns-then-size-eq3 c =
@@ -23,7 +23,7 @@ pub studio4-requires : goal.studio4-requires
 studio4-requires c =
     let p = c.requires in
     let e : c.args.size ≡ 4 = omega arith in
-    record { row_lent = p.row_lent; fact = (p.fact.0, rw e at p.fact.3, omega arith) }
+    record { row_lent = p.row_lent; blocks_lent = (p.blocks_lent.0, rw e at p.blocks_lent.3, omega arith) }
 
 pub returns : goal.returns
 returns c =

@@ -6,22 +6,6 @@ use Rattle.kernels.specs.Kernels.{fixed_green_cr}
 use Rattle.kernels.proofs.TableRules.{green_cr_rule}
 use Rattle.kernels.proofs.tables.green_cr_entry.Goals as goal
 
--- LEFT
--- array-copy-out-result : tie.Need-array-copy-out-result
--- array-copy-out-result c = omega arith
-
--- LEFT
--- array-copy-out-result-2 : tie.Need-array-copy-out-result-2
--- array-copy-out-result-2 c = omega arith
-
--- LEFT
--- array-copy-out-result-3 : tie.Need-array-copy-out-result-3
--- array-copy-out-result-3 c = omega arith
-
--- LEFT
--- array-copy-out-result-4 : tie.Need-array-copy-out-result-4
--- array-copy-out-result-4 c = omega arith
-
 pub returns-in-0 : goal.returns-in-0
 unfolding fixed_green_cr
 returns-in-0 c =

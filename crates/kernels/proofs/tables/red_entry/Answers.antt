@@ -7,22 +7,6 @@ use Rattle.kernels.specs.Kernels.{fixed_red}
 use Rattle.kernels.proofs.TableRules.{red_rule}
 use Rattle.kernels.proofs.tables.red_entry.Goals as goal
 
--- LEFT
--- array-copy-out-result : tie.Need-array-copy-out-result
--- array-copy-out-result c = omega arith
-
--- LEFT
--- array-copy-out-result-2 : tie.Need-array-copy-out-result-2
--- array-copy-out-result-2 c = omega arith
-
--- LEFT
--- array-copy-out-result-3 : tie.Need-array-copy-out-result-3
--- array-copy-out-result-3 c = omega arith
-
--- LEFT
--- array-copy-out-result-4 : tie.Need-array-copy-out-result-4
--- array-copy-out-result-4 c = omega arith
-
 pub returns-in-0 : goal.returns-in-0
 unfolding fixed_red floor_div
 returns-in-0 c =
