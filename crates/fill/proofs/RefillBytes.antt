@@ -18,7 +18,8 @@ use Rattle.laws.proofs.Refusals.{accepted_is}
 use Rattle.laws.proofs.Rows.{row_fits}
 use Rattle.image.specs.declared.layout.Layout.{Layout}
 use Rattle.image.specs.declared.rectangle.Rectangle.{Rectangle}
-use Rattle.image.specs.Picture.{Planes, picture_of}
+use Rattle.image.specs.Picture.{picture_of}
+use Rattle.image.specs.Picture.{Planes}
 use Rattle.image.specs.Rectangles.{is_empty}
 use Rattle.guided_rows.specs.CatchingUp.{guided_rows}
 use Rattle.kernels.specs.Kernels.{Colour}

@@ -11,12 +11,13 @@ use Rattle.laws.proofs.Refusals.{Failed, accepted_failed, failed_both}
 use Rattle.image.specs.declared.layout.Layout.{Layout}
 use Rattle.image.specs.Tests.{tests_for}
 use Rattle.image.specs.Inner.Tests.{Sound}
-use Rattle.image.specs.Picture.{Planes, bad_planes}
+use Rattle.image.specs.Picture.{bad_planes}
+use Rattle.image.specs.Picture.{Planes}
 use Rattle.image.specs.Rectangles.{past_cells}
 use Rattle.image.specs.Differences.{other_change}
 use Rattle.image.specs.Scratch.{scratch_need}
 use Rattle.image.proofs.Layouts.{neither, within, sound, sound_shaped}
-use Rattle.image.proofs.Planes.{none_short}
+use Rattle.image.proofs.Holding.{none_short}
 use Rattle.kernels.specs.declared.kernel.YcbcrKernel.{YcbcrKernel}
 use Rattle.fill.specs.declared.options.ChromaUpsampling.TheVariants.{LumaGuided}
 use Rattle.fill.specs.Tests.{is_fixed}

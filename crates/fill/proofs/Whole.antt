@@ -14,7 +14,8 @@ use Rattle.image.specs.Inner.Tests.{Sound}
 use Rattle.image.specs.Samples.{sample_at}
 use Rattle.image.specs.declared.chroma.Chroma.{Chroma}
 use Rattle.image.specs.declared.chroma.Chroma.TheVariants.{Cb, Cr}
-use Rattle.image.specs.Picture.{Planes, chroma_plane, picture_of, SameButRange}
+use Rattle.image.specs.Picture.{chroma_plane, picture_of, SameButRange}
+use Rattle.image.specs.Picture.{Planes}
 use Rattle.image.specs.Differences.{differs, differs_outside, other_change}
 use Rattle.image.proofs.Layouts.{neither}
 use Rattle.image.proofs.Pictures.{inside_is}

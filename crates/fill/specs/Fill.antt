@@ -5,7 +5,8 @@ use Rattle.laws.specs.declared.answers.Answer.{Answer}
 use Rattle.image.specs.declared.layout.Layout.{Layout}
 use Rattle.image.specs.declared.chroma.Chroma.{Chroma}
 use Rattle.image.specs.declared.chroma.Chroma.TheVariants.{Cb, Cr}
-use Rattle.image.specs.Picture.{Picture, Planes, picture_of}
+use Rattle.image.specs.Picture.{Picture, picture_of}
+use Rattle.image.specs.Picture.{Planes}
 use Rattle.linear.specs.Linear.{linear_sample, linear_row}
 use Rattle.guided.specs.Guided.{guided_sample}
 use Rattle.guided_rows.specs.CatchingUp.{guided_rows}

@@ -6,7 +6,8 @@ use Rattle.laws.specs.declared.answers.Answer.{Answer}
 use Rattle.image.specs.declared.layout.Layout.{Layout}
 use Rattle.image.specs.declared.rectangle.Rectangle.{Rectangle}
 use Rattle.image.specs.Tests.{bad_siting, tests_for}
-use Rattle.image.specs.Picture.{Planes, picture_of, bad_planes}
+use Rattle.image.specs.Picture.{picture_of, bad_planes}
+use Rattle.image.specs.Picture.{Planes}
 use Rattle.image.specs.Limits.{above_any}
 use Rattle.image.specs.Rectangles.{is_empty, past_cells}
 use Rattle.image.specs.Differences.{other_change}

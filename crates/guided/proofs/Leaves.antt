@@ -16,7 +16,8 @@ use Rattle.laws.proofs.Refusals.{accepted_failed, accepted_is, failed_accepted, 
 use Rattle.image.specs.declared.layout.Layout.{Layout}
 use Rattle.image.specs.Tests.{bad_siting, layout_tests, bad_plane}
 use Rattle.image.specs.Samples.{Plane, sample_of, sample_at}
-use Rattle.image.specs.Picture.{Planes, short_plane, bad_planes}
+use Rattle.image.specs.Picture.{short_plane, bad_planes}
+use Rattle.image.specs.Picture.{Planes}
 use Rattle.image.specs.Limits.{above, above_any}
 use Rattle.image.proofs.Any.{none_any}
 use Rattle.image.specs.Scratch.{scratch_need}

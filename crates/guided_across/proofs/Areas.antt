@@ -12,7 +12,7 @@ use Rattle.laws.proofs.Lists.{put_same, put_chain}
 use Rattle.image.specs.declared.layout.Layout.{Layout}
 use Rattle.image.specs.Samples.{Plane, sample_of, sample_at, place}
 use Rattle.image.specs.Picture.{inside}
-use Rattle.image.proofs.Planes.{short_holds, sample_inside}
+use Rattle.image.proofs.Holding.{short_holds, sample_inside}
 use Rattle.image.proofs.Pictures.{inside_is}
 use Rattle.laws.specs.Sums.{sum_to}
 use Rattle.guided.specs.Guided.{luma_of}

@@ -3,7 +3,8 @@
 ghost use Rattle.std.specs.Prelude.{◌≡◌, ◌≤◌, ◌<◌, length};
 ghost use Rattle.image.specs.Inner.Tests.{Sound};
 ghost use Rattle.image.specs.Samples.{sample_at, plane_of};
-ghost use Rattle.image.specs.Picture.{Planes, picture_of, planes_of};
+ghost use Rattle.image.specs.Picture.{picture_of, planes_of};
+ghost use Rattle.image.specs.Picture.{Planes};
 ghost use Rattle.image.specs.Scratch.{scratch_need};
 ghost use Rattle.guided.specs.Scratch.{horizontal};
 ghost use Rattle.guided_across.specs.Inner.Luma.{LumaPixels};

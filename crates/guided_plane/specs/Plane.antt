@@ -7,7 +7,8 @@ use Rattle.image.specs.declared.layout.Layout.{Layout}
 use Rattle.image.specs.Tests.{bad_siting, layout_tests}
 use Rattle.image.specs.Samples.{Plane}
 use Rattle.image.specs.declared.chroma.Chroma.TheVariants.{Cb}
-use Rattle.image.specs.Picture.{Picture, Planes, picture_of, short_plane}
+use Rattle.image.specs.Picture.{Picture, picture_of, short_plane}
+use Rattle.image.specs.Picture.{Planes}
 use Rattle.image.specs.Limits.{above}
 use Rattle.fround.specs.Rounding.{round_clamped}
 use Rattle.image.specs.Scratch.{scratch_need}

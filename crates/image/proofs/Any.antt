@@ -1,18 +1,21 @@
 -- Laws of `any_of` and of `above`: what they say of each index, and why the greatest of a row decides.
 use mathlib.Core.Path.{◌≡◌, refl, sym, ap, ◌∙◌}
-use mathlib.Core.Bool.{Bool, true, false, ◌||◌, cond}
-use mathlib.Core.List.{List}
+use mathlib.Core.Bool.{Bool, true, false, ◌||◌, ◌&&◌, not, cond}
+use mathlib.Core.List.{List, [], ◌∷◌}
 use mathlib.Core.Logic.{◌⊎◌, inl, inr, ⊎_elim}
-use Prim.Native.Nat.{ℕ, zero, suc, ◌+◌, ◌*◌, ◌≤◌, ◌<◌, max}
+use Prim.Native.Nat.{ℕ, zero, suc, ◌+◌, ◌-◌, ◌*◌, ◌≤◌, ◌<◌, max}
 use native.Mathlib.Numerals.{add-one}
 use native.Mathlib.Omega.{arith}
 use lib.Dec.{ltb, eqb}
-use lib.ListN.{get_or}
+use lib.ListN.{get_or, length, take, drop}
+use lib.Pointwise.{pointwise}
+use Rattle.std.proofs.lemmas.List.{get_or-take, get_or-drop, length-take, length-drop}
 use borrow.Author.Tests.{lt-ltb, le-ltb, ltb-true, ltb-false}
 use Rattle.image.specs.declared.layout.Layout.{Layout}
 use Rattle.image.specs.Tests.{most_of}
 use Rattle.image.specs.Samples.{Plane, sample_of, sample_at, place}
-use Rattle.image.specs.Picture.{Planes, inside, picture_of}
+use Rattle.image.specs.Picture.{inside, picture_of}
+use Rattle.image.specs.Picture.{Planes}
 use Rattle.image.specs.Limits.{any_of, above, above_any, exceeds}
 use Rattle.image.specs.Inner.Limits.{greatest}
 use Rattle.image.proofs.Layouts.{neither}
@@ -164,3 +167,53 @@ module _ (l : Layout) (w h : ℕ) (p : Plane) where
 
   pub rows_more : (y : ℕ) → any_of y row_above ≡ false → row_above y ≡ false → any_of (y + 1) row_above ≡ false
   rows_more y e f = any_more y row_above ∙ rw (e, f) refl
+
+-- ---- two runs of bytes, compared as slices
+
+-- the first is asked first
+any_first : (n : ℕ) (p : ℕ → Bool) → any_of (suc n) p ≡ (p 0 || any_of n (λ i. p (suc i)))
+unfolding any_of
+any_first zero p = go (p 0)
+  where
+    go : (a : Bool) → (false || a) ≡ (a || false)
+    go true = refl
+    go false = refl
+any_first (suc n) p = ap (λ a. a || p (suc n)) (any_first n p) ∙ joined (p 0) (any_of n (λ i. p (suc i))) (p (suc n))
+  where
+    joined : (a b c : Bool) → ((a || b) || c) ≡ (a || (b || c))
+    joined true b c = refl
+    joined false b c = refl
+
+lists_differ : (xs ys : List ℕ) → length xs ≡ length ys → not (pointwise eqb xs ys) ≡ any_of (length xs) (λ k. not (eqb (get_or xs k 0) (get_or ys k 0)))
+unfolding any_of
+lists_differ [] [] e = refl
+lists_differ [] (y ∷ ys) e = let h : 0 ≡ length (y ∷ ys) = e in absurd (omega arith)
+lists_differ (x ∷ xs) [] e = let h : length (x ∷ xs) ≡ 0 = e in absurd (omega arith)
+lists_differ (x ∷ xs) (y ∷ ys) e =
+    go (eqb x y) (lists_differ xs ys (let h : length (x ∷ xs) ≡ length (y ∷ ys) = e in omega arith))
+      ∙ sym (any_first (length xs) (λ k. not (eqb (get_or (x ∷ xs) k 0) (get_or (y ∷ ys) k 0))))
+  where
+    rest : Bool
+    rest = any_of (length xs) (λ k. not (eqb (get_or xs k 0) (get_or ys k 0)))
+
+    go : (a : Bool) → not (pointwise eqb xs ys) ≡ rest → not (a && pointwise eqb xs ys) ≡ (not a || rest)
+    go true k = k
+    go false k = refl
+
+pub slices_differ : (n at to : ℕ) (p q : List ℕ) → at + n ≤ length p → to + n ≤ length q → not (pointwise eqb (take (at + n - at) (drop at p)) (take (to + n - to) (drop to q))) ≡ any_of n (λ k. not (eqb (get_or p (at + k) 0) (get_or q (to + k) 0)))
+slices_differ n at to p q g h =
+    lists_differ xs ys (long at p g ∙ sym (long to q h))
+      ∙ ap (λ m. any_of m (λ k. not (eqb (get_or xs k 0) (get_or ys k 0)))) (long at p g)
+      ∙ any_same n _ _ (λ k l. rw (there at p k l, there to q k l) refl)
+  where
+    xs : List ℕ
+    xs = take (at + n - at) (drop at p)
+
+    ys : List ℕ
+    ys = take (to + n - to) (drop to q)
+
+    long : (a : ℕ) (l : List ℕ) → a + n ≤ length l → length (take (a + n - a) (drop a l)) ≡ n
+    long a l f = let z = length-take (a + n - a) (drop a l) in let y = length-drop a l in omega arith
+
+    there : (a : ℕ) (l : List ℕ) (k : ℕ) → k < n → get_or (take (a + n - a) (drop a l)) k 0 ≡ get_or l (a + k) 0
+    there a l k f = get_or-take (a + n - a) (drop a l) k 0 (omega arith) ∙ get_or-drop a l k 0

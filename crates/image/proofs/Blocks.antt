@@ -19,7 +19,7 @@ use Rattle.image.specs.Rectangles.{is_empty, holds_cell, past_cells}
 use Rattle.image.specs.Differences.{sample_differs, differs, differs_outside}
 use Rattle.image.specs.Inner.Differences.{differs_in, Reaches, InCells, nothing, trimmed_of, rows_above, rows_below, left_part, right_part}
 use Rattle.image.proofs.Layouts.{neither}
-use Rattle.image.proofs.Planes.{short_holds, row_inside}
+use Rattle.image.proofs.Holding.{short_holds, row_inside}
 use Rattle.image.proofs.Any.{any_more, any_same, any_some, any_none, none_any}
 
 -- ---- any of two parts
@@ -358,3 +358,19 @@ cell_past l r e =
     go : (t : Bool) → (t ≡ true → l.cw < r.left + r.width) → (t || ltb l.ch (r.top + r.height)) ≡ true → (l.cw ≤ r.left + (r.width - 1)) ⊎ (l.ch ≤ r.top + (r.height - 1))
     go true f e = let k = f refl in inl (omega arith)
     go false f e = let k = ltb-true l.ch (r.top + r.height) e in inr (omega arith)
+
+-- what the rows above and below and the sides of a rectangle say together, once it is trimmed
+pub parts_are : (l : Layout) (r t : Rectangle) (p q : Plane) (rows sides : Bool) → past_cells l r ≡ false → t ≡ trimmed_of r
+    → rows ≡ (differs_in l (rows_above l t) p q || differs_in l (rows_below l t) p q)
+    → sides ≡ (differs_in l (left_part t) p q || differs_in l (right_part l t) p q)
+    → (rows || sides) ≡ differs_outside l r p q
+parts_are l r t p q rows sides e f g h = rw (h, g, f) (outside_is l (trimmed_of r) p q (trimmed_in l r e) ∙ trimmed_outside l r p q)
+
+-- one of two answers, where the first says all or says nothing
+pub first_says : (a b w : Bool) → a ≡ true → (a || b) ≡ w → a ≡ w
+first_says true b w e h = h
+first_says false b w e h = let z : ◌≡◌ {A = Bool} false true = e in cc
+
+pub second_says : (a b w : Bool) → a ≡ false → (a || b) ≡ w → b ≡ w
+second_says false b w e h = h
+second_says true b w e h = let z : ◌≡◌ {A = Bool} true false = e in cc

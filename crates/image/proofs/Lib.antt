@@ -3,7 +3,7 @@ pub mod Any
 pub mod Blocks
 pub mod Layouts
 pub mod Pictures
-pub mod Planes
+pub mod Holding
 pub mod Quotients
 pub mod Ranges
 pub mod Surplus

@@ -7,7 +7,8 @@ use Rattle.image.specs.declared.chroma.Chroma.{Chroma}
 use Rattle.image.specs.declared.chroma.Chroma.TheVariants.{Cb, Cr}
 use Rattle.image.specs.Tests.{bad_plane}
 use Rattle.image.specs.declared.strides.Strides.{Strides}
-use Rattle.image.specs.Samples.{Plane, plane_of, sample_at}
+use Rattle.image.specs.declared.plane.Planes.{Planes as LentPlanes}
+use Rattle.image.specs.Samples.{Plane, plane_of, seen, sample_at}
 
 -- `luma y x` and `chroma k y x`: row y, column x. They are 0 outside the picture.
 pub record Picture : Type 0 where
@@ -20,6 +21,9 @@ pub record Planes : Type 0 where
   pub y : Plane
   pub cb : Plane
   pub cr : Plane
+
+abbrev pub planes_seen : LentPlanes → Planes
+planes_seen ps = record { y = seen ps.y; cb = seen ps.cb; cr = seen ps.cr }
 
 -- the planes that a call is lent as three slices and their strides
 abbrev pub planes_of : List ℕ → List ℕ → List ℕ → Strides → Planes

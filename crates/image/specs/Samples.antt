@@ -1,4 +1,5 @@
 -- The samples of a plane. Definitions only.
+use Rattle.image.specs.declared.plane.Plane.{Plane as Lent}
 use Rattle.std.specs.Prelude.{cond, List, ℕ, ◌+◌, ◌*◌, eqb, get_or}
 
 -- the sample whose first byte stands at `at`: one byte, or two, "little-endian in planes"
@@ -9,6 +10,10 @@ sample_of bytes plane at = cond (eqb bytes 1) (get_or plane at 0) (get_or plane 
 pub record Plane : Type 0 where
   pub bytes : List ℕ
   pub stride : ℕ
+
+-- the plane that a call is lent
+abbrev pub seen : Lent → Plane
+seen p = record { bytes = p.bytes.now; stride = p.stride }
 
 -- the plane that a call is lent as a slice and its stride
 abbrev pub plane_of : List ℕ → ℕ → Plane

@@ -9,6 +9,7 @@ use Rattle.laws.specs.declared.axes.Axis.{Axis}
 use Rattle.image.specs.declared.layout.Layout.{Layout}
 use Rattle.image.specs.declared.layout.Range.{Range}
 use Rattle.image.specs.declared.layout.Range.TheVariants.{Full, Studio}
+use Rattle.laws.specs.declared.refusal.Refusal.TheVariants.{BadSize, BadRatio, BadSamples, BadChroma, BadRange}
 
 -- 2: "width or height 0 or over 8,192"
 unfoldable pub bad_size : Layout → Bool
@@ -45,7 +46,7 @@ bad_chroma l = not (eqb l.cw (div_ceil (l.w * l.across.num) l.rh)) || not (eqb l
 
 -- the tests that open, the planes and fill begin with, 18 "right after 4": `whole` for guided and triangular, which "stay with numerator 1", and not for linear
 unfoldable pub tests_for : Bool → Bool → Layout → List Test
-tests_for whole fixed l = (bad_size l, 2) ∷ (bad_ratio whole l, 3) ∷ (bad_samples fixed l, 4) ∷ (bad_range fixed l.range l.maxval, 18) ∷ (bad_chroma l, 5) ∷ []
+tests_for whole fixed l = (bad_size l, BadSize) ∷ (bad_ratio whole l, BadRatio) ∷ (bad_samples fixed l, BadSamples) ∷ (bad_range fixed l.range l.maxval, BadRange) ∷ (bad_chroma l, BadChroma) ∷ []
 
 -- those of guided and triangular
 abbrev pub layout_tests : Bool → Layout → List Test

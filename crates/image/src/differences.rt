@@ -1,98 +1,79 @@
 // Refusal 21's test: whether two pictures differ where no change was announced.
 //
-// Bytes are compared by a loop that goes through to the end, which compiles to wide compares; one that returned at the first difference
-// would take ten times as long. It returns between rows.
-ghost use Rattle.std.specs.Prelude.{◌≡◌, ◌||◌, not, cond, false, ◌+◌, ◌≤◌, ◌<◌, eqb, length, get_or};
+// The bytes of a row are compared as slices, and it returns between rows.
+ghost use Rattle.std.specs.Prelude.{◌≡◌, ◌||◌, not, cond, false, ◌+◌, ◌*◌, ◌≤◌, ◌<◌, eqb, length, get_or};
 ghost use Rattle.image.specs.Inner.Tests.{Sound};
-ghost use Rattle.image.specs.Samples.{plane_of};
-ghost use Rattle.image.specs.Picture.{planes_of, short_plane, bad_planes};
+ghost use Rattle.image.specs.Picture.{short_plane, bad_planes, planes_seen};
+ghost use Rattle.image.specs.Samples.{seen};
 ghost use Rattle.image.specs.Limits.{any_of};
 ghost use Rattle.image.specs.Rectangles.{past_cells};
 ghost use Rattle.image.specs.Differences.{sample_differs, differs, differs_outside, other_change};
 ghost use Rattle.image.specs.Inner.Differences.{differs_in, Reaches, InCells, trimmed_of, rows_above, rows_below, left_part, right_part};
 
 use crate::layout::Layout;
+use crate::plane::{Plane, Planes};
 use crate::rectangle::Rectangle;
-use crate::strides::Strides;
-use laws::either;
-
-// The mark, or 1 where a and b differ.
-fn marked(mark: u8, a: u8, b: u8) -> u8
-    ensures { result ≡ cond (eqb a b) mark 1 }
-{
-    if a == b { mark } else { 1 }
-}
 
 // Whether n bytes of p from `at` on and n of q from `to` on differ.
 fn bytes_differ(p: &[u8], at: usize, q: &[u8], to: usize, n: usize) -> bool
     requires { (at + n ≤ length p.now) × (to + n ≤ length q.now) }
     ensures { result ≡ any_of n (λ k. not (eqb (get_or p.now (at + k) 0) (get_or q.now (to + k) 0))) }
 {
-    let mut mark: u8 = 0;
-    let mut i = 0;
-    while i < n {
-        mark = marked(mark, p[at + i], q[to + i]);
-        i += 1;
-    }
-    mark == 1
+    p[at..at + n] != q[to..to + n]
+}
+
+// Where row j of a rectangle of samples begins in a plane that it lies in.
+fn row_start(layout: Layout, plane: Plane<'_>, block: Rectangle, j: usize) -> usize
+    requires { Reaches layout block (seen plane) × (j < block.height) }
+    ensures value { result ≡ (block.top + j) * plane.entry.stride + block.left * layout.sample_bytes }
+    ensures room { result + block.width * layout.sample_bytes ≤ length plane.entry.bytes.now }
+{
+    (block.top + j) * plane.stride + block.left * layout.sample_bytes
 }
 
 // Whether two planes differ in row j of a rectangle of samples.
-fn row_differs(
-    layout: Layout,
-    p: &[u8],
-    p_stride: usize,
-    q: &[u8],
-    q_stride: usize,
-    block: Rectangle,
-    j: usize,
-) -> bool
+fn row_differs(layout: Layout, p: Plane<'_>, q: Plane<'_>, block: Rectangle, j: usize) -> bool
     requires { Sound layout
-        × Reaches layout block (plane_of p.now p_stride)
-        × Reaches layout block (plane_of q.now q_stride)
+        × Reaches layout block (seen p)
+        × Reaches layout block (seen q)
         × (j < block.height) }
     ensures { result ≡ any_of block.width (λ i. sample_differs layout
-        (plane_of p.now p_stride) (plane_of q.now q_stride)
+        (seen p.entry) (seen q.entry)
         (block.left + i) (block.top + j)) }
 {
-    let y = block.top + j;
-    let skip = block.left * layout.sample_bytes;
-    let n = block.width * layout.sample_bytes;
-    bytes_differ(p, y * p_stride + skip, q, y * q_stride + skip, n)
+    let at = row_start(layout, p, block, j);
+    let to = row_start(layout, q, block, j);
+    bytes_differ(p.bytes, at, q.bytes, to, block.width * layout.sample_bytes)
 }
 
 // Whether two planes differ in a rectangle of samples.
 fn block_differs(
     layout: Layout,
-    p: &[u8],
-    p_stride: usize,
-    q: &[u8],
-    q_stride: usize,
+    p: Plane<'_>,
+    q: Plane<'_>,
     block: Rectangle,
 ) -> bool
     requires { Sound layout
-        × Reaches layout block (plane_of p.now p_stride)
-        × Reaches layout block (plane_of q.now q_stride) }
+        × Reaches layout block (seen p)
+        × Reaches layout block (seen q) }
     ensures { result ≡ differs_in layout block
-        (plane_of p.now p_stride) (plane_of q.now q_stride) }
+        (seen p.entry) (seen q.entry) }
 {
-    let mut j = 0;
-    while j < block.height {
-        if row_differs(layout, p, p_stride, q, q_stride, block, j) {
+    for j in 0..block.height {
+        if row_differs(layout, p, q, block, j) {
             return true;
         }
-        j += 1;
     }
     false
 }
 
 // Whether two luma planes that pass 7 differ.
-fn luma_differs(layout: Layout, p: &[u8], p_stride: usize, q: &[u8], q_stride: usize) -> bool
+fn luma_differs(layout: Layout, p: Plane<'_>, q: Plane<'_>) -> bool
     requires { Sound layout
-        × (short_plane layout layout.w layout.h (plane_of p.now p_stride) ≡ false)
-        × (short_plane layout layout.w layout.h (plane_of q.now q_stride) ≡ false) }
+        × (short_plane layout layout.w layout.h (seen p) ≡ false)
+        × (short_plane layout layout.w layout.h (seen q) ≡ false) }
     ensures { result ≡ differs layout layout.w layout.h
-        (plane_of p.now p_stride) (plane_of q.now q_stride) }
+        (seen p.entry) (seen q.entry) }
 {
     let all = Rectangle {
         left: 0,
@@ -100,7 +81,7 @@ fn luma_differs(layout: Layout, p: &[u8], p_stride: usize, q: &[u8], q_stride: u
         width: layout.w,
         height: layout.h,
     };
-    block_differs(layout, p, p_stride, q, q_stride, all)
+    block_differs(layout, p, q, all)
 }
 
 // An empty rectangle, wherever it lies, as the one at 0, so that no sum of its numbers can pass 2^64; any other as it is.
@@ -121,19 +102,17 @@ fn trimmed(cells: Rectangle) -> Rectangle
 // Whether two chroma planes differ in the rows above and below the rectangle.
 fn rows_differ(
     layout: Layout,
-    p: &[u8],
-    p_stride: usize,
-    q: &[u8],
-    q_stride: usize,
+    p: Plane<'_>,
+    q: Plane<'_>,
     cells: Rectangle,
 ) -> bool
     requires { Sound layout
-        × (short_plane layout layout.cw layout.ch (plane_of p.now p_stride) ≡ false)
-        × (short_plane layout layout.cw layout.ch (plane_of q.now q_stride) ≡ false)
+        × (short_plane layout layout.cw layout.ch (seen p) ≡ false)
+        × (short_plane layout layout.cw layout.ch (seen q) ≡ false)
         × InCells layout cells }
     ensures { result ≡
-        (differs_in layout (rows_above layout cells) (plane_of p.now p_stride) (plane_of q.now q_stride)
-        || differs_in layout (rows_below layout cells) (plane_of p.now p_stride) (plane_of q.now q_stride)) }
+        (differs_in layout (rows_above layout cells) (seen p.entry) (seen q.entry)
+        || differs_in layout (rows_below layout cells) (seen p.entry) (seen q.entry)) }
 {
     let end = cells.top + cells.height;
     let above = Rectangle {
@@ -148,27 +127,25 @@ fn rows_differ(
         width: layout.cw,
         height: layout.ch - end,
     };
-    let up = block_differs(layout, p, p_stride, q, q_stride, above);
-    let down = block_differs(layout, p, p_stride, q, q_stride, below);
-    either(up, down)
+    let up = block_differs(layout, p, q, above);
+    let down = block_differs(layout, p, q, below);
+    up || down
 }
 
 // Whether two chroma planes differ in the rectangle's own rows, left or right of it.
 fn sides_differ(
     layout: Layout,
-    p: &[u8],
-    p_stride: usize,
-    q: &[u8],
-    q_stride: usize,
+    p: Plane<'_>,
+    q: Plane<'_>,
     cells: Rectangle,
 ) -> bool
     requires { Sound layout
-        × (short_plane layout layout.cw layout.ch (plane_of p.now p_stride) ≡ false)
-        × (short_plane layout layout.cw layout.ch (plane_of q.now q_stride) ≡ false)
+        × (short_plane layout layout.cw layout.ch (seen p) ≡ false)
+        × (short_plane layout layout.cw layout.ch (seen q) ≡ false)
         × InCells layout cells }
     ensures { result ≡
-        (differs_in layout (left_part cells) (plane_of p.now p_stride) (plane_of q.now q_stride)
-        || differs_in layout (right_part layout cells) (plane_of p.now p_stride) (plane_of q.now q_stride)) }
+        (differs_in layout (left_part cells) (seen p.entry) (seen q.entry)
+        || differs_in layout (right_part layout cells) (seen p.entry) (seen q.entry)) }
 {
     let end = cells.left + cells.width;
     let before = Rectangle {
@@ -183,56 +160,42 @@ fn sides_differ(
         width: layout.cw - end,
         height: cells.height,
     };
-    let left = block_differs(layout, p, p_stride, q, q_stride, before);
-    let right = block_differs(layout, p, p_stride, q, q_stride, behind);
-    either(left, right)
+    let left = block_differs(layout, p, q, before);
+    let right = block_differs(layout, p, q, behind);
+    left || right
 }
 
 // Whether two chroma planes that pass 7 differ outside a rectangle that passes 19.
 fn cells_differ(
     layout: Layout,
-    p: &[u8],
-    p_stride: usize,
-    q: &[u8],
-    q_stride: usize,
+    p: Plane<'_>,
+    q: Plane<'_>,
     cells: Rectangle,
 ) -> bool
     requires { Sound layout
-        × (short_plane layout layout.cw layout.ch (plane_of p.now p_stride) ≡ false)
-        × (short_plane layout layout.cw layout.ch (plane_of q.now q_stride) ≡ false)
+        × (short_plane layout layout.cw layout.ch (seen p) ≡ false)
+        × (short_plane layout layout.cw layout.ch (seen q) ≡ false)
         × (past_cells layout cells ≡ false) }
     ensures { result ≡ differs_outside layout cells
-        (plane_of p.now p_stride) (plane_of q.now q_stride) }
+        (seen p.entry) (seen q.entry) }
 {
     let inner = trimmed(cells);
-    let rows = rows_differ(layout, p, p_stride, q, q_stride, inner);
-    let sides = sides_differ(layout, p, p_stride, q, q_stride, inner);
-    either(rows, sides)
+    let rows = rows_differ(layout, p, q, inner);
+    let sides = sides_differ(layout, p, q, inner);
+    rows || sides
 }
 
-// Inner: refusal 21's test, for two sets of planes that pass 7 and a rectangle that passes 19. Ten parameters: two sets of three planes.
-pub fn other_change(
-    layout: Layout,
-    old_y: &[u8],
-    old_cb: &[u8],
-    old_cr: &[u8],
-    old_strides: Strides,
-    y: &[u8],
-    cb: &[u8],
-    cr: &[u8],
-    strides: Strides,
-    cells: Rectangle,
-) -> bool
+// Inner: refusal 21's test, for two sets of planes that pass 7 and a rectangle that passes 19.
+#[tactic(auto, unfolding(crate::specs::Differences::other_change, crate::specs::Picture::bad_planes))]
+pub fn other_change(layout: Layout, old: Planes<'_>, new: Planes<'_>, cells: Rectangle) -> bool
     requires { Sound layout
-        × (bad_planes layout (planes_of old_y.now old_cb.now old_cr.now old_strides) ≡ false)
-        × (bad_planes layout (planes_of y.now cb.now cr.now strides) ≡ false)
+        × (bad_planes layout (planes_seen old) ≡ false)
+        × (bad_planes layout (planes_seen new) ≡ false)
         × (past_cells layout cells ≡ false) }
-    ensures { result ≡ other_change layout cells
-        (planes_of old_y.now old_cb.now old_cr.now old_strides)
-        (planes_of y.now cb.now cr.now strides) }
+    ensures { result ≡ other_change layout cells (planes_seen old.entry) (planes_seen new.entry) }
 {
-    let luma = luma_differs(layout, old_y, old_strides.y, y, strides.y);
-    let blue = cells_differ(layout, old_cb, old_strides.cb, cb, strides.cb, cells);
-    let red = cells_differ(layout, old_cr, old_strides.cr, cr, strides.cr, cells);
-    either(luma, either(blue, red))
+    let luma = luma_differs(layout, old.y, new.y);
+    let blue = cells_differ(layout, old.cb, new.cb, cells);
+    let red = cells_differ(layout, old.cr, new.cr, cells);
+    luma || blue || red
 }

@@ -1,4 +1,4 @@
-// What a call is handed of a picture: its sizes, ratios, sample bytes, maxval and range (`Layout`), the strides of its planes, the samples in
+// What a call is handed of a picture: its sizes, ratios, sample bytes, maxval and range (`Layout`), its planes (`Planes`), the samples in
 // them, and part of it (`Rectangle`). These are the picture fields and `Plane` of the original's src/image.rs, with the tests behind
 // refusals 2, 3, 4, 5, 7 and 9 of document 01, and 16, 17, 18, 19 for chroma cells and 21 of document 02.
 //
@@ -12,6 +12,7 @@ mod differences;
 mod layout;
 mod lent;
 mod limits;
+mod plane;
 mod rectangle;
 mod samples;
 mod strides;
@@ -19,8 +20,9 @@ mod strides;
 pub use chroma::{Chroma, Components};
 pub use differences::other_change;
 pub use layout::{Layout, Range, bad_range, div_ceil};
-pub use lent::{above_planes, bad_planes, short_scratch, then_above};
-pub use limits::{plane_above, then_plane_above};
+pub use lent::{above_planes, bad_planes, short_scratch};
+pub use limits::{plane_above};
+pub use plane::{Plane, Planes};
 pub use rectangle::Rectangle;
 pub use samples::{bad_plane, sample};
 pub use strides::Strides;

@@ -3,10 +3,9 @@ ghost use Rattle.std.specs.Prelude.{◌≡◌, ◌+◌, ltb};
 ghost use Rattle.image.specs.Rectangles.{is_empty, past_cells};
 
 use crate::layout::Layout;
-use laws::{both, either};
 
 // A rectangle: its first column and row, and its sides. The call that takes one says what is counted.
-#[derive(Clone, Copy)]
+#[derive(Clone, Copy, PartialEq, Eq, Debug)]
 pub struct Rectangle {
     pub left: usize,
     pub top: usize,
@@ -23,27 +22,26 @@ impl Rectangle {
 fn goes_past(start: usize, span: usize, end: usize) -> bool
     ensures { result ≡ ltb end (start + span) }
 {
-    if end < span {
-        return true;
-    }
-    end - span < start
+    end < span || end - span < start
 }
 
 impl Rectangle {
     // Inner: whether it has no cell.
+    #[tactic(auto, unfolding(crate::specs::Rectangles::is_empty))]
     pub fn is_empty(self) -> bool
         ensures { result ≡ is_empty self }
     {
-        either(self.width == 0, self.height == 0)
+        self.width == 0 || self.height == 0
     }
 
     // Inner: refusal 19's test for chroma cells, whether one of them lies outside the chroma plane. It is answered for every number; an empty
     // rectangle has no cell, wherever it lies.
+    #[tactic(auto, unfolding(crate::specs::Rectangles::past_cells))]
     pub fn past_cells(self, layout: Layout) -> bool
         ensures { result ≡ past_cells layout self }
     {
         let across = goes_past(self.left, self.width, layout.cw);
         let down = goes_past(self.top, self.height, layout.ch);
-        both(!self.is_empty(), either(across, down))
+        !self.is_empty() && (across || down)
     }
 }

@@ -27,23 +27,15 @@ pub fn bad_plane(sample_bytes: usize, w: usize, h: usize, stride: usize, len: us
     product_passes(rows_before(h), stride, len - row)
 }
 
-// A byte as a number of 16 bits. Its contract spares the reads below a proof that the cast fits.
-fn wide(x: u8) -> u16
-    ensures { (result ≡ x) × (result < 256) }
-{
-    x as u16
-}
-
 // Inner: the sample whose first byte stands at `at`; two bytes are little-endian.
+#[tactic(auto, unfolding(crate::specs::Samples::sample_of))]
 pub fn sample(plane: &[u8], sample_bytes: usize, at: usize) -> u16
     requires { (1 ≤ sample_bytes) × (sample_bytes ≤ 2) × (at + sample_bytes ≤ length plane.now) }
     ensures { result ≡ sample_of sample_bytes plane.now at }
 {
     if sample_bytes == 1 {
-        wide(plane[at])
+        u16::from(plane[at])
     } else {
-        let low = wide(plane[at]);
-        let high = wide(plane[at + 1]);
-        low + 256 * high
+        u16::from_le_bytes([plane[at], plane[at + 1]])
     }
 }

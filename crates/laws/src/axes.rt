@@ -2,7 +2,7 @@
 // many cells there are to as many outputs as the ratio says.
 
 // In the middle of them, or over the first, where ITU-R BT.601 puts it across.
-#[derive(Clone, Copy)]
+#[derive(Clone, Copy, PartialEq, Eq, Debug)]
 pub enum Siting {
     Centred,
     CoSited,
@@ -10,7 +10,7 @@ pub enum Siting {
 
 // The axis has `num` cells to r outputs, where r is the layout's ratio: a numerator whose denominator is the ratio. A struct, since a layout
 // hands on an axis whole and a later change can say more of it without touching those who make a layout.
-#[derive(Clone, Copy)]
+#[derive(Clone, Copy, PartialEq, Eq, Debug)]
 pub struct Axis {
     pub siting: Siting,
     pub num: usize,

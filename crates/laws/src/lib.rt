@@ -5,10 +5,10 @@
 // needs no inner crate; and the axis of a picture, which layouts and taps both name.
 #![tactic(auto)]
 
-mod answers;
 mod axes;
 mod numbers;
+mod refusal;
 
-pub use answers::{Answer, refused, then};
 pub use axes::{Axis, Siting};
 pub use numbers::{both, either, least, outside, product_passes, volume_passes};
+pub use refusal::{Refusal, first};

@@ -4,7 +4,8 @@ use Rattle.std.specs.Float.{nan}
 use Rattle.laws.specs.declared.answers.Answer.{Answer}
 use Rattle.laws.specs.Refusals.{Test, first, accepted}
 use Rattle.image.specs.declared.chroma.Chroma.TheVariants.{Cb, Cr}
-use Rattle.image.specs.Picture.{Planes, bad_planes}
+use Rattle.image.specs.Picture.{bad_planes}
+use Rattle.image.specs.Picture.{Planes}
 use Rattle.image.specs.Samples.{sample_at}
 use Rattle.image.specs.Scratch.{scratch_need, cell_at}
 use Rattle.kernels.specs.Kernels.{Colour}

@@ -16,7 +16,7 @@ use Rattle.image.specs.Tests.{div_ceil, layout_tests}
 use Rattle.image.specs.Inner.Tests.{Sound}
 use Rattle.image.specs.Samples.{Plane}
 use Rattle.image.proofs.Layouts.{sound}
-use Rattle.image.proofs.Planes.{Holds, row_inside, short_holds}
+use Rattle.image.proofs.Holding.{Holds, row_inside, short_holds}
 use Rattle.upsample.specs.Triangular.{bad_triangular, triangular_tests}
 use Rattle.upsample.specs.Inner.Pairs.{RowInside, Doubled}
 

@@ -3,7 +3,8 @@ use Rattle.std.specs.Prelude.{◌≡◌, cond, List, ℕ, ◌+◌, ◌-◌, ◌*
 use Rattle.laws.specs.Refusals.{first}
 use Rattle.image.specs.declared.layout.Layout.{Layout}
 use Rattle.image.specs.declared.strides.Strides.{Strides}
-use Rattle.image.specs.Picture.{Picture, Planes, picture_of}
+use Rattle.image.specs.Picture.{Picture, picture_of}
+use Rattle.image.specs.Picture.{Planes}
 use Rattle.picture.specs.declared.Outcome.{Outcome}
 use Rattle.picture.specs.Picture.{lent_tests, pick_outcome, is_written, ppm_length, ppm_over, scratch_after}
 

@@ -3,7 +3,7 @@ use Prim.Native.Nat.{◌+◌, ◌≤◌}
 use native.Mathlib.Omega.{arith}
 use lib.ListN.{length}
 use Rattle.image.specs.Samples.{place, sample_at, plane_of}
-use Rattle.image.proofs.Planes.{short_holds, sample_inside}
+use Rattle.image.proofs.Holding.{short_holds, sample_inside}
 use Rattle.colour_rows.proofs.samples.luma_at.Goals as goal
 
 pub overflow_mul-row : goal.overflow_mul-row

@@ -6,7 +6,7 @@ use Prim.Native.Nat.{ℕ, ◌+◌, ◌*◌, ◌≤◌}
 use native.Mathlib.Omega.{arith}
 use lib.ListN.{length}
 use Rattle.image.specs.Samples.{Plane}
-use Rattle.image.proofs.Planes.{short_holds, row_inside}
+use Rattle.image.proofs.Holding.{short_holds, row_inside}
 use Rattle.colour_rows.proofs.RowSamples.{one_byte, two_bytes}
 use Rattle.colour_rows.proofs.samples.luma_block.Goals as goal
 

@@ -3,7 +3,8 @@ use mathlib.Core.Path.{◌≡◌, sym, ap, ◌∙◌}
 use mathlib.Core.Bool.{true}
 use Rattle.laws.specs.Refusals.{accepted}
 use Rattle.laws.proofs.Refusals.{first_further, then_passed, then_either}
-use Rattle.image.specs.Picture.{Planes, planes_of}
+use Rattle.image.specs.Picture.{planes_of}
+use Rattle.image.specs.Picture.{Planes}
 use Rattle.image.proofs.Layouts.{neither, sound_answer}
 use Rattle.fill.specs.Inner.Refill.{planes_tests}
 use Rattle.fill.proofs.Taken.{PlanesTaken}

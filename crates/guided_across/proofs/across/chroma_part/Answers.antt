@@ -3,7 +3,7 @@
 use Rattle.guided_across.proofs.ReadBack.{chroma_steps}
 use Rattle.guided.proofs.Places.{first_few, slot_order}
 use Rattle.guided_across.specs.Inner.Sums.{products_at, three_row}
-use Rattle.image.proofs.Planes.{short_holds, row_inside}
+use Rattle.image.proofs.Holding.{short_holds, row_inside}
 use mathlib.Core.Path.{ap, ◌∙◌}
 use Prim.Native.Nat.{◌+◌, ◌*◌, ◌≤◌}
 use native.Mathlib.Nat.{le_trans}

@@ -4,7 +4,7 @@ use mathlib.Core.Path.{◌≡◌, sym, ap, ◌∙◌}
 use Prim.Native.Nat.{ℕ, ◌+◌, ◌*◌, ◌/◌, ◌≤◌, ◌<◌}
 use native.Mathlib.Omega.{arith}
 use Rattle.image.proofs.Layouts.{begins}
-use Rattle.image.proofs.Planes.{short_holds, row_inside}
+use Rattle.image.proofs.Holding.{short_holds, row_inside}
 use Rattle.guided_across.specs.Inner.Luma.{luma_run}
 use Rattle.guided_across.proofs.Areas.{luma_none, byte_cells}
 use Rattle.image.specs.Samples.{plane_of}

@@ -5,7 +5,7 @@ use Prim.Native.Nat.{ℕ, ◌+◌, ◌-◌, ◌*◌, ◌≤◌, ◌<◌, min}
 use native.Mathlib.Omega.{arith}
 use lib.ListN.{length, get_or}
 use Rattle.guided_down.proofs.Wholes.{inner_are}
-use Rattle.image.proofs.Planes.{row_inside, short_holds}
+use Rattle.image.proofs.Holding.{row_inside, short_holds}
 use Rattle.image.specs.Samples.{plane_of}
 use Rattle.guided_down.proofs.extremes.extreme_inner.Goals as goal
 

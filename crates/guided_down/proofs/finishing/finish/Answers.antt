@@ -1,5 +1,6 @@
 use native.Mathlib.Omega.{arith}
-use Rattle.image.specs.Picture.{Planes, planes_of}
+use Rattle.image.specs.Picture.{planes_of}
+use Rattle.image.specs.Picture.{Planes}
 use Rattle.guided_down.proofs.DownSteps.{finish_cb, finish_both}
 use Rattle.guided_down.proofs.finishing.finish.Goals as goal
 

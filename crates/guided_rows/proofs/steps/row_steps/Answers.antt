@@ -1,5 +1,6 @@
 use Rattle.guided.specs.Calls.{done_f}
-use Rattle.image.specs.Picture.{Planes, picture_of, planes_of}
+use Rattle.image.specs.Picture.{picture_of, planes_of}
+use Rattle.image.specs.Picture.{Planes}
 use Rattle.guided_window.specs.Inner.Lent.{components_of}
 use Rattle.guided.specs.Scratch.{catch_up, row_steps}
 use Rattle.guided_pixels.specs.Inner.Row.{window_row}

@@ -1,4 +1,4 @@
-use Rattle.image.proofs.Planes.{short_holds, sample_inside}
+use Rattle.image.proofs.Holding.{short_holds, sample_inside}
 use Rattle.image.specs.Samples.{sample_at, plane_of}
 use Prim.Native.Nat.{◌+◌, ◌*◌, ◌≤◌}
 use native.Mathlib.Omega.{arith}

@@ -1,26 +1,28 @@
-use mathlib.Core.Path.{◌≡◌, ◌∙◌}
-use Rattle.image.specs.Samples.{Plane}
+-- The rectangle is trimmed first, so that the four parts round it lie in the planes.
+use Rattle.image.specs.declared.layout.Layout.{Layout}
 use Rattle.image.specs.declared.rectangle.Rectangle.{Rectangle}
+use Rattle.image.specs.Rectangles.{past_cells}
 use Rattle.image.specs.Inner.Differences.{InCells, trimmed_of}
-use Rattle.image.proofs.Blocks.{outside_is, trimmed_in, trimmed_outside}
+use Rattle.image.specs.Samples.{seen}
+use Rattle.image.proofs.Blocks.{trimmed_in, parts_are, first_says, second_says}
+use Rattle.std.proofs.Common.{◌≡◌, false}
 use Rattle.image.proofs.differences.cells_differ.Goals as goal
 
+inner : (l : Layout) (cells t : Rectangle) → past_cells l cells ≡ false → t ≡ trimmed_of cells → InCells l t
+inner l cells t e q = rw q (trimmed_in l cells e)
+
 pub rows_differ-rows-requires : goal.rows_differ-rows-requires
-rows_differ-rows-requires c =
-    let inner : (r : Rectangle) → r ≡ trimmed_of c.args.cells → InCells c.args.layout r = λ r e. rw e (trimmed_in c.args.layout c.args.cells c.requires.3) in
-    (c.requires.0, c.requires.1, c.requires.2, inner c.trimmed-inner.result c.trimmed-inner.ensures)
+rows_differ-rows-requires c = (c.requires.0, c.requires.1, c.requires.2, inner _ _ _ c.requires.3 c.trimmed-inner.ensures)
 
 pub sides_differ-sides-requires : goal.sides_differ-sides-requires
-sides_differ-sides-requires c =
-    let inner : (r : Rectangle) → r ≡ trimmed_of c.args.cells → InCells c.args.layout r = λ r e. rw e (trimmed_in c.args.layout c.args.cells c.requires.3) in
-    (c.requires.0, c.requires.1, c.requires.2, inner c.trimmed-inner.result c.trimmed-inner.ensures)
+sides_differ-sides-requires c = (c.requires.0, c.requires.1, c.requires.2, inner _ _ _ c.requires.3 c.trimmed-inner.ensures)
 
-pub returns : goal.returns
-returns c =
-    let first : Plane = record { bytes = c.args.p.now; stride = c.args.p_stride } in
-    let second : Plane = record { bytes = c.args.q.now; stride = c.args.q_stride } in
-    let inner : (r : Rectangle) → r ≡ trimmed_of c.args.cells → InCells c.args.layout r = λ r e. rw e (trimmed_in c.args.layout c.args.cells c.requires.3) in
+pub returns-then-rows : goal.returns-then-rows
+returns-then-rows c =
     let a = c.args in
-    let t = c.trimmed-inner in
-    rw (c.either.ensures, c.sides_differ-sides.ensures, c.rows_differ-rows.ensures)
-    (outside_is a.layout t.result first second (inner t.result t.ensures) ∙ rw t.ensures (trimmed_outside a.layout a.cells first second))
+    first_says _ _ _ c.if-rows.true (parts_are a.layout a.cells _ (seen a.p) (seen a.q) _ _ c.requires.3 c.trimmed-inner.ensures c.rows_differ-rows.ensures c.sides_differ-sides.ensures)
+
+pub returns-else-rows : goal.returns-else-rows
+returns-else-rows c =
+    let a = c.args in
+    second_says _ _ _ c.if-rows.false (parts_are a.layout a.cells _ (seen a.p) (seen a.q) _ _ c.requires.3 c.trimmed-inner.ensures c.rows_differ-rows.ensures c.sides_differ-sides.ensures)

@@ -1,8 +1,46 @@
-use mathlib.Core.Path.{sym}
-use Rattle.image.proofs.Any.{above_none}
+use mathlib.Core.Path.{refl, sym, ◌∙◌}
+use Prim.Native.Nat.{◌+◌, ◌*◌, ◌≤◌}
+use native.Mathlib.Omega.{arith}
+use lib.ListN.{length}
+use Rattle.image.specs.Samples.{seen}
+use Rattle.image.specs.Limits.{any_of}
+use Rattle.image.proofs.Holding.{short_holds, row_inside}
+use Rattle.image.proofs.Any.{above_none, rows_found, rows_none, rows_more}
 use Rattle.image.proofs.limits.plane_above.Goals as goal
+
+pub loop-y-init : goal.loop-y-init
+unfolding any_of
+loop-y-init c =
+    refl
+
+pub overflow_mul-y : goal.overflow_mul-y
+overflow_mul-y c =
+    let inside : (let a = c.args in c.loop-y.y * a.plane.stride + a.w * a.layout.sample_bytes ≤ length a.plane.bytes.now) = let a = c.args in
+    row_inside (short_holds a.layout a.w a.h (seen a.plane) c.requires.2) c.loop-y.y c.loop-y-test.true in
+    omega (arith, inside)
+
+pub row_above-requires : goal.row_above-requires
+row_above-requires c =
+    let inside : (let a = c.args in c.loop-y.y * a.plane.stride + a.w * a.layout.sample_bytes ≤ length a.plane.bytes.now) = let a = c.args in
+    row_inside (short_holds a.layout a.w a.h (seen a.plane) c.requires.2) c.loop-y.y c.loop-y-test.true in
+    (c.requires.0, c.requires.1, inside)
+
+pub returns-then-row_above : goal.returns-then-row_above
+returns-then-row_above c =
+    let a = c.args in
+    rows_found a.layout a.w a.h (seen a.plane) c.loop-y.y c.loop-y-test.true (sym c.row_above.ensures ∙ c.if-row_above.true)
+
+pub loop-y-preserved : goal.loop-y-preserved
+loop-y-preserved c =
+    let a = c.args in
+    rows_more a.layout a.w a.h (seen a.plane) c.loop-y.y c.loop-y.invariant (sym c.row_above.ensures ∙ c.if-row_above.false)
+
+pub returns : goal.returns
+returns c =
+    let a = c.args in
+    rows_none a.layout a.w a.h (seen a.plane) c.loop-y.y (omega arith) c.loop-y.invariant
 
 pub returns-then-most-layout : goal.returns-then-most-layout
 returns-then-most-layout c =
     let a = c.args in
-    sym (above_none a.layout a.w a.h (record { bytes = a.plane.now; stride = a.stride }) (λ i. (c.type_inv.plane i).fits) (rw (sym c.most.ensures) c.if-most-layout.true))
+    sym (above_none a.layout a.w a.h (seen a.plane) a.plane.fit (rw (sym c.most.ensures) c.if-most-layout.true))

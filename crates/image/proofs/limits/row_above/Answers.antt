@@ -9,7 +9,7 @@ most_byte-requires c =
 
 pub returns-then-sample_bytes-eq1 : goal.returns-then-sample_bytes-eq1
 returns-then-sample_bytes-eq1 c =
-    rw (c.from_byte.ensures, c.most_byte.ensures) (row_bytes_is _ _ _ _ _ c.if-sample_bytes-eq1.true)
+    rw (c.from.ensures, c.most_byte.ensures) (row_bytes_is _ _ _ _ _ c.if-sample_bytes-eq1.true)
 
 pub most_word-requires : goal.most_word-requires
 most_word-requires c =
@@ -19,4 +19,4 @@ most_word-requires c =
 pub returns : goal.returns
 returns c =
     let two : c.args.sample_bytes ≡ 2 = omega (arith, c.if-sample_bytes-eq1.false, c.requires.0, c.requires.1) in
-    rw (c.from_word.ensures, c.most_word.ensures) (row_words _ _ _ _ _ two)
+    rw (c.from-2.ensures, c.most_word.ensures) (row_words _ _ _ _ _ two)

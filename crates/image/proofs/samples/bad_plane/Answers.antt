@@ -3,7 +3,7 @@ use Prim.Native.Nat.{ℕ, ◌-◌, ◌*◌}
 use native.Mathlib.Omega.{arith}
 use lib.Dec.{ltb}
 use borrow.Author.Tests.{ltb-false}
-use Rattle.image.proofs.Planes.{stride_below, first_short, last_short}
+use Rattle.image.proofs.Holding.{stride_below, first_short, last_short}
 use Rattle.image.proofs.samples.bad_plane.Goals as goal
 
 pub returns-then-product_passes : goal.returns-then-product_passes

@@ -4,7 +4,7 @@ use mathlib.Core.Path.{ap, ◌∙◌}
 use Prim.Native.Nat.{◌+◌, ◌*◌, ◌≤◌}
 use Rattle.image.specs.Samples.{Plane, plane_of}
 use Rattle.taps.proofs.Spots.{own_cell}
-use Rattle.image.proofs.Planes.{short_holds, row_inside}
+use Rattle.image.proofs.Holding.{short_holds, row_inside}
 use Rattle.linear.specs.Linear.{linear_cells_at}
 use Rattle.image.specs.Scratch.{scratch_need}
 use Rattle.linear.specs.Inner.AcrossRows.{across_run}
