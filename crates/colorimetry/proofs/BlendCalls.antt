@@ -6,8 +6,8 @@ use mathlib.Core.List.{List}
 use Prim.Native.Nat.{ℕ, ◌*◌, ◌≤◌}
 use lib.Ieee.{Float}
 use lib.ListN.{length}
-use Rattle.laws.specs.declared.answers.Answer.{Answer}
-use Rattle.laws.specs.declared.answers.Answer.TheVariants.{Accepted}
+use Rattle.laws.specs.Refusals.{Answer}
+use Rattle.std.specs.Prelude.{Ok, Err}
 use Rattle.laws.specs.Refusals.{accepted, first}
 use Rattle.laws.specs.Lists.{put}
 use Rattle.laws.proofs.Refusals.{Asked, kept, made, passed, accepted_failed}
@@ -48,7 +48,7 @@ length_given k r s out g =
 -- ---- the late row, mixed over what stands in out
 
 pub late_given : (k : ℕ) (s : Side) (y : ℕ) (out room : List ℕ) (r : Reply) (scratch : List Float) (late out' : List ℕ)
-    → first (rgb_row_tests (rgb_row_call y s out)) ≡ Accepted → s.reader.geometry.w * 3 ≤ length late → RgbRowGiven (rgb_row_call y s room) r scratch late
+    → first (rgb_row_tests (rgb_row_call y s out)) ≡ Ok tt → s.reader.geometry.w * 3 ≤ length late → RgbRowGiven (rgb_row_call y s room) r scratch late
     → out' ≡ put out 0 (s.reader.geometry.w * 3) (mixed_at k out late) → LateGiven k s y out r.reader scratch out'
 late_given k s y out room r scratch late out' p l g m =
     let f = side_fine (rgb_row_call y s out) (accepted_failed _ p) in

@@ -10,8 +10,8 @@ use native.Mathlib.Omega.{arith}
 use lib.Dec.{ltb}
 use lib.ListN.{length, get_or}
 use borrow.Author.Tests.{ltb-false, lt-ltb}
-use Rattle.laws.specs.declared.answers.Answer.{Answer}
-use Rattle.laws.specs.declared.answers.Answer.TheVariants.{Accepted}
+use Rattle.laws.specs.Refusals.{Answer}
+use Rattle.std.specs.Prelude.{Ok, Err}
 use Rattle.laws.specs.Refusals.{first, accepted}
 use Rattle.laws.proofs.Limits.{neither, within}
 use Rattle.laws.proofs.Refusals.{accepted_failed}
@@ -31,9 +31,9 @@ pub record PatchHanded (c : PatchCall) : Type 0 where
   pub across_end : c.rectangle.left + c.rectangle.width ≤ 65535
   pub down_end : c.rectangle.top + c.rectangle.height ≤ 65535
   pub room : c.w * c.h * 3 ≤ length c.rgb
-  pub passed : first (patch_tests c) ≡ Accepted
+  pub passed : first (patch_tests c) ≡ Ok tt
 
-pub patch_handed : (c : PatchCall) → first (patch_tests c) ≡ Accepted → PatchHanded c
+pub patch_handed : (c : PatchCall) → first (patch_tests c) ≡ Ok tt → PatchHanded c
 unfolding patch_tests bad_sides passes passes_end
 patch_handed c e =
     let f = accepted_failed (patch_tests c) e in

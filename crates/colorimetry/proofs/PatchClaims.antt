@@ -11,7 +11,7 @@ use lib.Dec.{T, ltb}
 use lib.Ieee.{Float, binary64}
 use lib.Ieee.Bits.{is_true}
 use borrow.Author.Tests.{lt-ltb}
-use Rattle.laws.specs.declared.answers.Answer.{Answer}
+use Rattle.laws.specs.Refusals.{Answer}
 use Rattle.laws.specs.Refusals.{first, accepted}
 use Rattle.laws.proofs.Refusals.{accepted_is}
 use Rattle.laws.proofs.Sums.{sum_same, sum_within}
@@ -22,6 +22,7 @@ use Rattle.colorimetry.specs.Patches.{PatchCall, channel_at, shared_of, across_o
 use Rattle.colorimetry.specs.PatchClaims.{Shared, Bytes, with_rgb, too_short, PatchClaims}
 use Rattle.colorimetry.proofs.Handed.{PatchHanded, patch_handed, count_most, factor_some}
 use Rattle.colorimetry.proofs.Means.{whole_within, mean_once, mean_within}
+use Rattle.laws.specs.declared.refusal.Refusal.TheVariants.{BadSize, ShortOutput, BadRectangle}
 
 -- ---- the shared pixels
 
@@ -91,7 +92,7 @@ module _ (c : PatchCall) (rgb : List ℕ) (h : (k y x : ℕ) → k < 3 → Share
 
   tests_alike : too_short c ≡ too_short (with_rgb c rgb) → first (patch_tests c) ≡ first (patch_tests (with_rgb c rgb))
   unfolding patch_tests
-  tests_alike e = ap (λ (b : Bool). first ((bad_sides c.w c.h, 2) ∷ (passes_end c.rectangle, 19) ∷ (b, 10) ∷ [])) e
+  tests_alike e = ap (λ (b : Bool). first ((bad_sides c.w c.h, BadSize) ∷ (passes_end c.rectangle, BadRectangle) ∷ (b, ShortOutput) ∷ [])) e
 
   given_alike : (r s : Patched) → PatchGiven c r → PatchGiven (with_rgb c rgb) s → too_short c ≡ too_short (with_rgb c rgb) → r ≡ s
   unfolding has_mean

@@ -9,8 +9,8 @@ use native.Mathlib.Omega.{arith}
 use lib.Dec.{ltb, eqb}
 use lib.ListN.{length}
 use borrow.Author.Tests.{ltb-true}
-use Rattle.laws.specs.declared.answers.Answer.{Answer}
-use Rattle.laws.specs.declared.answers.Answer.TheVariants.{Refused}
+use Rattle.laws.specs.Refusals.{Answer}
+use Rattle.std.specs.Prelude.{Ok, Err}
 use Rattle.laws.specs.Refusals.{first, accepted}
 use Rattle.laws.proofs.Limits.{neither, within}
 use Rattle.laws.proofs.Refusals.{refused_here, passed_over}
@@ -22,6 +22,7 @@ use Rattle.colorimetry.specs.Patches.{PatchCall, count_of, patch_tests, has_mean
 use Rattle.colorimetry.specs.Charts.{ChartCall, shades_of, shade_off, candidate_off, bad_chart, chart_tests, whole_colour, has_reading, nearest_of, between_of, ChartGiven}
 use Rattle.colorimetry.specs.Inner.Search.{Least}
 use Rattle.colorimetry.proofs.Least.{least_is}
+use Rattle.laws.specs.declared.refusal.Refusal.TheVariants.{BadChart}
 
 -- ---- a good chart
 
@@ -69,12 +70,12 @@ none_given : (c : ChartCall) (r : ChartReading) (a : Answer) → r ≡ record { 
     → a ≡ first (chart_tests c) → has_reading c ≡ false → ChartGiven c r
 none_given c r a q e f = rw q (record { answers = e; shade = rw f refl; mix = rw f refl; shade_off_is = rw f refl; mix_off_is = rw f refl; wholes = rw f refl; count = rw f refl })
 
-pub chart_refused : (c : ChartCall) (r : ChartReading) → r ≡ record { answer = Refused 20; nearest = N.Nothing; between = B.Nothing; nearest_off = 0; between_off = 0; whole = 0 ∷ 0 ∷ 0 ∷ []; pixels = 0 }
+pub chart_refused : (c : ChartCall) (r : ChartReading) → r ≡ record { answer = Err BadChart; nearest = N.Nothing; between = B.Nothing; nearest_off = 0; between_off = 0; whole = 0 ∷ 0 ∷ 0 ∷ []; pixels = 0 }
     → bad_chart (length c.chart) ≡ true → ChartGiven c r
 unfolding has_reading chart_tests
 chart_refused c r q b =
     let e = refused_here (bad_chart (length c.chart)) 20 (patch_tests c.patch) b in
-    none_given c r (Refused 20) q (sym e) (ap (λ (a : Answer). accepted a && ltb 0 (count_of c.patch)) e)
+    none_given c r (Err BadChart) q (sym e) (ap (λ (a : Answer). accepted a && ltb 0 (count_of c.patch)) e)
 
 pub chart_nothing : (c : ChartCall) (r : ChartReading) (p : Patched) → PatchGiven c.patch p → bad_chart (length c.chart) ≡ false → p.pixels ≡ 0
     → r ≡ record { answer = p.answer; nearest = N.Nothing; between = B.Nothing; nearest_off = 0; between_off = 0; whole = 0 ∷ 0 ∷ 0 ∷ []; pixels = 0 } → ChartGiven c r

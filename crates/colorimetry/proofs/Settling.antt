@@ -8,8 +8,8 @@ use native.Mathlib.Omega.{arith}
 use lib.Dec.{leb, ltb, eqb}
 use lib.ListN.{length}
 use borrow.Author.Tests.{eqb-true, ne_eqb, not-false}
-use Rattle.laws.specs.declared.answers.Answer.{Answer}
-use Rattle.laws.specs.declared.answers.Answer.TheVariants.{Accepted, Refused}
+use Rattle.laws.specs.Refusals.{Answer}
+use Rattle.std.specs.Prelude.{Ok, Err}
 use Rattle.laws.specs.Refusals.{Test, first, pick_answer}
 use Rattle.laws.proofs.Limits.{neither}
 use Rattle.image.specs.Picture.{bad_planes}
@@ -21,19 +21,20 @@ use Rattle.reconstruction.specs.Reader.{RgbRowCall}
 use Rattle.reconstruction.specs.Refusals.{rgb_row_tests}
 use Rattle.colorimetry.specs.Inner.Settled.{is_state, lower_than, lower_of, settled}
 use Rattle.colorimetry.specs.Blends.{BlendCall, same_geometry, unlike_of, blend_tests}
+use Rattle.laws.specs.declared.refusal.Refusal.TheVariants.{BadState, BadPlane, ShortScratch, ShortOutput, BadRow, RowPassed, Unlike}
 
 -- ---- the lower of two answers
 
 -- no refusal below n
 abbrev Above : ℕ → Answer → Type 0
-Above n Accepted = Unit {0}
-Above n (Refused m) = n ≤ m
+Above n (Ok tt) = Unit {0}
+Above n (Err m) = n ≤ m
 
 above_weak : (n m : ℕ) (x : Answer) → n ≤ m → Above m x → Above n x
-above_weak n m Accepted h a = tt
-above_weak n m (Refused k) h a = omega arith
+above_weak n m (Ok tt) h a = tt
+above_weak n m (Err k) h a = omega arith
 
-above_pick : (b : Bool) (m : ℕ) (x : Answer) (n : ℕ) → n ≤ m → Above m x → Above n (pick_answer b (Refused m) x)
+above_pick : (b : Bool) (m : ℕ) (x : Answer) (n : ℕ) → n ≤ m → Above m x → Above n (pick_answer b (Err m) x)
 above_pick true m x n h a = h
 above_pick false m x n h a = above_weak n m x h a
 
@@ -47,16 +48,16 @@ unfolding first
 above_first [] n a = tt
 above_first (t ∷ ts) n a = above_pick t.0 t.1 (first ts) n (let h = a.0 in omega arith) (above_first ts t.1 a.1)
 
-lower_left : (n : ℕ) (y : Answer) → Above n y → lower_than n y ≡ Refused n
-lower_left n Accepted a = refl
-lower_left n (Refused m) a = let e : min n m ≡ n = omega arith in ap Refused e
+lower_left : (n : ℕ) (y : Answer) → Above n y → lower_than n y ≡ Err n
+lower_left n (Ok tt) a = refl
+lower_left n (Err m) a = let e : min n m ≡ n = omega arith in ap Err e
 
-lower_right : (n : ℕ) (x : Answer) → Above n x → lower_of x (Refused n) ≡ Refused n
-lower_right n Accepted a = refl
-lower_right n (Refused m) a = let e : min m n ≡ n = omega arith in ap Refused e
+lower_right : (n : ℕ) (x : Answer) → Above n x → lower_of x (Err n) ≡ Err n
+lower_right n (Ok tt) a = refl
+lower_right n (Err m) a = let e : min m n ≡ n = omega arith in ap Err e
 
-lower_pick : (b d : Bool) (n : ℕ) (x y : Answer) → Above n x → Above n y → lower_of (pick_answer b (Refused n) x) (pick_answer d (Refused n) y) ≡ pick_answer (b || d) (Refused n) (lower_of x y)
-lower_pick true true n x y p q = let e : min n n ≡ n = omega arith in ap Refused e
+lower_pick : (b d : Bool) (n : ℕ) (x y : Answer) → Above n x → Above n y → lower_of (pick_answer b (Err n) x) (pick_answer d (Err n) y) ≡ pick_answer (b || d) (Err n) (lower_of x y)
+lower_pick true true n x y p q = let e : min n n ≡ n = omega arith in ap Err e
 lower_pick true false n x y p q = lower_left n y q
 lower_pick false true n x y p q = lower_right n x p
 lower_pick false false n x y p q = refl
@@ -79,18 +80,18 @@ lower_first [] [] n m a b h = refl
 lower_first [] (u ∷ us) n m a b h = absurd h
 lower_first (t ∷ ts) [] n m a b h = absurd h
 lower_first (t ∷ ts) (u ∷ us) n m a b h =
-    ap (λ (k : ℕ). lower_of (pick_answer t.0 (Refused t.1) (first ts)) (pick_answer u.0 (Refused k) (first us))) h.0
+    ap (λ (k : ℕ). lower_of (pick_answer t.0 (Err t.1) (first ts)) (pick_answer u.0 (Err k) (first us))) h.0
     ∙ lower_pick t.0 u.0 t.1 (first ts) (first us) (above_first ts t.1 a.1) (above_weak t.1 u.1 (first us) (let e = h.0 in omega arith) (above_first us u.1 b.1))
-    ∙ ap (pick_answer (t.0 || u.0) (Refused t.1)) (lower_first ts us t.1 u.1 a.1 b.1 h.1)
+    ∙ ap (pick_answer (t.0 || u.0) (Err t.1)) (lower_first ts us t.1 u.1 a.1 b.1 h.1)
 
 -- ---- 1, 22, then the rest
 
 later : (x : Answer) → Above 2 x → is_state x ≡ false
-later Accepted a = refl
-later (Refused m) a = ne_eqb m 1 (λ e. omega arith)
+later (Ok tt) a = refl
+later (Err m) a = ne_eqb m 1 (λ e. omega arith)
 
 settle_cases : (e f u : Bool) (x y z : Answer) → Above 2 x → Above 2 y → (u ≡ false → lower_of x y ≡ z)
-    → settled (pick_answer e (Refused 1) x) (pick_answer f (Refused 1) y) u ≡ pick_answer (e || f) (Refused 1) (pick_answer u (Refused 22) z)
+    → settled (pick_answer e (Err BadState) x) (pick_answer f (Err BadState) y) u ≡ pick_answer (e || f) (Err BadState) (pick_answer u (Err Unlike) z)
 unfolding settled
 settle_cases true f u x y z p q g = refl
 settle_cases false true u x y z p q g = rw (later x p) refl
@@ -120,8 +121,8 @@ abbrev rest : RgbRowCall → List Test
 rest c =
     let s = c.side in
     let l = reader_layout s.reader in
-    (bad_planes l s.planes, 7) ∷ (ltb (length s.scratch) (scratch_need l), 9)
-    ∷ (ltb (length c.out) (l.w * 3), 10) ∷ (leb l.h c.y, 11) ∷ (ltb c.y s.reader.place, 12) ∷ []
+    (bad_planes l s.planes, BadPlane) ∷ (ltb (length s.scratch) (scratch_need l), ShortScratch)
+    ∷ (ltb (length c.out) (l.w * 3), ShortOutput) ∷ (leb l.h c.y, BadRow) ∷ (ltb c.y s.reader.place, RowPassed) ∷ []
 
 rises : (c : RgbRowCall) → Rising 2 (rest c)
 rises c = (omega arith, (omega arith, (omega arith, (omega arith, (omega arith, tt)))))
@@ -133,9 +134,9 @@ twice false d e = e
 lower_rest : (c : BlendCall) → unlike_of c.early.reader.geometry c.late.reader.geometry c.weight ≡ false → lower_of (first (rest (early_call c))) (first (rest (late_call c)))
     ≡ (let l = reader_layout c.early.reader in
     let m = reader_layout c.late.reader in
-    first ((bad_planes l c.early.planes || bad_planes m c.late.planes, 7)
-    ∷ (ltb (length c.early.scratch) (scratch_need l) || ltb (length c.late.scratch) (scratch_need m), 9)
-    ∷ (ltb (length c.out) (l.w * 3), 10) ∷ (leb l.h c.y, 11) ∷ (ltb c.y c.early.reader.place || ltb c.y c.late.reader.place, 12) ∷ []))
+    first ((bad_planes l c.early.planes || bad_planes m c.late.planes, BadPlane)
+    ∷ (ltb (length c.early.scratch) (scratch_need l) || ltb (length c.late.scratch) (scratch_need m), ShortScratch)
+    ∷ (ltb (length c.out) (l.w * 3), ShortOutput) ∷ (leb l.h c.y, BadRow) ∷ (ltb c.y c.early.reader.place || ltb c.y c.late.reader.place, RowPassed) ∷ []))
 unfolding reader_layout
 lower_rest c e =
     let g = c.early.reader.geometry in

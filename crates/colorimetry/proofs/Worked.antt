@@ -7,8 +7,9 @@ use lib.Ieee.{binary64, of_bits, of_fields, of_int, div, round, size, span, clim
 use lib.Count.{count_trailing_zeros}
 use Rattle.laws.specs.Refusals.{first}
 use Rattle.laws.specs.Sums.{sum_to}
-use Rattle.laws.specs.declared.answers.Answer.TheVariants.{Accepted, Refused}
+use Rattle.std.specs.Prelude.{Ok, Err}
 use Rattle.colorimetry.specs.Patches.{PatchCall, patch_call, channel_at, shared_of, count_of, channel_sum, mean_of, channel_mean, whole_mean, bad_sides, passes, passes_end, patch_tests, has_mean}
+use Rattle.laws.specs.declared.refusal.Refusal.TheVariants.{BadSize, BadRectangle}
 
 -- the first width columns of one row of three pixels, (0, 254, 0), (1, 255, 0) and (1, 255, 1), from column left on
 strip : ℕ → ℕ → PatchCall
@@ -30,18 +31,18 @@ unfolding strip channel_sum channel_at shared_of sum_to has_mean first patch_tes
 last = (refl, refl, refl)
 
 -- a rectangle beside the picture shares no pixel, and nor does one with no column
-beside : (first (patch_tests (strip 3 9)) ≡ Accepted) × (has_mean (strip 3 9) ≡ false) × (has_mean (strip 1 0) ≡ false)
+beside : (first (patch_tests (strip 3 9)) ≡ Ok tt) × (has_mean (strip 3 9) ≡ false) × (has_mean (strip 1 0) ≡ false)
 unfolding strip shared_of has_mean first patch_tests bad_sides passes_end passes
 beside = (refl, refl, refl)
 
 -- an end of 65,535 is accepted, one more is 19, before 10 and after 2
-ends : (first (patch_tests (strip 65000 535)) ≡ Accepted) × (first (patch_tests (strip 65000 536)) ≡ Refused 19)
+ends : (first (patch_tests (strip 65000 535)) ≡ Ok tt) × (first (patch_tests (strip 65000 536)) ≡ Err BadRectangle)
 unfolding strip first patch_tests bad_sides passes_end passes
 ends = (refl, refl)
 
 order : ℕ → PatchCall
 order w = patch_call (record { left = 0; top = 65536; width = 1; height = 0 }) w 1 []
 
-two_first : (first (patch_tests (order 0)) ≡ Refused 2) × (first (patch_tests (order 8192)) ≡ Refused 19) × (first (patch_tests (order 8193)) ≡ Refused 2)
+two_first : (first (patch_tests (order 0)) ≡ Err BadSize) × (first (patch_tests (order 8192)) ≡ Err BadRectangle) × (first (patch_tests (order 8193)) ≡ Err BadSize)
 unfolding order first patch_tests bad_sides passes_end passes
 two_first = (refl, refl, refl)

@@ -9,7 +9,7 @@ use Prim.Native.Nat.{ℕ}
 use lib.Dec.{lit<}
 use lib.ListN.{length, replicate}
 use lib.Ieee.{Float, nan}
-use Rattle.laws.specs.declared.answers.Answer.TheVariants.{Accepted, Refused}
+use Rattle.std.specs.Prelude.{Ok, Err}
 use Rattle.laws.specs.Refusals.{first, accepted}
 use Rattle.laws.proofs.Refusals.{failed_accepted, refused_here, passed_over}
 use Rattle.image.specs.Tests.{bad_plane}
@@ -31,6 +31,7 @@ use Rattle.colorimetry.specs.Mixes.{mix_of, mix_colour}
 use Rattle.colorimetry.specs.Blends.{BlendCall, blend_call, same_range, same_geometry, unlike_of, blend_tests, blend_colour, BlendGiven}
 use Rattle.colorimetry.specs.BlendClaims.{early_event, late_event}
 use Rattle.colorimetry.proofs.BlendClaims.{blend_claims}
+use Rattle.laws.specs.declared.refusal.Refusal.TheVariants.{Unlike}
 
 -- ---- what a blend gives, by its contract
 
@@ -150,27 +151,27 @@ late_long : length late1.scratch ≡ 80
 unfolding row_of
 late_long = length_scratch (row_of late0 0)
 
-late_down_answer : first (seek_tests late_down) ≡ Accepted
+late_down_answer : first (seek_tests late_down) ≡ Ok tt
 unfolding seek_tests after_open reader_at geometry_of
 late_down_answer = failed_accepted (seek_tests late_down) (state0, (refl, tt))
 
-late_back_answer : first (seek_tests late_back) ≡ Accepted
+late_back_answer : first (seek_tests late_back) ≡ Ok tt
 unfolding seek_tests after_open after_seek reader_at geometry_of
 late_back_answer = failed_accepted (seek_tests late_back) (down_passes, (refl, tt))
 
-early_down_answer : first (seek_tests early_down) ≡ Accepted
+early_down_answer : first (seek_tests early_down) ≡ Ok tt
 unfolding seek_tests after_open after_row reader_at geometry_of
 early_down_answer = failed_accepted (seek_tests early_down) (early1_passes, (refl, tt))
 
-blend0_answer : first (blend_tests blend0) ≡ Accepted
+blend0_answer : first (blend_tests blend0) ≡ Ok tt
 unfolding blend_tests unlike_of same_geometry same_range after_open after_seek reader_at geometry_of reader_layout bad_plane short_plane bad_planes scratch_need
 blend0_answer = failed_accepted (blend_tests blend0) (both_pass early0.reader late0.reader state0 back_passes, (refl, (refl, (refl, (refl, (refl, (refl, tt)))))))
 
-too_heavy_answer : first (blend_tests too_heavy) ≡ Refused 22
+too_heavy_answer : first (blend_tests too_heavy) ≡ Err Unlike
 unfolding blend_tests unlike_of same_geometry same_range after_open after_row after_seek reader_at geometry_of reader_layout
 too_heavy_answer = passed_over _ 1 _ (both_pass early1.reader late1.reader early1_passes late1_passes) ∙ refused_here _ 22 _ refl
 
-blend1_answer : first (blend_tests blend1) ≡ Accepted
+blend1_answer : first (blend_tests blend1) ≡ Ok tt
 unfolding blend_tests unlike_of same_geometry same_range after_open after_row after_seek reader_at geometry_of reader_layout bad_plane short_plane bad_planes scratch_need
 blend1_answer = failed_accepted (blend_tests blend1) (both_pass early2.reader late1.reader early2_passes late1_passes, (refl, (refl, (rw (early_long, late_long) refl, (refl, (refl, (refl, tt)))))))
 

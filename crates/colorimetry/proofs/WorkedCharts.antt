@@ -5,10 +5,11 @@ use mathlib.Core.List.{List, [], ◌∷◌}
 use Prim.Native.Nat.{ℕ}
 use Rattle.laws.specs.Refusals.{first}
 use Rattle.laws.specs.Sums.{sum_to}
-use Rattle.laws.specs.declared.answers.Answer.TheVariants.{Refused}
+use Rattle.std.specs.Prelude.{Ok, Err}
 use Rattle.colorimetry.specs.Mixes.{mix_of}
 use Rattle.colorimetry.specs.Patches.{channel_at, shared_of, channel_sum, bad_sides, passes, passes_end, patch_tests}
 use Rattle.colorimetry.specs.Charts.{ChartCall, chart_call, shade_at, mix_at, square_of, distance, shade_off, mix_off, candidate_off, first_least, bad_chart, chart_tests, whole_colour, nearest_of, between_of}
+use Rattle.laws.specs.declared.refusal.Refusal.TheVariants.{BadSize, BadRectangle, BadChart}
 
 -- one pixel of three equal bytes on a chart
 grey : List ℕ → ℕ → ChartCall
@@ -45,6 +46,6 @@ lengths = (refl, refl, refl, refl, refl, refl, refl, refl, refl)
 order : List ℕ → ℕ → ChartCall
 order chart w = chart_call chart (record { left = 65536; top = 0; width = 0; height = 0 }) w 1 []
 
-twenty_first : (first (chart_tests (order [] 0)) ≡ Refused 20) × (first (chart_tests (order pair 0)) ≡ Refused 2) × (first (chart_tests (order pair 1)) ≡ Refused 19)
+twenty_first : (first (chart_tests (order [] 0)) ≡ Err BadChart) × (first (chart_tests (order pair 0)) ≡ Err BadSize) × (first (chart_tests (order pair 1)) ≡ Err BadRectangle)
 unfolding order pair chart_tests bad_chart first patch_tests bad_sides passes_end passes
 twenty_first = (refl, refl, refl)

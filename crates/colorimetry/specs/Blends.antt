@@ -11,6 +11,7 @@ use Rattle.image.specs.declared.layout.Range.TheVariants.{Full, Studio}
 use Rattle.guided.specs.declared.geometry.Geometry.{Geometry}
 use Rattle.colorimetry.specs.declared.blend.BlendReply.{BlendReply}
 use Rattle.colorimetry.specs.Mixes.{mix_colour}
+use Rattle.laws.specs.declared.refusal.Refusal.TheVariants.{BadState, BadPlane, ShortScratch, ShortOutput, BadRow, RowPassed, Unlike}
 
 -- "Take two pictures of equal geometry and a weight k from 0 to 16. One call gives one row of RGB .. from both readers"
 pub record BlendCall : Type 0 where
@@ -48,13 +49,13 @@ blend_tests c =
     let f = c.late in
     let l = reader_layout e.reader in
     let m = reader_layout f.reader in
-    (bad_state e.reader || bad_state f.reader, 1)
-    ∷ (unlike_of e.reader.geometry f.reader.geometry c.weight, 22)
-    ∷ (bad_planes l e.planes || bad_planes m f.planes, 7)
-    ∷ (ltb (length e.scratch) (scratch_need l) || ltb (length f.scratch) (scratch_need m), 9)
-    ∷ (ltb (length c.out) (l.w * 3), 10)
-    ∷ (leb l.h c.y, 11)
-    ∷ (ltb c.y e.reader.place || ltb c.y f.reader.place, 12) ∷ []
+    (bad_state e.reader || bad_state f.reader, BadState)
+    ∷ (unlike_of e.reader.geometry f.reader.geometry c.weight, Unlike)
+    ∷ (bad_planes l e.planes || bad_planes m f.planes, BadPlane)
+    ∷ (ltb (length e.scratch) (scratch_need l) || ltb (length f.scratch) (scratch_need m), ShortScratch)
+    ∷ (ltb (length c.out) (l.w * 3), ShortOutput)
+    ∷ (leb l.h c.y, BadRow)
+    ∷ (ltb c.y e.reader.place || ltb c.y f.reader.place, RowPassed) ∷ []
 
 -- ---- the promise
 

@@ -10,6 +10,7 @@ use Rattle.colorimetry.specs.declared.shade.Between.TheVariants as B
 use Rattle.colorimetry.specs.declared.shade.ChartReading.{ChartReading}
 use Rattle.colorimetry.specs.Mixes.{mix_of}
 use Rattle.colorimetry.specs.Patches.{PatchCall, patch_call, count_of, whole_mean, patch_tests}
+use Rattle.laws.specs.declared.refusal.Refusal.TheVariants.{BadChart}
 
 -- "a chart of 2 to 24 shades, three bytes each and no byte over, with a patch's rectangle and picture"
 pub record ChartCall : Type 0 where
@@ -67,7 +68,7 @@ bad_chart len = not (eqb (len % 3) 0) || outside_of 2 24 (len / 3)
 
 -- "gets 20, before anything else is looked at; the patch's refusals follow"
 unfoldable pub chart_tests : ChartCall → List Test
-chart_tests c = (bad_chart (length c.chart), 20) ∷ patch_tests c.patch
+chart_tests c = (bad_chart (length c.chart), BadChart) ∷ patch_tests c.patch
 
 -- ---- the promise
 

@@ -10,6 +10,7 @@ use Rattle.reconstruction.specs.Refusals.{Test, first, accepted}
 use Rattle.colorimetry.specs.declared.patch.Patch.{Patch}
 use Rattle.colorimetry.specs.declared.patch.Patch.TheVariants.{Mean, Nothing}
 use Rattle.colorimetry.specs.declared.patch.Patched.{Patched}
+use Rattle.laws.specs.declared.refusal.Refusal.TheVariants.{BadSize, ShortOutput, BadRectangle}
 
 -- "a rectangle (left, top, width, height in pixels) and a picture of RGB rows"
 pub record PatchCall : Type 0 where
@@ -72,7 +73,7 @@ passes_end r = passes r.left r.width || passes r.top r.height
 
 -- "refusal 2, looked at first"; 19, "checked before the RGB buffer's length, which keeps 10"
 unfoldable pub patch_tests : PatchCall → List Test
-patch_tests c = (bad_sides c.w c.h, 2) ∷ (passes_end c.rectangle, 19) ∷ (ltb (length c.rgb) (c.w * c.h * 3), 10) ∷ []
+patch_tests c = (bad_sides c.w c.h, BadSize) ∷ (passes_end c.rectangle, BadRectangle) ∷ (ltb (length c.rgb) (c.w * c.h * 3), ShortOutput) ∷ []
 
 -- ---- the promise
 

@@ -1,6 +1,6 @@
 -- What the calls for C promise: the Rattle calls' own records, of the values that C's stand for. Definitions only.
 use Rattle.std.specs.Prelude.{◌≡◌, Bool, true, false, ◌||◌, ℕ, eqb, ltb}
-use Rattle.laws.specs.declared.answers.Answer.{Answer}
+use Rattle.laws.specs.Refusals.{Answer}
 use Rattle.guided.specs.declared.state.Reply.{Reply}
 use Rattle.kernels.specs.declared.pixel.Pixel.{Pixel}
 use Rattle.kernels.specs.declared.pixel.Pixel.TheVariants as P
@@ -84,7 +84,7 @@ chroma_pixel_in range p = chroma_pixel (pick_pixel (ltb 1 range) (P.Refused 255)
 
 abbrev pub chroma_written : Outcome → ChromaWritten
 chroma_written (Written n) = record { refusal = 0; len = n }
-chroma_written (Refused k) = record { refusal = k; len = 0 }
+chroma_written (Err k) = record { refusal = k; len = 0 }
 
 -- what `chroma_picture` promises
 pub record Pictured (Given : Outcome → Type 0) (r : ChromaWritten) : Type 0 where

@@ -1,8 +1,8 @@
 -- What C's structs and numbers stand for. Definitions only.
 use Rattle.std.specs.Prelude.{Bool, true, false, ◌||◌, cond, [], ◌∷◌, ℕ, eqb, ltb, get_or}
 use Rattle.std.specs.Float.{nan}
-use Rattle.laws.specs.declared.answers.Answer.{Answer}
-use Rattle.laws.specs.declared.answers.Answer.TheVariants.{Accepted, Refused}
+use Rattle.laws.specs.Refusals.{Answer}
+use Rattle.std.specs.Prelude.{Ok, Err}
 use Rattle.laws.specs.declared.axes.Siting.{Siting}
 use Rattle.laws.specs.declared.axes.Siting.TheVariants.{Centred, CoSited}
 use Rattle.laws.specs.declared.axes.Axis.{Axis}
@@ -24,8 +24,8 @@ version = 0x00_0a00
 
 -- 0 for accepted, else the papers' number
 abbrev pub number_of : Answer → ℕ
-number_of Accepted = 0
-number_of (Refused n) = n
+number_of (Ok tt) = 0
+number_of (Err n) = n
 
 -- ---- layouts
 

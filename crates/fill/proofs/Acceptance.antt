@@ -3,7 +3,7 @@ use mathlib.Core.Path.{◌≡◌, subst}
 use Prim.Native.Nat.{◌*◌}
 use lib.ListN.{length}
 use borrow.Author.Tests.{ltb-false}
-use Rattle.laws.specs.declared.answers.Answer.TheVariants.{Accepted}
+use Rattle.std.specs.Prelude.{Ok, Err}
 use Rattle.laws.specs.Refusals.{first}
 use Rattle.laws.proofs.Refusals.{Failed, accepted_failed, failed_both}
 use Rattle.image.specs.Tests.{tests_for}
@@ -14,7 +14,7 @@ use Rattle.fill.specs.declared.options.ChromaUpsampling.{ChromaUpsampling}
 use Rattle.fill.specs.Tests.{FillCall, is_fixed, is_guided, fill_tests}
 use Rattle.fill.specs.Inner.Steps.{FillLent}
 
-pub ready : (c : FillCall) → first (fill_tests c) ≡ Accepted → FillLent c.upsampling c.layout c.planes c.size (length c.scratch) (length c.out)
+pub ready : (c : FillCall) → first (fill_tests c) ≡ Ok tt → FillLent c.upsampling c.layout c.planes c.size (length c.scratch) (length c.out)
 unfolding fill_tests bad_planes
 ready c e =
     let l = c.layout in

@@ -12,7 +12,7 @@ use lib.Dec.{ltb}
 use lib.ListN.{get_or}
 use lib.Ieee.{Float}
 use borrow.Author.Tests.{ltb-true, ltb-false}
-use Rattle.laws.specs.declared.answers.Answer.{Answer}
+use Rattle.laws.specs.Refusals.{Answer}
 use Rattle.laws.specs.Refusals.{accepted}
 use Rattle.laws.proofs.Refusals.{accepted_is}
 use Rattle.laws.proofs.Rows.{row_fits}

@@ -6,7 +6,7 @@ use Prim.Native.Nat.{ℕ, zero, suc, ◌+◌, ◌-◌, ◌≤◌, zero-le}
 use native.Mathlib.Nat.{le_refl}
 use lib.ListN.{get_or}
 use lib.Ieee.{Float, nan}
-use Rattle.laws.specs.declared.answers.Answer.{Answer}
+use Rattle.laws.specs.Refusals.{Answer}
 use Rattle.laws.specs.Refusals.{accepted}
 use Rattle.laws.proofs.Refusals.{accepted_is}
 use Rattle.image.specs.declared.chroma.Chroma.TheVariants.{Cb, Cr}

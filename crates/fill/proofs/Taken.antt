@@ -5,7 +5,7 @@ use mathlib.Core.List.{List, [], ◌∷◌, ◌++◌}
 use Prim.Native.Nat.{◌*◌}
 use lib.ListN.{length}
 use borrow.Author.Tests.{ltb-false}
-use Rattle.laws.specs.declared.answers.Answer.TheVariants.{Accepted}
+use Rattle.std.specs.Prelude.{Ok, Err}
 use Rattle.laws.specs.Refusals.{Test, first}
 use Rattle.laws.proofs.Refusals.{Failed, accepted_failed, failed_both}
 use Rattle.image.specs.declared.layout.Layout.{Layout}
@@ -24,6 +24,7 @@ use Rattle.fill.specs.Tests.{is_fixed}
 use Rattle.fill.specs.Inner.Steps.{FillLent}
 use Rattle.fill.specs.Refill.{RefillCall, refill_tests}
 use Rattle.fill.specs.Inner.Refill.{planes_tests, lent_tests}
+use Rattle.laws.specs.declared.refusal.Refusal.TheVariants.{OtherChange}
 
 pub record PlanesTaken (l : Layout) (ps qs : Planes) : Type 0 where
   pub sound : Sound l
@@ -67,7 +68,7 @@ lent_taken c e =
 
 -- the last test
 abbrev pub last : RefillCall → List Test
-last c = (other_change c.layout c.cells c.old c.new, 21) ∷ []
+last c = (other_change c.layout c.cells c.old c.new, OtherChange) ∷ []
 
 pub parts : (c : RefillCall) → refill_tests c ≡ lent_tests c ++ last c
 unfolding refill_tests lent_tests planes_tests tests_for
@@ -77,7 +78,7 @@ pub record RefillTaken (c : RefillCall) : Type 0 where
   pub rest : LentTaken c
   pub change : other_change c.layout c.cells c.old c.new ≡ false
 
-pub taken : (c : RefillCall) → first (refill_tests c) ≡ Accepted → RefillTaken c
+pub taken : (c : RefillCall) → first (refill_tests c) ≡ Ok tt → RefillTaken c
 taken c e =
     let f = failed_both (lent_tests c) (last c) (subst Failed (parts c) (accepted_failed (refill_tests c) e)) in
     record { rest = lent_taken c f.0; change = f.1.0 }

@@ -2,7 +2,7 @@
 use Rattle.std.specs.Prelude.{◌≡◌, Bool, true, ◌&&◌, ◌||◌, not, cond, List, [], ◌∷◌, ◌++◌, ℕ, zero, suc, ◌+◌, ◌-◌, ◌*◌, ◌/◌, min, leb, ltb, length, Float}
 use Rattle.laws.specs.Refusals.{Test, first, accepted}
 use Rattle.laws.specs.Numbers.{outside_of}
-use Rattle.laws.specs.declared.answers.Answer.{Answer}
+use Rattle.laws.specs.Refusals.{Answer}
 use Rattle.image.specs.declared.layout.Layout.{Layout}
 use Rattle.image.specs.declared.rectangle.Rectangle.{Rectangle}
 use Rattle.image.specs.Tests.{bad_siting, tests_for}
@@ -18,6 +18,7 @@ use Rattle.kernels.specs.declared.kernel.YcbcrKernel.{YcbcrKernel}
 use Rattle.fill.specs.Tests.{is_fixed}
 use Rattle.fill.specs.Fill.{fill_colour, fill_scratch}
 use Rattle.fill.specs.declared.options.ChromaUpsampling.TheVariants.{LumaGuided}
+use Rattle.laws.specs.declared.refusal.Refusal.TheVariants.{BadPlane, BadPixelSize, ShortScratch, ShortOutput, NotCentred, AboveMaxval, BadRectangle, OtherChange}
 
 -- what a refill is handed: "the old RGB picture, the planes before and after, the rectangle and guided fill's other arguments"; out is the old picture
 pub record RefillCall : Type 0 where
@@ -40,14 +41,14 @@ unfoldable pub refill_tests : RefillCall → List Test
 refill_tests c =
     let l = c.layout in
     tests_for true (is_fixed c.kernel) l
-    ++ ((bad_siting l, 16)
-    ∷ (bad_planes l c.old || bad_planes l c.new, 7)
-    ∷ (above_any l c.old || above_any l c.new, 17)
-    ∷ (outside_of 3 4 c.size, 8)
-    ∷ (ltb (length c.scratch) (scratch_need l), 9)
-    ∷ (past_cells l c.cells, 19)
-    ∷ (ltb (length c.out) (l.w * l.h * c.size), 10)
-    ∷ (other_change l c.cells c.old c.new, 21)
+    ++ ((bad_siting l, NotCentred)
+    ∷ (bad_planes l c.old || bad_planes l c.new, BadPlane)
+    ∷ (above_any l c.old || above_any l c.new, AboveMaxval)
+    ∷ (outside_of 3 4 c.size, BadPixelSize)
+    ∷ (ltb (length c.scratch) (scratch_need l), ShortScratch)
+    ∷ (past_cells l c.cells, BadRectangle)
+    ∷ (ltb (length c.out) (l.w * l.h * c.size), ShortOutput)
+    ∷ (other_change l c.cells c.old c.new, OtherChange)
     ∷ [])
 
 -- "the rows whose cell row is within two of it": picture row y has cell row y / rv, and some row of the rectangle is at most two from it. "An empty rectangle converts nothing."

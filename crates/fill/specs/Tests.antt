@@ -12,6 +12,7 @@ use Rattle.kernels.specs.declared.kernel.YcbcrKernel.{YcbcrKernel}
 use Rattle.kernels.specs.declared.kernel.YcbcrKernel.TheVariants.{Exact, FixedPoint16}
 use Rattle.fill.specs.declared.options.ChromaUpsampling.{ChromaUpsampling}
 use Rattle.fill.specs.declared.options.ChromaUpsampling.TheVariants.{Linear, LumaGuided}
+use Rattle.laws.specs.declared.refusal.Refusal.TheVariants.{BadPlane, BadPixelSize, ShortScratch, ShortOutput, NotCentred, AboveMaxval}
 
 -- what a fill is handed
 pub record FillCall : Type 0 where
@@ -41,4 +42,4 @@ unfoldable pub fill_tests : FillCall → List Test
 fill_tests c =
     let l = c.layout in
     tests_for (is_guided c.upsampling) (is_fixed c.kernel) l
-    ++ ((is_guided c.upsampling && bad_siting l, 16) ∷ (bad_planes l c.planes, 7) ∷ (above_any l c.planes, 17) ∷ (outside_of 3 4 c.size, 8) ∷ (ltb (length c.scratch) (scratch_need l), 9) ∷ (ltb (length c.out) (l.w * l.h * c.size), 10) ∷ [])
+    ++ ((is_guided c.upsampling && bad_siting l, NotCentred) ∷ (bad_planes l c.planes, BadPlane) ∷ (above_any l c.planes, AboveMaxval) ∷ (outside_of 3 4 c.size, BadPixelSize) ∷ (ltb (length c.scratch) (scratch_need l), ShortScratch) ∷ (ltb (length c.out) (l.w * l.h * c.size), ShortOutput) ∷ [])

@@ -9,7 +9,7 @@ use lib.Dec.{ltb}
 use lib.ListN.{length, get_or}
 use lib.Ieee.{Float}
 use borrow.Author.Tests.{le-ltb, lt-leb}
-use Rattle.laws.specs.declared.answers.Answer.TheVariants.{Accepted}
+use Rattle.std.specs.Prelude.{Ok, Err}
 use Rattle.laws.specs.Floats.{f32}
 use Rattle.laws.specs.Refusals.{first}
 use Rattle.laws.proofs.Refusals.{failed_accepted}
@@ -90,13 +90,13 @@ module _ (es : List Event) (ran : AllRan es) (premise : Premise Start es) (s : S
   room = ok.win.room.0
 
   -- a seek to any row of the picture is accepted
-  pub seek_accepted : (k : SeekCall) → k.reader ≡ s.reader → k.y < s.by.layout.h → first (seek_tests k) ≡ Accepted
+  pub seek_accepted : (k : SeekCall) → k.reader ≡ s.reader → k.y < s.by.layout.h → first (seek_tests k) ≡ Ok tt
   unfolding seek_tests reader_layout
   seek_accepted k e h = failed_accepted (seek_tests k) (rw e ok.state, (lt-leb k.reader.geometry.h k.y (subst (λ (l : Layout). k.y < l.h) (sym (ap reader_layout e ∙ ok.layout)) h), tt))
 
   -- a row call from the place to the last row, with room for its planes and outputs, is accepted
   pub row_accepted : (c : RowCall) → c.reader ≡ s.reader → c.scratch ≡ s.scratch → bad_planes s.by.layout c.planes ≡ false → s.by.layout.w ≤ length c.out_cb → s.by.layout.w ≤ length c.out_cr
-      → s.reader.place ≤ c.y → c.y < s.by.layout.h → first (row_tests c) ≡ Accepted
+      → s.reader.place ≤ c.y → c.y < s.by.layout.h → first (row_tests c) ≡ Ok tt
   unfolding row_tests
   row_accepted c er es planes cb cr onward below =
       let l = reader_layout c.reader in

@@ -10,7 +10,7 @@ use lib.Dec.{ltb, eqb}
 use lib.ListN.{length, get_or, replicate, length-replicate}
 use lib.Ieee.{nan}
 use borrow.Author.Tests.{le-ltb, lt-leb}
-use Rattle.laws.specs.declared.answers.Answer.TheVariants.{Accepted}
+use Rattle.std.specs.Prelude.{Ok, Err}
 use Rattle.laws.specs.Refusals.{first, accepted}
 use Rattle.laws.proofs.Refusals.{accepted_failed, accepted_is, failed_accepted, passed_early}
 use Rattle.image.specs.declared.layout.Layout.{Layout}
@@ -28,9 +28,9 @@ use Rattle.guided.proofs.LeftStates.{after_open_passes, after_seek_passes, after
 
 -- s is what an accepted open leaves, or an accepted seek or row in a state that was left
 pub data Left : Reader → Type 0 where
-  by_open : {s : Reader} (o : OpenCall) → first (open_tests o) ≡ Accepted → s ≡ after_open o.layout → Left s
-  by_seek : {s : Reader} (k : SeekCall) → Left k.reader → first (seek_tests k) ≡ Accepted → s ≡ after_seek k.reader k.y → Left s
-  by_row : {s : Reader} (c : RowCall) → Left c.reader → first (row_tests c) ≡ Accepted → s ≡ after_row c.reader c.y → Left s
+  by_open : {s : Reader} (o : OpenCall) → first (open_tests o) ≡ Ok tt → s ≡ after_open o.layout → Left s
+  by_seek : {s : Reader} (k : SeekCall) → Left k.reader → first (seek_tests k) ≡ Ok tt → s ≡ after_seek k.reader k.y → Left s
+  by_row : {s : Reader} (c : RowCall) → Left c.reader → first (row_tests c) ≡ Ok tt → s ≡ after_row c.reader c.y → Left s
 
 -- what is left passes
 pub left_passes : (s : Reader) → Left s → bad_state s ≡ false
@@ -102,7 +102,7 @@ module _ (t : Reader) (a : accepted (first (layout_tests false (reader_layout t)
   out_long : ltb (length (replicate l.w nan)) l.w ≡ false
   out_long = rw length-replicate (le-ltb l.w l.w (le_refl l.w))
 
-  open_accepted : (s : Reader) → first (open_tests (open_of l s)) ≡ Accepted
+  open_accepted : (s : Reader) → first (open_tests (open_of l s)) ≡ Ok tt
   unfolding open_tests
   open_accepted s = passed_early (layout_tests false l) _ a ∙ failed_accepted _ (centred, (blanks_long l, (blanks_within l, (scratch_long, tt))))
 
@@ -110,11 +110,11 @@ module _ (t : Reader) (a : accepted (first (layout_tests false (reader_layout t)
   after_open_left s = by_open (open_of l s) (open_accepted s) refl
 
   module _ (y : ℕ) (Y : y < l.h) where
-    seek_accepted : first (seek_tests (record { y = y; reader = after_open l })) ≡ Accepted
+    seek_accepted : first (seek_tests (record { y = y; reader = after_open l })) ≡ Ok tt
     unfolding seek_tests after_open reader_at geometry_of reader_layout
     seek_accepted = failed_accepted (seek_tests (record { y = y; reader = after_open l })) (after_open_state, (lt-leb l.h y Y, tt))
 
-    row_accepted : first (row_tests (row_of l y)) ≡ Accepted
+    row_accepted : first (row_tests (row_of l y)) ≡ Ok tt
     unfolding row_tests after_open reader_at geometry_of reader_layout
     row_accepted = failed_accepted (row_tests (row_of l y)) (after_open_state, (blanks_long l, (scratch_long, (rw out_long refl, (lt-leb l.h y Y, (le-ltb y 0 zero-le, tt))))))
 

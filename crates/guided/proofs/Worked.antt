@@ -10,7 +10,7 @@ use lib.Dec.{T, ltb, ltb→lt, lit<}
 use lib.ListN.{length, get_or, replicate}
 use lib.Ieee.{Float, nan, binary32, add, sub, sum, neg, mul, div, round, size, span, climb, units, odd, lt, of_int, of_bits, of_fields}
 use lib.Count.{count_trailing_zeros}
-use Rattle.laws.specs.declared.answers.Answer.TheVariants.{Accepted, Refused}
+use Rattle.std.specs.Prelude.{Ok, Err}
 use Rattle.laws.specs.Axes.{plain}
 use Rattle.laws.specs.Floats.{f32}
 use Rattle.laws.specs.Lists.{table}
@@ -36,6 +36,7 @@ use Rattle.guided.proofs.FinishedRows.{length_row}
 use Rattle.guided.proofs.LeftStates.{after_open_passes, after_seek_passes, after_row_passes}
 use Rattle.guided.proofs.Runs.{shows_own}
 use Rattle.guided.proofs.Demand.{demand_3}
+use Rattle.laws.specs.declared.refusal.Refusal.TheVariants.{BadState, BadSize, Unlike}
 
 -- ---- what the code gives, by its contracts
 
@@ -93,7 +94,7 @@ row0 = record { y = 0; planes = planes_a; reader = after_open layout_a; scratch 
 abbrev refused_blend : RowEvent
 refused_blend = record {
   call = record { y = 0; planes = planes_a; reader = after_row (after_open layout_a) 0; scratch = row_scratch row0; out_cb = nan ∷ nan ∷ []; out_cr = nan ∷ nan ∷ [] };
-  reply = record { answer = Refused 22; reader = after_row (after_open layout_a) 0 };
+  reply = record { answer = Err Unlike; reader = after_row (after_open layout_a) 0 };
   scratch = row_scratch row0;
   out_cb = nan ∷ nan ∷ [];
   out_cr = nan ∷ nan ∷ [];
@@ -120,15 +121,15 @@ pub length_scratch : (c : RowCall) → length (row_scratch c) ≡ length c.scrat
 unfolding row_scratch
 length_scratch c = length_row _ _ _ _ _ _ c.scratch
 
-pub open_a_answer : first (open_tests open_a) ≡ Accepted
+pub open_a_answer : first (open_tests open_a) ≡ Ok tt
 unfolding open_tests first tests_for bad_size bad_ratio bad_samples bad_range div_ceil bad_chroma bad_siting bad_plane short_plane bad_planes sample_of sample_at any_of above above_any scratch_need
 open_a_answer = refl
 
-bad_open_answer : first (open_tests bad_open) ≡ Refused 2
+bad_open_answer : first (open_tests bad_open) ≡ Err BadSize
 unfolding open_tests first tests_for bad_size
 bad_open_answer = refl
 
-bad_row_answer : first (row_tests bad_row) ≡ Refused 1
+bad_row_answer : first (row_tests bad_row) ≡ Err BadState
 unfolding row_tests first bad_state reader_layout tests_for bad_size bad_ratio bad_samples bad_range
 bad_row_answer = refl
 
@@ -158,23 +159,23 @@ scratch0 = length_scratch row0
 scratch1 : length (row_scratch row1) ≡ 80
 scratch1 = length_scratch row1 ∙ scratch0
 
-row0_answer : first (row_tests row0) ≡ Accepted
+row0_answer : first (row_tests row0) ≡ Ok tt
 unfolding row_tests after_open reader_at geometry_of reader_layout bad_plane short_plane bad_planes scratch_need
 row0_answer = failed_accepted (row_tests row0) (state0, (refl, (refl, (refl, (refl, (refl, tt))))))
 
-seek1_answer : first (seek_tests seek1) ≡ Accepted
+seek1_answer : first (seek_tests seek1) ≡ Ok tt
 unfolding seek_tests after_open after_row reader_at geometry_of
 seek1_answer = failed_accepted (seek_tests seek1) (state1, (refl, tt))
 
-row1_answer : first (row_tests row1) ≡ Accepted
+row1_answer : first (row_tests row1) ≡ Ok tt
 unfolding row_tests after_open after_row after_seek reader_at geometry_of reader_layout bad_plane short_plane bad_planes scratch_need
 row1_answer = failed_accepted (row_tests row1) (state2, (refl, (rw scratch0 refl, (refl, (refl, (refl, tt))))))
 
-open_b_answer : first (open_tests open_b) ≡ Accepted
+open_b_answer : first (open_tests open_b) ≡ Ok tt
 unfolding open_tests tests_for bad_size bad_ratio bad_samples bad_range div_ceil bad_chroma bad_siting bad_plane short_plane bad_planes sample_of sample_at any_of above above_any scratch_need
 open_b_answer = failed_accepted (open_tests open_b) (refl, (refl, (refl, (refl, (refl, (refl, (refl, (refl, (rw scratch1 refl, tt)))))))))
 
-row2_answer : first (row_tests row2) ≡ Accepted
+row2_answer : first (row_tests row2) ≡ Ok tt
 unfolding row_tests after_open reader_at geometry_of reader_layout bad_plane short_plane bad_planes scratch_need bad_siting
 row2_answer = failed_accepted (row_tests row2) (after_open_passes layout_b layout_b_sound refl, (refl, (rw scratch1 refl, (refl, (refl, (refl, tt))))))
 
@@ -303,7 +304,7 @@ row_f = record { y = 0; planes = planes_b; reader = after_open layout_f; scratch
 abbrev events_f : List Event
 events_f = open_event open_f ∷ Rowed (row_event row_f) ∷ []
 
-open_f_answer : first (open_tests open_f) ≡ Accepted
+open_f_answer : first (open_tests open_f) ≡ Ok tt
 unfolding open_tests first tests_for bad_size bad_ratio bad_samples bad_range div_ceil bad_chroma bad_siting bad_plane short_plane bad_planes sample_of sample_at any_of above above_any scratch_need
 open_f_answer = refl
 
@@ -311,7 +312,7 @@ layout_f_sound : Failed (layout_tests false layout_f)
 unfolding tests_for bad_size bad_ratio bad_samples bad_range div_ceil bad_chroma
 layout_f_sound = (refl, (refl, (refl, (refl, (refl, tt)))))
 
-row_f_answer : first (row_tests row_f) ≡ Accepted
+row_f_answer : first (row_tests row_f) ≡ Ok tt
 unfolding row_tests after_open reader_at geometry_of reader_layout bad_plane short_plane bad_planes scratch_need bad_siting
 row_f_answer = failed_accepted (row_tests row_f) (after_open_passes layout_f layout_f_sound refl, (refl, (refl, (refl, (refl, (refl, tt))))))
 

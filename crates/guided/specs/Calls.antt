@@ -20,6 +20,7 @@ use Rattle.guided.specs.declared.geometry.Geometry.{Geometry}
 use Rattle.guided.specs.declared.state.Reader.{Reader}
 use Rattle.guided.specs.declared.state.Reply.{Reply}
 use Rattle.guided.specs.Scratch.{row_steps, finished_at}
+use Rattle.laws.specs.declared.refusal.Refusal.TheVariants.{BadState, BadPlane, ShortScratch, ShortOutput, BadRow, RowPassed, NotCentred, AboveMaxval}
 
 -- ---- states
 
@@ -123,16 +124,16 @@ row_call y planes reader scratch out_cb out_cr = record { y = y; planes = planes
 
 -- 2, 3, 4, 18 "in open and plane calls too, right after 4", 5; "Co-sited on either axis with guided (open included)" is 16, "looked at right after 6"; "look at all samples inside the planes lent and turn the picture down if one exceeds maxval" is 17, "after 7 and before 8"
 unfoldable pub open_tests : OpenCall → List Test
-open_tests o = layout_tests false o.layout ++ ((bad_siting o.layout, 16) ∷ (bad_planes o.layout o.planes, 7) ∷ (above_any o.layout o.planes, 17) ∷ (ltb (length o.scratch) (scratch_need o.layout), 9) ∷ [])
+open_tests o = layout_tests false o.layout ++ ((bad_siting o.layout, NotCentred) ∷ (bad_planes o.layout o.planes, BadPlane) ∷ (above_any o.layout o.planes, AboveMaxval) ∷ (ltb (length o.scratch) (scratch_need o.layout), ShortScratch) ∷ [])
 
 unfoldable pub seek_tests : SeekCall → List Test
-seek_tests k = (bad_state k.reader, 1) ∷ (leb k.reader.geometry.h k.y, 11) ∷ []
+seek_tests k = (bad_state k.reader, BadState) ∷ (leb k.reader.geometry.h k.y, BadRow) ∷ []
 
 unfoldable pub row_tests : RowCall → List Test
 row_tests r =
     let l = reader_layout r.reader in
-    (bad_state r.reader, 1) ∷ (bad_planes l r.planes, 7) ∷ (ltb (length r.scratch) (scratch_need l), 9)
-    ∷ (ltb (length r.out_cb) l.w || ltb (length r.out_cr) l.w, 10) ∷ (leb l.h r.y, 11) ∷ (ltb r.y r.reader.place, 12) ∷ []
+    (bad_state r.reader, BadState) ∷ (bad_planes l r.planes, BadPlane) ∷ (ltb (length r.scratch) (scratch_need l), ShortScratch)
+    ∷ (ltb (length r.out_cb) l.w || ltb (length r.out_cr) l.w, ShortOutput) ∷ (leb l.h r.y, BadRow) ∷ (ltb r.y r.reader.place, RowPassed) ∷ []
 
 -- scratch after an accepted row call
 unfoldable pub row_scratch : RowCall → List Float

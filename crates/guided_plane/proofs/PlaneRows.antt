@@ -8,7 +8,7 @@ use native.Mathlib.Omega.{arith}
 use lib.ListN.{length}
 use lib.Ieee.{Float}
 use borrow.Author.Tests.{ltb-false}
-use Rattle.laws.specs.declared.answers.Answer.TheVariants.{Accepted}
+use Rattle.std.specs.Prelude.{Ok, Err}
 use Rattle.laws.specs.Lists.{put}
 use Rattle.laws.specs.Refusals.{first}
 use Rattle.laws.proofs.Lists.{put_same}
@@ -43,7 +43,7 @@ stored_is p s y at before after out w L Y =
 -- ---- acceptance
 
 -- what an accepted call may rely on
-pub ready : (l : Layout) (y c : Plane) (space room : ℕ) → first (guided_tests l y c space room) ≡ Accepted → Lent l (planes_with y c) CbAlone × ((scratch_need l ≤ space) × (l.w * l.h ≤ room))
+pub ready : (l : Layout) (y c : Plane) (space room : ℕ) → first (guided_tests l y c space room) ≡ Ok tt → Lent l (planes_with y c) CbAlone × ((scratch_need l ≤ space) × (l.w * l.h ≤ room))
 unfolding guided_tests short_pair
 ready l y c space room e =
     let f = failed_both (layout_tests false l) _ (accepted_failed (guided_tests l y c space room) e) in

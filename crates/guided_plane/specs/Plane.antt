@@ -2,7 +2,7 @@
 use Rattle.std.specs.Prelude.{◌≡◌, Bool, false, ◌||◌, cond, List, [], ◌∷◌, ◌++◌, ℕ, ◌*◌, ltb, length, Float}
 use Rattle.laws.specs.Lists.{rows}
 use Rattle.laws.specs.Refusals.{Test, first, accepted}
-use Rattle.laws.specs.declared.answers.Answer.{Answer}
+use Rattle.laws.specs.Refusals.{Answer}
 use Rattle.image.specs.declared.layout.Layout.{Layout}
 use Rattle.image.specs.Tests.{bad_siting, layout_tests}
 use Rattle.image.specs.Samples.{Plane}
@@ -14,6 +14,7 @@ use Rattle.fround.specs.Rounding.{round_clamped}
 use Rattle.image.specs.Scratch.{scratch_need}
 use Rattle.guided.specs.Guided.{guided_sample}
 use Rattle.guided_rows.specs.CatchingUp.{guided_rows}
+use Rattle.laws.specs.declared.refusal.Refusal.TheVariants.{BadPlane, ShortScratch, ShortOutput, NotCentred, AboveMaxval}
 
 -- the planes, and the picture, with luma y and the one chroma plane c: c stands for both components, and only Cb is asked for
 abbrev pub planes_with : Plane → Plane → Planes
@@ -32,7 +33,7 @@ above_pair l y c = above l l.w l.h y || above l l.cw l.ch c
 
 -- "refusals 2, 3, 4, 5, 7, 9, 10", 18 "right after 4", and 16, "looked at right after 6", and 17, "after 7 and before 8"; `space` and `room` are how many values scratch and output hold
 unfoldable pub guided_tests : Layout → Plane → Plane → ℕ → ℕ → List Test
-guided_tests l y c space room = layout_tests false l ++ ((bad_siting l, 16) ∷ (short_pair l y c, 7) ∷ (above_pair l y c, 17) ∷ (ltb space (scratch_need l), 9) ∷ (ltb room (l.w * l.h), 10) ∷ [])
+guided_tests l y c space room = layout_tests false l ++ ((bad_siting l, NotCentred) ∷ (short_pair l y c, BadPlane) ∷ (above_pair l y c, AboveMaxval) ∷ (ltb space (scratch_need l), ShortScratch) ∷ (ltb room (l.w * l.h), ShortOutput) ∷ [])
 
 -- the output afterwards: w·h guided samples row by row, "rounded and limited to 0..maxval"; the rest is as it was
 unfoldable pub guided_plane : Picture → List ℕ → List ℕ

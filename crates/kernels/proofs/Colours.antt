@@ -7,7 +7,7 @@ use Prim.Native.Nat.{ℕ, ◌≤◌, min}
 use native.Mathlib.Omega.{arith}
 use lib.Dec.{ltb}
 use borrow.Author.Tests.{ltb-false}
-use Rattle.laws.specs.declared.answers.Answer.TheVariants.{Accepted}
+use Rattle.std.specs.Prelude.{Ok, Err}
 use Rattle.laws.specs.Refusals.{first}
 use Rattle.laws.proofs.Refusals.{accepted_failed}
 use Rattle.image.specs.declared.layout.Range.{Range}
@@ -37,7 +37,7 @@ module _ (y cb cr : ℕ) {r g b : ℕ} where
 
 -- ---- refusal 13
 
-pub exact_passed : (range : Range) (d y cb cr : ℕ) → first (exact_tests range d y cb cr) ≡ Accepted → (y ≤ 65535) × (cb ≤ 16776960) × (cr ≤ 16776960) × (1 ≤ d) × (d ≤ 65535)
+pub exact_passed : (range : Range) (d y cb cr : ℕ) → first (exact_tests range d y cb cr) ≡ Ok tt → (y ≤ 65535) × (cb ≤ 16776960) × (cr ≤ 16776960) × (1 ≤ d) × (d ≤ 65535)
 unfolding exact_tests bad_exact
 exact_passed range d y cb cr e =
     let n = (accepted_failed (exact_tests range d y cb cr) e).1.0 in
@@ -47,7 +47,7 @@ exact_passed range d y cb cr e =
     let s = within 1 65535 d r.1 in
     (ltb-false _ _ p.0, ltb-false _ _ q.0, ltb-false _ _ r.0, s.0, s.1)
 
-pub fixed_passed : (y cb cr : ℕ) → first (fixed_tests y cb cr) ≡ Accepted → (y ≤ 65535) × (cb ≤ 65535) × (cr ≤ 65535)
+pub fixed_passed : (y cb cr : ℕ) → first (fixed_tests y cb cr) ≡ Ok tt → (y ≤ 65535) × (cb ≤ 65535) × (cr ≤ 65535)
 unfolding fixed_tests
 fixed_passed y cb cr e =
     let n = (accepted_failed (fixed_tests y cb cr) e).0 in

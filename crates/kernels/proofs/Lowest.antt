@@ -2,19 +2,18 @@
 use mathlib.Core.Path.{◌≡◌, refl, ap, ◌∙◌}
 use Prim.Native.Nat.{ℕ}
 use native.Mathlib.Omega.{arith}
-use Rattle.laws.specs.declared.answers.Answer.{Answer}
-use Rattle.laws.specs.declared.answers.Answer.TheVariants.{Accepted, Refused}
+use Rattle.laws.specs.Refusals.{Answer}
+use Rattle.std.specs.Prelude.{Ok, Err}
 use Rattle.laws.specs.Refusals.{first, place_of, Ascending, Lowest}
 use Rattle.laws.proofs.Refusals.{given_lowest}
 use Rattle.image.specs.declared.layout.Range.{Range}
-use Rattle.kernels.specs.declared.pixel.Pixel.{Pixel}
 use Rattle.kernels.specs.Kernels.{Colour, fixed255}
-use Rattle.kernels.specs.Pixels.{pixel_of, answer_of, ranged_colour, exact_tests, fixed_tests, exact_pixel, fixed_pixel}
+use Rattle.kernels.specs.Pixels.{Pixel, pixel_of, answer_of, ranged_colour, exact_tests, fixed_tests, exact_pixel, fixed_pixel}
 
 -- a pixel's answer is the one that it was made from
 answer_of_is : (a : Answer) (c : Colour) → answer_of (pixel_of a c) ≡ a
-answer_of_is Accepted c = refl
-answer_of_is (Refused n) c = refl
+answer_of_is (Ok tt) c = refl
+answer_of_is (Err why) c = refl
 
 pub exact_ascends : (range : Range) (d y cb256 cr256 : ℕ) → Ascending 0 (exact_tests range d y cb256 cr256)
 unfolding place_of Ascending exact_tests

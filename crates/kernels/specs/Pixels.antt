@@ -1,26 +1,33 @@
 -- What the single-pixel calls answer. Definitions only.
 use Rattle.std.specs.Prelude.{Bool, true, false, ◌||◌, List, [], ◌∷◌, ℕ, ltb, eqb}
-use Rattle.laws.specs.declared.answers.Answer.{Answer}
-use Rattle.laws.specs.declared.answers.Answer.TheVariants.{Accepted, Refused}
+use Rattle.laws.specs.Refusals.{Answer}
+use Rattle.std.specs.Prelude.{Result, Ok, Err}
 use Rattle.laws.specs.Refusals.{Test, first}
 use Rattle.laws.specs.Numbers.{outside_of}
 use Rattle.image.specs.declared.layout.Range.{Range}
 use Rattle.image.specs.declared.layout.Range.TheVariants.{Full, Studio}
 use Rattle.image.specs.Tests.{bad_range}
-use Rattle.kernels.specs.declared.pixel.Pixel.{Pixel}
-use Rattle.kernels.specs.declared.pixel.Pixel.TheVariants as P
+use Rattle.laws.specs.declared.refusal.Refusal.{Refusal}
+use Rattle.kernels.specs.declared.bytes.Rgb.{Rgb}
 use Rattle.kernels.specs.Kernels.{Colour, exact255, exact_at, fixed255}
 use Rattle.kernels.specs.T871.{studio255}
+use Rattle.laws.specs.declared.refusal.Refusal.TheVariants.{BadPixel, BadRange}
 
--- the paper's number, or the three bytes
+-- what a single-pixel call answers: the three bytes, or the reason why there are none
+abbrev pub Pixel : Type 0
+Pixel = Result Rgb Refusal
+
+abbrev pub rgb_of : ℕ → ℕ → ℕ → Pixel
+rgb_of r g b = Ok (record { r = r; g = g; b = b })
+
 abbrev pub pixel_of : Answer → Colour → Pixel
-pixel_of Accepted c = P.Rgb c.red c.green c.blue
-pixel_of (Refused n) c = P.Refused n
+pixel_of (Ok _) c = rgb_of c.red c.green c.blue
+pixel_of (Err why) c = Err why
 
 -- a pixel's answer, without its bytes
 abbrev pub answer_of : Pixel → Answer
-answer_of (P.Rgb r g b) = Accepted
-answer_of (P.Refused n) = Refused n
+answer_of (Ok _) = Ok tt
+answer_of (Err why) = Err why
 
 abbrev pub pick_colour : Bool → Colour → Colour → Colour
 pick_colour true a b = a
@@ -41,10 +48,10 @@ bad_exact d y cb256 cr256 = ltb 65535 y || (ltb 16776960 cb256 || (ltb 16776960 
 
 -- 18 stands "right after 4"
 unfoldable pub exact_tests : Range → ℕ → ℕ → ℕ → ℕ → List Test
-exact_tests range d y cb256 cr256 = (bad_range false range d, 18) ∷ (bad_exact d y cb256 cr256, 13) ∷ []
+exact_tests range d y cb256 cr256 = (bad_range false range d, BadRange) ∷ (bad_exact d y cb256 cr256, BadPixel) ∷ []
 
 unfoldable pub fixed_tests : ℕ → ℕ → ℕ → List Test
-fixed_tests y cb cr = (ltb 65535 y || (ltb 65535 cb || ltb 65535 cr), 13) ∷ []
+fixed_tests y cb cr = (ltb 65535 y || (ltb 65535 cb || ltb 65535 cr), BadPixel) ∷ []
 
 unfoldable pub exact_pixel : Range → ℕ → ℕ → ℕ → ℕ → Pixel
 exact_pixel range d y cb256 cr256 = pixel_of (first (exact_tests range d y cb256 cr256)) (ranged_colour range d y cb256 cr256)

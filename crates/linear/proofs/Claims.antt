@@ -4,7 +4,7 @@ use mathlib.Core.Path.{◌≡◌, refl}
 use mathlib.Core.Bool.{false}
 use Prim.Native.Nat.{ℕ, ◌≤◌, ◌<◌}
 use native.Mathlib.Nat.{mul-pos}
-use Rattle.laws.specs.declared.answers.Answer.TheVariants.{Accepted}
+use Rattle.std.specs.Prelude.{Ok, Err}
 use Rattle.laws.specs.Refusals.{first}
 use Rattle.laws.specs.Inner.Floats.{NearFraction}
 use Rattle.laws.proofs.Refusals.{accepted_failed}
@@ -24,7 +24,7 @@ use Rattle.linear.proofs.Exact.{bilinear_exact, ratio_binary, near_equals, round
 use Rattle.linear.proofs.Span.{bilinear_between}
 
 -- a layout that no linear call refuses, cells up to 65,535, and an output inside it
-module _ (l : Layout) (a : first (tests_for false false l) ≡ Accepted) (c : ℕ → ℕ → ℕ) (b : (j i : ℕ) → c j i ≤ 65535) (y x : ℕ) (Y : y < l.h) (X : x < l.w) where
+module _ (l : Layout) (a : first (tests_for false false l) ≡ Ok tt) (c : ℕ → ℕ → ℕ) (b : (j i : ℕ) → c j i ≤ 65535) (y x : ℕ) (Y : y < l.h) (X : x < l.w) where
   o : Shaped l
   o = shaped false false l (accepted_failed (tests_for false false l) a)
 

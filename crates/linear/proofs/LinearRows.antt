@@ -12,7 +12,7 @@ use lib.Ieee.{Float, nan}
 use Rattle.laws.specs.Lists.{put}
 use Rattle.laws.proofs.Lists.{put_same, put_inside, length_put}
 use Rattle.image.specs.declared.layout.Layout.{Layout}
-use Rattle.laws.specs.declared.answers.Answer.TheVariants.{Accepted}
+use Rattle.std.specs.Prelude.{Ok, Err}
 use Rattle.laws.specs.Refusals.{first}
 use Rattle.laws.proofs.Refusals.{accepted_failed, failed_both}
 use Rattle.image.specs.Tests.{tests_for}
@@ -97,7 +97,7 @@ stored_is l p y at s out h = put_same out at l.w _ _ (λ x k. ap (round_clamped 
 -- ---- acceptance
 
 -- what an accepted call may rely on
-pub ready : (l : Layout) (p : Plane) (space room : ℕ) → first (linear_tests l p space room) ≡ Accepted → Ready l p space × (l.w * l.h ≤ room)
+pub ready : (l : Layout) (p : Plane) (space room : ℕ) → first (linear_tests l p space room) ≡ Ok tt → Ready l p space × (l.w * l.h ≤ room)
 unfolding linear_tests
 ready l p space room e =
     let f = failed_both (tests_for false false l) _ (accepted_failed (linear_tests l p space room) e) in

@@ -3,7 +3,7 @@
 use Rattle.std.specs.Prelude.{◌≡◌, ◌⊎◌, false, ℕ, ◌+◌, ◌-◌, ◌*◌, ◌/◌, ◌%◌, ◌≤◌, ◌<◌, min, T, Float}
 use Rattle.std.specs.Float.{nan, inf, fin}
 use Rattle.std.specs.Float.Ieee.{up, down, le}
-use Rattle.laws.specs.declared.answers.Answer.TheVariants.{Accepted}
+use Rattle.std.specs.Prelude.{Ok, Err}
 use Rattle.laws.specs.declared.axes.Siting.{Siting}
 use Rattle.laws.specs.declared.axes.Siting.TheVariants.{Centred, CoSited}
 use Rattle.laws.specs.Floats.{f32, over, under}
@@ -99,13 +99,13 @@ pub record Spanned (c : ℕ → ℕ → ℕ) (v h : Spot) (lo hi : ℕ) : Type 0
 pub record LinearClaims : Type 0 where
   -- at every row and column of a layout that no linear call refuses, whatever its axes ("The 1/16 bound holds for both" sitings and "covers all
   -- pairs"), for samples up to 65,535
-  pub within : (l : Layout) → first (tests_for false false l) ≡ Accepted → (c : ℕ → ℕ → ℕ) → ((j i : ℕ) → c j i ≤ 65535) → (y x : ℕ) → y < l.h → x < l.w
+  pub within : (l : Layout) → first (tests_for false false l) ≡ Ok tt → (c : ℕ → ℕ → ℕ) → ((j i : ℕ) → c j i ≤ 65535) → (y x : ℕ) → y < l.h → x < l.w
       → Sixteenth (linear_sample l c y x) (exact_num c (row_position l y) (column_position l x)) (exact_den (row_position l y) (column_position l x))
   -- "When both ratios are 1, 2 or 4, the linear float equals the exact bilinear value, for samples up to 65,535 and either siting", at any numerator
-  pub exact : (l : Layout) → first (tests_for false false l) ≡ Accepted → OneTwoFour l.rv → OneTwoFour l.rh → (c : ℕ → ℕ → ℕ) → ((j i : ℕ) → c j i ≤ 65535) → (y x : ℕ) → y < l.h → x < l.w
+  pub exact : (l : Layout) → first (tests_for false false l) ≡ Ok tt → OneTwoFour l.rv → OneTwoFour l.rh → (c : ℕ → ℕ → ℕ) → ((j i : ℕ) → c j i ≤ 65535) → (y x : ℕ) → y < l.h → x < l.w
       → Equals (linear_sample l c y x) (exact_num c (row_position l y) (column_position l x)) (exact_den (row_position l y) (column_position l x))
   -- "and the rounded sample is that value with halves up, limited to maxval"
-  pub rounded : (l : Layout) → first (tests_for false false l) ≡ Accepted → OneTwoFour l.rv → OneTwoFour l.rh → (c : ℕ → ℕ → ℕ) → ((j i : ℕ) → c j i ≤ 65535) → (y x : ℕ) → y < l.h → x < l.w
+  pub rounded : (l : Layout) → first (tests_for false false l) ≡ Ok tt → OneTwoFour l.rv → OneTwoFour l.rh → (c : ℕ → ℕ → ℕ) → ((j i : ℕ) → c j i ≤ 65535) → (y x : ℕ) → y < l.h → x < l.w
       → round_clamped l.maxval (linear_sample l c y x) ≡ min l.maxval (half_up (exact_num c (row_position l y) (column_position l x)) (exact_den (row_position l y) (column_position l x)))
   -- the float lies between any two whole numbers that its four cells lie between, denominators 1 to 4
   pub spanned : (l : Layout) (c : ℕ → ℕ → ℕ) → (0 < l.rh) × (l.rh ≤ 4) → (0 < l.rv) × (l.rv ≤ 4) → (y x lo hi : ℕ) → hi ≤ 65535

@@ -4,7 +4,7 @@ use Rattle.std.specs.Prelude.{◌≡◌, false, cond, List, [], ◌∷◌, ◌++
 use Rattle.laws.specs.Floats.{f32}
 use Rattle.laws.specs.Lists.{put, rows}
 use Rattle.laws.specs.Refusals.{Test, first, accepted}
-use Rattle.laws.specs.declared.answers.Answer.{Answer}
+use Rattle.laws.specs.Refusals.{Answer}
 use Rattle.image.specs.declared.layout.Layout.{Layout}
 use Rattle.image.specs.Tests.{tests_for}
 use Rattle.image.specs.Samples.{Plane, sample_at}
@@ -14,6 +14,7 @@ use Rattle.image.specs.Scratch.{scratch_need}
 use Rattle.fround.specs.Rounding.{round_clamped}
 use Rattle.taps.specs.declared.positions.Tap.{Tap}
 use Rattle.taps.specs.Taps.{lerp_of, tap_by}
+use Rattle.laws.specs.declared.refusal.Refusal.TheVariants.{BadPlane, ShortScratch, ShortOutput, AboveMaxval}
 
 -- two cells of column i lerped down by a tap
 abbrev pub down_by : Tap → (ℕ → ℕ → ℕ) → ℕ → Float
@@ -33,7 +34,7 @@ linear_sample l c y x = across_by (tap_by l.across l.rh l.cw x) (linear_down l c
 
 -- "refusals 2, 3, 4, 5, 7, 9, 10", 18 "right after 4", ratios that aren't whole among those taken, and 17, "after 7 and before 8"; `space` and `room` are how many values scratch and output hold
 unfoldable pub linear_tests : Layout → Plane → ℕ → ℕ → List Test
-linear_tests l p space room = tests_for false false l ++ ((short_plane l l.cw l.ch p, 7) ∷ (above l l.cw l.ch p, 17) ∷ (ltb space (scratch_need l), 9) ∷ (ltb room (l.w * l.h), 10) ∷ [])
+linear_tests l p space room = tests_for false false l ++ ((short_plane l l.cw l.ch p, BadPlane) ∷ (above l l.cw l.ch p, AboveMaxval) ∷ (ltb space (scratch_need l), ShortScratch) ∷ (ltb room (l.w * l.h), ShortOutput) ∷ [])
 
 -- the output afterwards: w·h values row by row, "rounded and limited to 0..maxval"; the rest is as it was
 unfoldable pub linear_plane : Layout → Plane → List ℕ → List ℕ

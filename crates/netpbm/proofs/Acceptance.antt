@@ -10,8 +10,8 @@ use native.Mathlib.Omega.{arith}
 use lib.Dec.{ltb, eqb}
 use lib.ListN.{length}
 use borrow.Author.Tests.{ltb-false, le-ltb, eq-eqb, eqb-false}
-use Rattle.laws.specs.declared.answers.Answer.{Answer}
-use Rattle.laws.specs.declared.answers.Answer.TheVariants.{Accepted, Refused as Turned}
+use Rattle.laws.specs.Refusals.{Answer}
+use Rattle.std.specs.Prelude.{Ok, Err}
 use Rattle.laws.specs.Refusals.{first}
 use Rattle.laws.specs.Numbers.{outside_of}
 use Rattle.laws.proofs.Refusals.{Failed, accepted_failed, failed_accepted, failed_both}
@@ -27,7 +27,7 @@ use Rattle.netpbm.specs.Inner.Taken.{Taken}
 use Rattle.netpbm.proofs.Fields.{ImageInside, image_inside, rows_behind}
 use Rattle.netpbm.proofs.Ratios.{Fits, ratio_fits}
 
-module _ (s : List ℕ) (a : first (reading_tests s) ≡ Accepted) where
+module _ (s : List ℕ) (a : first (reading_tests s) ≡ Ok tt) where
   short_is : length s ≤ 49152
   unfolding reading_tests
   short_is = ltb-false 49152 (length s) (accepted_failed (reading_tests s) a).0
@@ -94,7 +94,7 @@ module _ (s : List ℕ) (a : first (reading_tests s) ≡ Accepted) where
       let d : eqb (input_layout s).ch (div_ceil (input_layout s).h (input_layout s).rv) ≡ true = eq-eqb _ _ down.one in
       rw (mul-one (input_layout s).w, mul-one (input_layout s).h, b, d) refl
 
-  passed : first (layout_tests false (input_layout s)) ≡ Accepted
+  passed : first (layout_tests false (input_layout s)) ≡ Ok tt
   unfolding tests_for
   passed = failed_accepted (layout_tests false (input_layout s)) (size_passed, (ratio_passed, (samples_passed, (range_passed, (chroma_passed, tt)))))
 
@@ -139,7 +139,7 @@ module _ (s : List ℕ) (a : first (reading_tests s) ≡ Accepted) where
 
 -- what the reading gives is what the definitions say of the input
 pub record ReadAccepted (s : List ℕ) (l : Layout) (y cb cr : ℕ) : Type 0 where
-  pub passed : first (reading_tests s) ≡ Accepted
+  pub passed : first (reading_tests s) ≡ Ok tt
   pub layout_is : l ≡ input_layout s
   pub y_is : y ≡ rows_at s 0
   pub cb_is : cb ≡ rows_at s (cb_at s)
@@ -150,7 +150,7 @@ unfolding reading_of
 read_accepted s l y cb cr e = go (first (reading_tests s)) refl e
   where
     go : (a : Answer) → first (reading_tests s) ≡ a → pick_reading a (Read (input_layout s) (rows_at s 0) (rows_at s (cb_at s)) (rows_at s (cr_at s))) ≡ Read l y cb cr → ReadAccepted s l y cb cr
-    go Accepted k e = record { passed = k; layout_is = cc; y_is = cc; cb_is = cc; cr_is = cc }
+    go (Ok tt) k e = record { passed = k; layout_is = cc; y_is = cc; cb_is = cc; cr_is = cc }
     go (Turned n) k e = let z : ◌≡◌ {A = ℕ} 0 1 = cc in absurd (omega arith)
 
 -- it has all that `Taken` says
@@ -163,7 +163,7 @@ pub record SamplesAre (s : List ℕ) (l : Layout) (y cb cr : ℕ) : Type 0 where
   pub blue : (j i : ℕ) → image_sample s (cb_at s) j i ≡ big_of l.sample_bytes s (cb + (j * l.cw + i) * l.sample_bytes)
   pub red : (j i : ℕ) → image_sample s (cr_at s) j i ≡ big_of l.sample_bytes s (cr + (j * l.cw + i) * l.sample_bytes)
 
-accepted_samples : (s : List ℕ) → first (reading_tests s) ≡ Accepted → SamplesAre s (input_layout s) (rows_at s 0) (rows_at s (cb_at s)) (rows_at s (cr_at s))
+accepted_samples : (s : List ℕ) → first (reading_tests s) ≡ Ok tt → SamplesAre s (input_layout s) (rows_at s 0) (rows_at s (cb_at s)) (rows_at s (cr_at s))
 unfolding image_sample input_layout
 accepted_samples s a = record {
   luma = λ j i. refl;

@@ -9,7 +9,7 @@ use native.Mathlib.Omega.{arith}
 use lib.Dec.{eqb}
 use lib.ListN.{length}
 use borrow.Author.Tests.{ltb-false, not-false, eqb-true}
-use Rattle.laws.specs.declared.answers.Answer.TheVariants.{Accepted}
+use Rattle.std.specs.Prelude.{Ok, Err}
 use Rattle.laws.specs.Refusals.{first}
 use Rattle.laws.specs.Numbers.{outside_of}
 use Rattle.laws.proofs.Refusals.{accepted_failed}
@@ -105,7 +105,7 @@ pub record ImageInside (s : List ℕ) (at : ℕ) : Type 0 where
   pub ends : image_end s at ≤ length s
   pub held_end : (image_held s at).end ≡ image_end s at
 
-pub image_inside : (s : List ℕ) (at : ℕ) → length s ≤ 49152 → first (image_tests s at) ≡ Accepted → ImageInside s at
+pub image_inside : (s : List ℕ) (at : ℕ) → length s ≤ 49152 → first (image_tests s at) ≡ Ok tt → ImageInside s at
 unfolding image_tests image_end image_held rows_at row_bytes bad_maxval
 image_inside s at l e =
     let f = accepted_failed (image_tests s at) e in

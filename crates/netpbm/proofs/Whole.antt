@@ -10,8 +10,8 @@ use native.Mathlib.Omega.{arith}
 use lib.Dec.{ltb, eqb}
 use lib.ListN.{length}
 use borrow.Author.Tests.{le-ltb, lt-ltb, eqb-false}
-use Rattle.laws.specs.declared.answers.Answer.{Answer}
-use Rattle.laws.specs.declared.answers.Answer.TheVariants.{Accepted, Refused as Turned}
+use Rattle.laws.specs.Refusals.{Answer}
+use Rattle.std.specs.Prelude.{Ok, Err}
 use Rattle.laws.specs.Refusals.{Test, first, accepted}
 use Rattle.laws.specs.Inner.Refusals.{folded}
 use Rattle.laws.proofs.Refusals.{accepted_is, accepted_failed, failed_accepted, failed_both, refused_early, passed_early, refused_here, passed_over, first_further, folded_same}
@@ -31,6 +31,7 @@ use Rattle.netpbm.proofs.Runs.{differ}
 use Rattle.netpbm.proofs.Products.{held_over, held_under}
 use Rattle.netpbm.proofs.Ratios.{ratio_held, ratio_fits}
 use Rattle.netpbm.proofs.Fields.{ImageInside, image_inside}
+use Rattle.laws.specs.declared.refusal.Refusal.TheVariants.{BadSize, BadChroma, BadHeader, TooLarge}
 
 -- ---- one image behind another
 
@@ -122,7 +123,7 @@ places {s} {y} {cb} {cr} l t a =
 -- ---- the tests behind the images
 
 -- a test that is passed over where another applies doesn't matter there
-tests_same : (x b b' n n' : Bool) → b ≡ b' → (b' ≡ false → n ≡ n') → first ((x, 14) ∷ (b, 2) ∷ (n, 5) ∷ []) ≡ first ((x, 14) ∷ (b', 2) ∷ (n', 5) ∷ [])
+tests_same : (x b b' n n' : Bool) → b ≡ b' → (b' ≡ false → n ≡ n') → first ((x, BadHeader) ∷ (b, BadSize) ∷ (n, BadChroma) ∷ []) ≡ first ((x, BadHeader) ∷ (b', BadSize) ∷ (n', BadChroma) ∷ [])
 unfolding first
 tests_same x true true n n' e f = refl
 tests_same x true false n n' e f = differ true refl e
@@ -176,14 +177,14 @@ module _ {s : List ℕ} {y cb cr : Image} (p : Places s y cb cr) where
   none_same e = rw (ratio_w e, ratio_h e) refl
 
   -- the tests behind the images give the same answer over what is held
-  sizes_first : first ((ltb cr.end (length s), 14) ∷ (bad_size (layout_held y cb cr), 2) ∷ (no_ratio (layout_held y cb cr), 5) ∷ []) ≡ first (whole_tests s)
+  sizes_first : first ((ltb cr.end (length s), BadHeader) ∷ (bad_size (layout_held y cb cr), BadSize) ∷ (no_ratio (layout_held y cb cr), BadChroma) ∷ []) ≡ first (whole_tests s)
   unfolding whole_tests
   sizes_first =
-      ap (λ (k : ℕ). first ((ltb k (length s), 14) ∷ (bad_size (layout_held y cb cr), 2) ∷ (no_ratio (layout_held y cb cr), 5) ∷ [])) p.end_is
+      ap (λ (k : ℕ). first ((ltb k (length s), BadHeader) ∷ (bad_size (layout_held y cb cr), BadSize) ∷ (no_ratio (layout_held y cb cr), BadChroma) ∷ [])) p.end_is
       ∙ tests_same (ltb (image_end s (cr_at s)) (length s)) (bad_size (layout_held y cb cr)) (bad_size (input_layout s)) (no_ratio (layout_held y cb cr)) (no_ratio (input_layout s)) size_same none_same
 
   -- a layout that passes these tests, of images that are accepted, is held as it is
-  layout_same : first (whole_tests s) ≡ Accepted → layout_held y cb cr ≡ input_layout s
+  layout_same : first (whole_tests s) ≡ Ok tt → layout_held y cb cr ≡ input_layout s
   unfolding whole_tests layout_held input_layout no_ratio
   layout_same e =
       let f = accepted_failed (whole_tests s) e in
@@ -207,8 +208,8 @@ module _ {s : List ℕ} {y cb cr : Image} (p : Places s y cb cr) where
 
 -- ---- the whole
 
-pick_same : (a : Answer) (r q : Reading) → (a ≡ Accepted → r ≡ q) → pick_reading a r ≡ pick_reading a q
-pick_same Accepted r q f = f refl
+pick_same : (a : Answer) (r q : Reading) → (a ≡ Ok tt → r ≡ q) → pick_reading a r ≡ pick_reading a q
+pick_same (Ok tt) r q f = f refl
 pick_same (Turned n) r q f = refl
 
 rows_is : (s : List ℕ) (at : ℕ) → (image_held s at).rows ≡ rows_at s at
@@ -247,6 +248,6 @@ module _ {s : List ℕ} {y cb cr : Image} (l : length s ≤ 49152) (t : Three s 
       ap (λ (m : Layout). pick_reading a (Read m y.rows cb.rows cr.rows)) f ∙ read_is a (e ∙ ap (answer_held cr.answer (ltb cr.end (length s))) f)
 
 -- an input that is too long is read no further
-pub read_long : (s : List ℕ) → 49152 < length s → Refused 15 ≡ reading_of s
+pub read_long : (s : List ℕ) → 49152 < length s → Err TooLarge ≡ reading_of s
 unfolding reading_of reading_tests
 read_long s l = ap (λ (a : Answer). pick_reading a (Read (input_layout s) (rows_at s 0) (rows_at s (cb_at s)) (rows_at s (cr_at s)))) (sym (refused_here _ _ _ (lt-ltb 49152 (length s) l)))

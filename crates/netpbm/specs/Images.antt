@@ -4,6 +4,7 @@ use Rattle.std.specs.Prelude.{Bool, ◌&&◌, ◌||◌, not, cond, List, [], ◌
 use Rattle.laws.specs.Refusals.{Test}
 use Rattle.laws.specs.Numbers.{outside_of}
 use Rattle.netpbm.specs.Bytes.{has_blank, has_space, has_digit, past_spaces, past_digits, number_at, big_of}
+use Rattle.laws.specs.declared.refusal.Refusal.TheVariants.{BadHeader, TooLarge}
 
 -- "the two bytes P5"
 unfoldable pub has_magic : List ℕ → ℕ → Bool
@@ -72,12 +73,12 @@ bad_maxval s at = outside_of 1 65535 (maxval_of s at) || not (eqb (maxval_of s 0
 -- rows missing"; "a width past 128 as its digits end"
 unfoldable pub image_tests : List ℕ → ℕ → List Test
 image_tests s at =
-    (not (has_magic s at), 14)
-    ∷ (not (has_number s (at + 2)), 14)
-    ∷ (ltb 128 (width_of s at), 15)
-    ∷ (not (has_number s (width_end s at)), 14)
-    ∷ (not (has_number s (height_end s at)), 14)
-    ∷ (bad_maxval s at, 14)
-    ∷ (not (has_blank s (maxval_end s at)), 14)
-    ∷ (ltb (length s - rows_at s at) (row_bytes s at), 15)
+    (not (has_magic s at), BadHeader)
+    ∷ (not (has_number s (at + 2)), BadHeader)
+    ∷ (ltb 128 (width_of s at), TooLarge)
+    ∷ (not (has_number s (width_end s at)), BadHeader)
+    ∷ (not (has_number s (height_end s at)), BadHeader)
+    ∷ (bad_maxval s at, BadHeader)
+    ∷ (not (has_blank s (maxval_end s at)), BadHeader)
+    ∷ (ltb (length s - rows_at s at) (row_bytes s at), TooLarge)
     ∷ []

@@ -6,6 +6,7 @@ use Rattle.image.specs.declared.layout.Layout.{Layout}
 use Rattle.image.specs.declared.layout.Range.TheVariants.{Full}
 use Rattle.image.specs.Tests.{div_ceil, bad_size}
 use Rattle.netpbm.specs.Images.{width_of, height_of, maxval_of, sample_bytes, image_end, image_tests}
+use Rattle.laws.specs.declared.refusal.Refusal.TheVariants.{BadSize, BadChroma, BadHeader, TooLarge}
 
 -- where the three images stand: the first at 0, each other one where the one before has ended
 unfoldable pub cb_at : List ℕ → ℕ
@@ -57,8 +58,8 @@ images_tests s = image_tests s 0 ++ image_tests s (cb_at s) ++ image_tests s (cr
 
 -- "bytes left over"; "2 (by the Y image's sides alone) and 5 come after all three are read, 2 first"
 unfoldable pub whole_tests : List ℕ → List Test
-whole_tests s = (ltb (image_end s (cr_at s)) (length s), 14) ∷ (bad_size (input_layout s), 2) ∷ (no_ratio (input_layout s), 5) ∷ []
+whole_tests s = (ltb (image_end s (cr_at s)) (length s), BadHeader) ∷ (bad_size (input_layout s), BadSize) ∷ (no_ratio (input_layout s), BadChroma) ∷ []
 
 -- "Input too long is 15 before all else"
 unfoldable pub reading_tests : List ℕ → List Test
-reading_tests s = (ltb 49152 (length s), 15) ∷ (images_tests s ++ whole_tests s)
+reading_tests s = (ltb 49152 (length s), TooLarge) ∷ (images_tests s ++ whole_tests s)

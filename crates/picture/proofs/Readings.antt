@@ -13,8 +13,8 @@ use lib.ListN.{length, drop, take, length-drop}
 use lib.Seq.{take_all}
 use lib.Ieee.{Float}
 use borrow.Author.Tests.{le-ltb, lt-ltb}
-use Rattle.laws.specs.declared.answers.Answer.{Answer}
-use Rattle.laws.specs.declared.answers.Answer.TheVariants.{Accepted, Refused as Turned}
+use Rattle.laws.specs.Refusals.{Answer}
+use Rattle.std.specs.Prelude.{Ok, Err}
 use Rattle.laws.specs.Refusals.{first, accepted}
 use Rattle.laws.proofs.Refusals.{accepted_failed, failed_accepted, passed_early, refused_early, refused_here, passed_over}
 use Rattle.image.specs.declared.layout.Layout.{Layout}
@@ -42,14 +42,15 @@ use Rattle.picture.specs.declared.Outcome.{Outcome}
 use Rattle.picture.specs.Picture.{input_picture, ppm_length, scratch_after, lent_tests, picture_tests, pick_outcome, PictureGiven}
 use Rattle.picture.specs.Inner.Planes.{strides_of, planes_from, picture_from, PpmGiven}
 use Rattle.image.specs.Samples.{plane_of}
+use Rattle.laws.specs.declared.refusal.Refusal.TheVariants.{BadPlane, BadPixelSize, ShortScratch, ShortOutput, NotCentred, AboveMaxval}
 
 -- a number that the reading gives is that of the first of its tests that applies
-pub turned : (s : List ℕ) (n : ℕ) → reading_of s ≡ Refused n → first (reading_tests s) ≡ Turned n
+pub turned : (s : List ℕ) (n : ℕ) → reading_of s ≡ Err n → first (reading_tests s) ≡ Turned n
 unfolding reading_of
 turned s n e = go (first (reading_tests s)) e
   where
-    go : (a : Answer) → pick_reading a (Read (input_layout s) (rows_at s 0) (rows_at s (cb_at s)) (rows_at s (cr_at s))) ≡ Refused n → a ≡ Turned n
-    go Accepted e = let z : ◌≡◌ {A = ℕ} 0 1 = cc in absurd (omega arith)
+    go : (a : Answer) → pick_reading a (Read (input_layout s) (rows_at s 0) (rows_at s (cb_at s)) (rows_at s (cr_at s))) ≡ Err n → a ≡ Turned n
+    go (Ok tt) e = let z : ◌≡◌ {A = ℕ} 0 1 = cc in absurd (omega arith)
     go (Turned k) e = let z : k ≡ n = cc in ap Turned z
 
 -- a part of a list from `at` on that is long enough goes to the list's end
@@ -122,11 +123,11 @@ module _ {s : List ℕ} {l : Layout} {y cb cr : ℕ} (t : Taken s l y cb cr) whe
       let c = t.cr_rows in
       rw (plane_holds y l.w l.h o.h_some (omega arith), plane_holds cb l.cw l.ch o.ch_some (omega arith), plane_holds cr l.cw l.ch o.ch_some c) refl
 
-  pub fill_takes : exceeds (picture_from s l y cb cr) ≡ false → (scratch : List Float) (out : List ℕ) → scratch_need l ≤ length scratch → l.w * l.h * 3 ≤ length out → first (fill_tests (record { layout = l; planes = planes_from s l y cb cr; upsampling = LumaGuided; kernel = Exact; size = 3; scratch = scratch; out = out })) ≡ Accepted
+  pub fill_takes : exceeds (picture_from s l y cb cr) ≡ false → (scratch : List Float) (out : List ℕ) → scratch_need l ≤ length scratch → l.w * l.h * 3 ≤ length out → first (fill_tests (record { layout = l; planes = planes_from s l y cb cr; upsampling = LumaGuided; kernel = Exact; size = 3; scratch = scratch; out = out })) ≡ Ok tt
   unfolding fill_tests
   fill_takes b scratch out g h =
       passed_early (layout_tests false l) _ (ap accepted t.passes)
-      ∙ failed_accepted ((bad_siting l, 16) ∷ (bad_planes l (planes_from s l y cb cr), 7) ∷ (above_any l (planes_from s l y cb cr), 17) ∷ (false, 8) ∷ (ltb (length scratch) (scratch_need l), 9) ∷ (ltb (length out) (l.w * l.h * 3), 10) ∷ []) (t.centred, (planes_hold, (planes_exceed l (planes_from s l y cb cr) ∙ b, (refl, (le-ltb _ _ g, (le-ltb _ _ h, tt))))))
+      ∙ failed_accepted ((bad_siting l, NotCentred) ∷ (bad_planes l (planes_from s l y cb cr), BadPlane) ∷ (above_any l (planes_from s l y cb cr), AboveMaxval) ∷ (false, BadPixelSize) ∷ (ltb (length scratch) (scratch_need l), ShortScratch) ∷ (ltb (length out) (l.w * l.h * 3), ShortOutput) ∷ []) (t.centred, (planes_hold, (planes_exceed l (planes_from s l y cb cr) ∙ b, (refl, (le-ltb _ _ g, (le-ltb _ _ h, tt))))))
 
 -- what fill leaves, lent those parts
 module _ (s : List ℕ) (l : Layout) (y cb cr : ℕ) (t : Taken s l y cb cr) (b : exceeds (picture_from s l y cb cr) ≡ false) (scratch : List Float) (out : List ℕ) (g : scratch_need l ≤ length scratch) (h : l.w * l.h * 3 ≤ length out) (a : Answer) (scratch' : List Float) (out' : List ℕ) where
@@ -143,9 +144,9 @@ module _ (s : List ℕ) (l : Layout) (y cb cr : ℕ) (t : Taken s l y cb cr) (b 
 -- ---- the outcome
 
 module _ (p : Picture) (l : Layout) (q : p.layout ≡ l) (scratch : List Float) (out : List ℕ) where
-  later : first (lent_tests p scratch out) ≡ first ((exceeds p, 17) ∷ (ltb (length scratch) (scratch_need l), 9) ∷ (ltb (length out) (ppm_length l), 10) ∷ [])
+  later : first (lent_tests p scratch out) ≡ first ((exceeds p, AboveMaxval) ∷ (ltb (length scratch) (scratch_need l), ShortScratch) ∷ (ltb (length out) (ppm_length l), ShortOutput) ∷ [])
   unfolding lent_tests
-  later = ap (λ (k : Layout). first ((exceeds p, 17) ∷ (ltb (length scratch) (scratch_need k), 9) ∷ (ltb (length out) (ppm_length k), 10) ∷ [])) q
+  later = ap (λ (k : Layout). first ((exceeds p, AboveMaxval) ∷ (ltb (length scratch) (scratch_need k), ShortScratch) ∷ (ltb (length out) (ppm_length k), ShortOutput) ∷ [])) q
 
   abbrev Answered : Outcome → Type 0
   Answered o = o ≡ pick_outcome (first (lent_tests p scratch out)) (ppm_length p.layout)
@@ -160,7 +161,7 @@ module _ (p : Picture) (l : Layout) (q : p.layout ≡ l) (scratch : List Float) 
   out_short b g h = ap (λ (a : Answer). pick_outcome a (ppm_length p.layout)) (sym (later ∙ passed_over _ _ _ b ∙ passed_over _ _ _ (le-ltb _ _ g) ∙ refused_here _ _ _ (lt-ltb _ _ h)))
 
   pub both_long : exceeds p ≡ false → scratch_need l ≤ length scratch → ppm_length l ≤ length out → Answered (Written (ppm_length l))
-  both_long b g h = rw (later ∙ failed_accepted ((exceeds p, 17) ∷ (ltb (length scratch) (scratch_need l), 9) ∷ (ltb (length out) (ppm_length l), 10) ∷ []) (b, (le-ltb _ _ g, (le-ltb _ _ h, tt))), q) refl
+  both_long b g h = rw (later ∙ failed_accepted ((exceeds p, AboveMaxval) ∷ (ltb (length scratch) (scratch_need l), ShortScratch) ∷ (ltb (length out) (ppm_length l), ShortOutput) ∷ []) (b, (le-ltb _ _ g, (le-ltb _ _ h, tt))), q) refl
 
 -- what is promised of the picture that an input holds is what `picture` promises of the input
 pub input_given : {s : List ℕ} {l : Layout} {y cb cr : ℕ} → ReadAccepted s l y cb cr → {p : Picture} → p ≡ input_picture s → {scratch : List Float} {out : List ℕ} {o : Outcome} {scratch' : List Float} {out' : List ℕ} → PpmGiven p scratch out o scratch' out' → PictureGiven s scratch out o scratch' out'
@@ -170,7 +171,7 @@ input_given {s} t {p} e {scratch} {out} {o} {scratch'} {out'} g =
     record { answers = r.answers ∙ ap (λ (a : Answer). pick_outcome a (ppm_length (input_layout s))) (sym (passed_early (reading_tests s) (lent_tests (input_picture s) scratch out) (ap accepted t.passed))); gives = r.gives; scratches = r.scratches }
 
 -- where the reading gives a number, that is the outcome's
-pub read_refused : (s : List ℕ) (scratch : List Float) (out : List ℕ) (n : ℕ) → reading_of s ≡ Refused n → Down n ≡ pick_outcome (first (picture_tests s scratch out)) (ppm_length (input_layout s))
+pub read_refused : (s : List ℕ) (scratch : List Float) (out : List ℕ) (n : ℕ) → reading_of s ≡ Err n → Down n ≡ pick_outcome (first (picture_tests s scratch out)) (ppm_length (input_layout s))
 unfolding picture_tests
 read_refused s scratch out n e =
     let k = turned s n e in

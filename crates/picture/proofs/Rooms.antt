@@ -8,8 +8,8 @@ use native.Mathlib.Omega.{arith}
 use lib.ListN.{length, length-append}
 use lib.Ieee.{Float}
 use borrow.Author.Tests.{le-ltb, ltb-false}
-use Rattle.laws.specs.declared.answers.Answer.{Answer}
-use Rattle.laws.specs.declared.answers.Answer.TheVariants.{Accepted, Refused as Turned}
+use Rattle.laws.specs.Refusals.{Answer}
+use Rattle.std.specs.Prelude.{Ok, Err}
 use Rattle.laws.specs.Refusals.{first, accepted}
 use Rattle.laws.proofs.Refusals.{accepted_failed, failed_both, passed_early, refused_early}
 use Rattle.image.specs.Limits.{exceeds}
@@ -26,9 +26,10 @@ use Rattle.picture.specs.declared.Outcome.TheVariants.{Written}
 use Rattle.picture.specs.Picture.{input_picture, ppm_length, lent_tests, picture_tests, pick_outcome, PictureGiven}
 use Rattle.netpbm.proofs.Digits.{header_most}
 use Rattle.picture.proofs.Readings.{layout_sound, pixels_most}
+use Rattle.laws.specs.declared.refusal.Refusal.TheVariants.{AboveMaxval}
 
 -- what an input that is read asks for
-module _ (input : List ℕ) (a : first (reading_tests input) ≡ Accepted) where
+module _ (input : List ℕ) (a : first (reading_tests input) ≡ Ok tt) where
   read_taken : Taken input (input_layout input) (rows_at input 0) (rows_at input (cb_at input)) (rows_at input (cr_at input))
   unfolding reading_of
   read_taken = taken input _ _ _ _ (rw a refl)
@@ -46,12 +47,12 @@ module _ (input : List ℕ) (a : first (reading_tests input) ≡ Accepted) where
       omega arith
 
 -- with 5,120 values of scratch and 147,472 bytes of out neither 9 nor 10 is ever given
-pub room_enough : (input : List ℕ) (scratch : List Float) (out : List ℕ) → 5120 ≤ length scratch → 147472 ≤ length out → first (picture_tests input scratch out) ≡ first (reading_tests input ++ ((exceeds (input_picture input), 17) ∷ []))
+pub room_enough : (input : List ℕ) (scratch : List Float) (out : List ℕ) → 5120 ≤ length scratch → 147472 ≤ length out → first (picture_tests input scratch out) ≡ first (reading_tests input ++ ((exceeds (input_picture input), AboveMaxval) ∷ []))
 unfolding picture_tests lent_tests input_picture first
 room_enough input scratch out g h = go (first (reading_tests input)) refl
   where
-    go : (a : Answer) → first (reading_tests input) ≡ a → first (reading_tests input ++ lent_tests (input_picture input) scratch out) ≡ first (reading_tests input ++ ((exceeds (input_picture input), 17) ∷ []))
-    go Accepted k =
+    go : (a : Answer) → first (reading_tests input) ≡ a → first (reading_tests input ++ lent_tests (input_picture input) scratch out) ≡ first (reading_tests input ++ ((exceeds (input_picture input), AboveMaxval) ∷ []))
+    go (Ok tt) k =
         passed_early (reading_tests input) _ (ap accepted k)
         ∙ rw (le-ltb (length scratch) (scratch_need (input_layout input)) (omega (arith, scratch_most input k)), le-ltb (length out) (ppm_length (input_layout input)) (omega (arith, out_most input k))) refl
         ∙ sym (passed_early (reading_tests input) _ (ap accepted k))
@@ -63,7 +64,7 @@ unfolding picture_tests lent_tests input_picture
 written_fits {input} {scratch} {out} {n} g = go (first (picture_tests input scratch out)) refl g.answers
   where
     go : (a : Answer) → first (picture_tests input scratch out) ≡ a → Written n ≡ pick_outcome a (ppm_length (input_layout input)) → n ≤ length out
-    go Accepted k e =
+    go (Ok tt) k e =
         let m : n ≡ ppm_length (input_layout input) = cc in
         let f = failed_both (reading_tests input) _ (accepted_failed (picture_tests input scratch out) k) in
         let b = ltb-false (length out) (ppm_length (input_layout input)) f.1.1.1.0 in

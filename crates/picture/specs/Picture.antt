@@ -1,8 +1,8 @@
 -- 'The picture program' of document 01 as one call: the reasons for turning the input down, and the bytes that it writes.
 -- Definitions only.
 use Rattle.std.specs.Prelude.{◌≡◌, Bool, true, false, cond, List, [], ◌∷◌, ◌++◌, ℕ, ◌+◌, ◌*◌, ltb, length, drop, Float}
-use Rattle.laws.specs.declared.answers.Answer.{Answer}
-use Rattle.laws.specs.declared.answers.Answer.TheVariants.{Accepted, Refused as Turned}
+use Rattle.laws.specs.Refusals.{Answer}
+use Rattle.std.specs.Prelude.{Ok, Err}
 use Rattle.laws.specs.Refusals.{Test, first}
 use Rattle.image.specs.declared.layout.Layout.{Layout}
 use Rattle.image.specs.declared.chroma.Chroma.{Chroma}
@@ -19,6 +19,7 @@ use Rattle.netpbm.specs.Lines.{ppm_header}
 use Rattle.netpbm.specs.Reading.{cb_at, cr_at, input_layout, reading_tests}
 use Rattle.picture.specs.declared.Outcome.{Outcome}
 use Rattle.picture.specs.declared.Outcome.TheVariants.{Written, Refused}
+use Rattle.laws.specs.declared.refusal.Refusal.TheVariants.{ShortScratch, ShortOutput, AboveMaxval}
 
 -- ---- the picture that the input holds
 
@@ -60,7 +61,7 @@ scratch_after p scratch = guided_rows p (Cb ∷ Cr ∷ []) 0 p.layout.h scratch
 unfoldable pub lent_tests : Picture → List Float → List ℕ → List Test
 lent_tests p scratch out =
     let l = p.layout in
-    (exceeds p, 17) ∷ (ltb (length scratch) (scratch_need l), 9) ∷ (ltb (length out) (ppm_length l), 10) ∷ []
+    (exceeds p, AboveMaxval) ∷ (ltb (length scratch) (scratch_need l), ShortScratch) ∷ (ltb (length out) (ppm_length l), ShortOutput) ∷ []
 
 -- the reading's "own order", then those
 unfoldable pub picture_tests : List ℕ → List Float → List ℕ → List Test
@@ -68,13 +69,13 @@ picture_tests input scratch out = reading_tests input ++ lent_tests (input_pictu
 
 -- how many bytes were written where the answer is accepted, and otherwise the answer's number
 abbrev pub pick_outcome : Answer → ℕ → Outcome
-pick_outcome Accepted n = Written n
-pick_outcome (Turned k) n = Refused k
+pick_outcome (Ok tt) n = Written n
+pick_outcome (Turned k) n = Err k
 
 -- the outcome is that a picture was written
 abbrev pub is_written : Outcome → Bool
 is_written (Written n) = true
-is_written (Refused k) = false
+is_written (Err k) = false
 
 -- what `picture` promises: of its outcome, and of out and scratch after it; on refusal "every slice is unchanged"
 pub record PictureGiven (input : List ℕ) (scratch : List Float) (out : List ℕ) (outcome : Outcome) (scratch' : List Float) (out' : List ℕ) : Type 0 where

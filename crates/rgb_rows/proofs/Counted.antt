@@ -9,8 +9,8 @@ use lib.Dec.{T, leb, ltb}
 use lib.ListN.{length, replicate, length-replicate}
 use lib.Ieee.{Float, nan}
 use borrow.Author.Tests.{le-ltb}
-use Rattle.laws.specs.declared.answers.Answer.{Answer}
-use Rattle.laws.specs.declared.answers.Answer.TheVariants.{Accepted}
+use Rattle.laws.specs.Refusals.{Answer}
+use Rattle.std.specs.Prelude.{Ok, Err}
 use Rattle.laws.specs.Refusals.{accepted, first}
 use Rattle.laws.proofs.Refusals.{Failed, accepted_is, failed_accepted}
 use Rattle.image.specs.Picture.{bad_planes}
@@ -59,7 +59,7 @@ unfolding rgb_row_tests
 side_fine c f = record { state = f.0; planes = f.1.0; room = f.1.1.0; inside = f.1.1.1.1.0; onward = f.1.1.1.1.1.0 }
 
 -- and where the side is fine and the output has room, the call is accepted
-pub side_passes : (c : RgbRowCall) → SideFine c.side c.y → c.side.reader.geometry.w * 3 ≤ length c.out → first (rgb_row_tests c) ≡ Accepted
+pub side_passes : (c : RgbRowCall) → SideFine c.side c.y → c.side.reader.geometry.w * 3 ≤ length c.out → first (rgb_row_tests c) ≡ Ok tt
 unfolding rgb_row_tests reader_layout
 side_passes c f h = failed_accepted (rgb_row_tests c) (f.state, (f.planes, (f.room, (le-ltb (length c.out) (c.side.reader.geometry.w * 3) h, (f.inside, (f.onward, tt))))))
 

@@ -9,7 +9,7 @@ use native.Mathlib.Omega.{arith}
 use lib.Dec.{T}
 use lib.ListN.{length, get_or, take, replicate, length-replicate}
 use lib.Ieee.{Float, nan}
-use Rattle.laws.specs.declared.answers.Answer.{Answer}
+use Rattle.laws.specs.Refusals.{Answer}
 use Rattle.laws.specs.Refusals.{accepted}
 use Rattle.laws.specs.Lists.{put, table}
 use Rattle.laws.proofs.Lists.{take_put, table_at}

@@ -7,7 +7,7 @@ use lib.Dec.{lit<}
 use lib.ListN.{get_or, replicate}
 use lib.Ieee.{Float, nan, add, sub, sum, neg, mul, div, round, size, span, climb, units, odd, lt, of_int, of_bits, of_fields}
 use lib.Count.{count_trailing_zeros}
-use Rattle.laws.specs.declared.answers.Answer.TheVariants.{Accepted}
+use Rattle.std.specs.Prelude.{Ok, Err}
 use Rattle.laws.specs.Differences.{floor_div, limit, within}
 use Rattle.laws.specs.Lists.{table}
 use Rattle.laws.specs.Refusals.{first}
@@ -45,7 +45,7 @@ planes_c = record { y = record { bytes = 200 ∷ 150 ∷ 90 ∷ 60 ∷ []; strid
 abbrev pub open_c : OpenCall
 open_c = record { layout = layout_a; planes = planes_c; scratch = replicate 80 nan; reader = junk }
 
-pub open_c_answer : first (open_tests open_c) ≡ Accepted
+pub open_c_answer : first (open_tests open_c) ≡ Ok tt
 unfolding open_tests first tests_for bad_size bad_ratio bad_samples bad_range div_ceil bad_chroma bad_siting bad_plane short_plane bad_planes sample_of sample_at any_of above above_any scratch_need
 open_c_answer = refl
 

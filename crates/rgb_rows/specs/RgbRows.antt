@@ -1,7 +1,7 @@
 -- A reader's row as RGB: what the call is handed, why it is turned down, what it gives, and how it counts in the reader's list of demand 3. Definitions only.
 use Rattle.std.specs.Prelude.{◌≡◌, cond, List, [], ◌∷◌, ℕ, ◌*◌, leb, ltb, length, replicate, Float}
 use Rattle.std.specs.Float.{nan}
-use Rattle.laws.specs.declared.answers.Answer.{Answer}
+use Rattle.laws.specs.Refusals.{Answer}
 use Rattle.laws.specs.Refusals.{Test, first, accepted}
 use Rattle.image.specs.declared.chroma.Chroma.TheVariants.{Cb, Cr}
 use Rattle.image.specs.Picture.{bad_planes}
@@ -19,6 +19,7 @@ use Rattle.guided.specs.Calls.{reader_layout, bad_state, after_row, row_scratch,
 use Rattle.guided.specs.Events.{RowEvent, Event, RanRow, Run, picture_by}
 use Rattle.fill.specs.declared.options.ChromaUpsampling.TheVariants.{LumaGuided}
 use Rattle.fill.specs.Fill.{fill_colour}
+use Rattle.laws.specs.declared.refusal.Refusal.TheVariants.{BadState, BadPlane, ShortScratch, ShortOutput, BadRow, RowPassed}
 
 -- what a reader brings to a call: its state, the planes of its picture and its scratch. "Each picture has its own reader with scratch of its own"
 pub record Side : Type 0 where
@@ -43,8 +44,8 @@ unfoldable pub rgb_row_tests : RgbRowCall → List Test
 rgb_row_tests c =
     let s = c.side in
     let l = reader_layout s.reader in
-    (bad_state s.reader, 1) ∷ (bad_planes l s.planes, 7) ∷ (ltb (length s.scratch) (scratch_need l), 9)
-    ∷ (ltb (length c.out) (l.w * 3), 10) ∷ (leb l.h c.y, 11) ∷ (ltb c.y s.reader.place, 12) ∷ []
+    (bad_state s.reader, BadState) ∷ (bad_planes l s.planes, BadPlane) ∷ (ltb (length s.scratch) (scratch_need l), ShortScratch)
+    ∷ (ltb (length c.out) (l.w * 3), ShortOutput) ∷ (leb l.h c.y, BadRow) ∷ (ltb c.y s.reader.place, RowPassed) ∷ []
 
 -- ---- what it gives
 

@@ -7,7 +7,7 @@ use native.Mathlib.Omega.{arith}
 use lib.Dec.{leb, eqb}
 use lib.ListN.{length}
 use borrow.Author.Tests.{ltb-false, leb-false, eqb-true, ne_eqb}
-use Rattle.laws.specs.declared.answers.Answer.TheVariants.{Accepted}
+use Rattle.std.specs.Prelude.{Ok, Err}
 use Rattle.laws.specs.Refusals.{first}
 use Rattle.laws.proofs.Refusals.{accepted_failed, failed_both}
 use Rattle.laws.proofs.Rows.{row_fits}
@@ -28,7 +28,7 @@ pub record Taken (l : Layout) (stride len room : ℕ) : Type 0 where
   pub plane : Holds l.sample_bytes l.cw l.ch stride len
   pub output : l.w * l.h ≤ room
 
-pub taken : (l : Layout) (p : Plane) (room : ℕ) → first (triangular_tests l p room) ≡ Accepted → Taken l p.stride (length p.bytes) room
+pub taken : (l : Layout) (p : Plane) (room : ℕ) → first (triangular_tests l p room) ≡ Ok tt → Taken l p.stride (length p.bytes) room
 unfolding triangular_tests
 taken l p room e =
     let f = failed_both (layout_tests false l) _ (accepted_failed (triangular_tests l p room) e) in

@@ -1,6 +1,6 @@
 -- 'Triangular' of document 01: a whole chroma plane in whole numbers, and the reasons for turning the call down. Definitions only.
 use Rattle.std.specs.Prelude.{◌≡◌, Bool, false, ◌&&◌, ◌||◌, not, cond, List, [], ◌∷◌, ◌++◌, ℕ, ◌+◌, ◌*◌, ◌/◌, ltb, leb, eqb, length}
-use Rattle.laws.specs.declared.answers.Answer.{Answer}
+use Rattle.laws.specs.Refusals.{Answer}
 use Rattle.laws.specs.Lists.{rows}
 use Rattle.laws.specs.Refusals.{Test, first, accepted}
 use Rattle.image.specs.declared.layout.Layout.{Layout}
@@ -9,6 +9,7 @@ use Rattle.image.specs.Samples.{Plane, sample_at}
 use Rattle.image.specs.Picture.{short_plane}
 use Rattle.image.specs.Limits.{above}
 use Rattle.upsample.specs.Weights.{even, weighed, one_axis}
+use Rattle.laws.specs.declared.refusal.Refusal.TheVariants.{NoTriangular, BadPlane, ShortOutput, NotCentred, AboveMaxval}
 
 -- "Both axes: vertical sums 3·near + far, then the same across with b = 8 and 7 and >> 4"; c j i is cell i of row j
 unfoldable pub both_axes : ℕ → ℕ → (ℕ → ℕ → ℕ) → ℕ → ℕ → ℕ
@@ -31,7 +32,7 @@ bad_triangular l = not (ratios l 2 1 || (ratios l 1 2 || ratios l 2 2)) || (eqb 
 
 -- "Refusals 2, 3, 4, 5, 6, 7, 10, lowest first", 18 "right after 4" and 16 "looked at right after 6", and 17, "after 7 and before 8"; `room` is how many values the output holds
 unfoldable pub triangular_tests : Layout → Plane → ℕ → List Test
-triangular_tests l p room = layout_tests false l ++ ((bad_triangular l, 6) ∷ (bad_siting l, 16) ∷ (short_plane l l.cw l.ch p, 7) ∷ (above l l.cw l.ch p, 17) ∷ (ltb room (l.w * l.h), 10) ∷ [])
+triangular_tests l p room = layout_tests false l ++ ((bad_triangular l, NoTriangular) ∷ (bad_siting l, NotCentred) ∷ (short_plane l l.cw l.ch p, BadPlane) ∷ (above l l.cw l.ch p, AboveMaxval) ∷ (ltb room (l.w * l.h), ShortOutput) ∷ [])
 
 -- the output afterwards: the first w·h values are the plane's, row by row, the rest is as it was; all of it is, where the call was refused
 unfoldable pub triangular_plane : Layout → Plane → List ℕ → List ℕ

@@ -12,4 +12,4 @@ use Rattle.ycbcrtoppm.specs.Inner.Lengths.{written_length}
 
 pub outcome_fits : {input : List ℕ} {scratch : List Float} {out : List ℕ} (outcome : Outcome) {scratch' : List Float} {out' : List ℕ} → PictureGiven input scratch out outcome scratch' out' → written_length outcome ≤ length out
 outcome_fits (Written n) g = written_fits g
-outcome_fits (Refused k) g = omega arith
+outcome_fits (Err k) g = omega arith

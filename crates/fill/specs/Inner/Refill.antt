@@ -12,14 +12,15 @@ use Rattle.image.specs.Scratch.{scratch_need}
 use Rattle.kernels.specs.declared.kernel.YcbcrKernel.{YcbcrKernel}
 use Rattle.fill.specs.Tests.{is_fixed}
 use Rattle.fill.specs.Refill.{RefillCall}
+use Rattle.laws.specs.declared.refusal.Refusal.TheVariants.{BadPlane, BadPixelSize, ShortScratch, ShortOutput, NotCentred, AboveMaxval, BadRectangle}
 
 -- of the layout and both sets of planes
 unfoldable pub planes_tests : YcbcrKernel → Layout → Planes → Planes → List Test
-planes_tests kernel l old new = tests_for true (is_fixed kernel) l ++ ((bad_siting l, 16) ∷ (bad_planes l old || bad_planes l new, 7) ∷ (above_any l old || above_any l new, 17) ∷ [])
+planes_tests kernel l old new = tests_for true (is_fixed kernel) l ++ ((bad_siting l, NotCentred) ∷ (bad_planes l old || bad_planes l new, BadPlane) ∷ (above_any l old || above_any l new, AboveMaxval) ∷ [])
 
 -- all but the last, 21's
 unfoldable pub lent_tests : RefillCall → List Test
 lent_tests c =
     let l = c.layout in
     planes_tests c.kernel l c.old c.new
-    ++ ((outside_of 3 4 c.size, 8) ∷ (ltb (length c.scratch) (scratch_need l), 9) ∷ (past_cells l c.cells, 19) ∷ (ltb (length c.out) (l.w * l.h * c.size), 10) ∷ [])
+    ++ ((outside_of 3 4 c.size, BadPixelSize) ∷ (ltb (length c.scratch) (scratch_need l), ShortScratch) ∷ (past_cells l c.cells, BadRectangle) ∷ (ltb (length c.out) (l.w * l.h * c.size), ShortOutput) ∷ [])

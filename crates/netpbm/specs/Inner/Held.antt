@@ -9,6 +9,7 @@ use Rattle.netpbm.specs.declared.pgm.Header.{Header}
 use Rattle.netpbm.specs.declared.pgm.Image.{Image}
 use Rattle.netpbm.specs.Bytes.{has_blank, is_space, past_digits, number_at}
 use Rattle.netpbm.specs.Images.{has_magic, has_number, field_of, field_end, width_of, width_end, height_of, height_end, maxval_of, rows_at, sample_bytes, image_tests}
+use Rattle.laws.specs.declared.refusal.Refusal.TheVariants.{BadHeader, TooLarge}
 
 -- a number as it is held: 65,536 is `Number::MOST`
 abbrev pub held : ℕ → ℕ
@@ -41,14 +42,14 @@ other_maxval wanted m = outside_of 1 65535 m || not (eqb wanted m)
 -- the tests on the numbers as they are held, where this maxval is wanted
 unfoldable pub held_tests : List ℕ → ℕ → Header → ℕ → List Test
 held_tests s at h wanted =
-    (not (has_magic s at), 14)
-    ∷ (not h.width.good, 14)
-    ∷ (ltb 128 h.width.value, 15)
-    ∷ (not h.height.good, 14)
-    ∷ (not h.maxval.good, 14)
-    ∷ (other_maxval wanted h.maxval.value, 14)
-    ∷ (not (has_blank s h.maxval.end), 14)
-    ∷ (ltb (length s - (h.maxval.end + 1)) (rows_held h), 15)
+    (not (has_magic s at), BadHeader)
+    ∷ (not h.width.good, BadHeader)
+    ∷ (ltb 128 h.width.value, TooLarge)
+    ∷ (not h.height.good, BadHeader)
+    ∷ (not h.maxval.good, BadHeader)
+    ∷ (other_maxval wanted h.maxval.value, BadHeader)
+    ∷ (not (has_blank s h.maxval.end), BadHeader)
+    ∷ (ltb (length s - (h.maxval.end + 1)) (rows_held h), TooLarge)
     ∷ []
 
 -- the image whose magic stands at `at`

@@ -1,7 +1,7 @@
 -- The reading of an input as one value, which the code's enum is. Definitions only.
 use Rattle.std.specs.Prelude.{List, ℕ}
-use Rattle.laws.specs.declared.answers.Answer.{Answer}
-use Rattle.laws.specs.declared.answers.Answer.TheVariants.{Accepted, Refused as Turned}
+use Rattle.laws.specs.Refusals.{Answer}
+use Rattle.std.specs.Prelude.{Ok, Err}
 use Rattle.laws.specs.Refusals.{first}
 use Rattle.netpbm.specs.declared.reading.Reading.{Reading}
 use Rattle.netpbm.specs.declared.reading.Reading.TheVariants.{Read, Refused}
@@ -12,8 +12,8 @@ use Rattle.netpbm.specs.Reading.{cb_at, cr_at, input_layout, reading_tests}
 
 -- what was read where the answer is accepted, and otherwise the answer's number
 abbrev pub pick_reading : Answer → Reading → Reading
-pick_reading Accepted r = r
-pick_reading (Turned n) r = Refused n
+pick_reading (Ok tt) r = r
+pick_reading (Turned n) r = Err n
 
 -- the number of the first reason that applies; none applies: the layout, and where the rows of Y, Cb and Cr stand
 unfoldable pub reading_of : List ℕ → Reading

@@ -6,10 +6,10 @@ pub convert-requires : goal.convert-requires
 convert-requires c =
     sym c.read.ensures ∙ c.in-Read.is
 
-pub returns-in-Refused : goal.returns-in-Refused
-returns-in-Refused c =
+pub returns-in-Err : goal.returns-in-Err
+returns-in-Err c =
     let a = c.args in
-    record { answers = read_refused a.input.now a.s.now a.out.now _ (sym c.read.ensures ∙ c.in-Refused.is); gives = refl; scratches = refl }
+    record { answers = read_refused a.input.now a.s.now a.out.now _ (sym c.read.ensures ∙ c.in-Err.is); gives = refl; scratches = refl }
 
 pub returns-in-Read : goal.returns-in-Read
 returns-in-Read c =

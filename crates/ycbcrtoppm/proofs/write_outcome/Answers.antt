@@ -12,6 +12,6 @@ pub slice_bounds-bytes-end : goal.slice_bounds-bytes-end
 slice_bounds-bytes-end g c =
     let h = refusal_fits _ _ c.refusal_line-line.ensures in omega arith
 
-pub slice_bounds-write_all-end-in-Refused : goal.slice_bounds-write_all-end-in-Refused
-slice_bounds-write_all-end-in-Refused g c =
+pub slice_bounds-write_all-end-in-Err : goal.slice_bounds-write_all-end-in-Err
+slice_bounds-write_all-end-in-Err g c =
     let h = refusal_fits _ _ c.refusal_line-line.ensures in sym (length-take-le _ _ (omega arith))

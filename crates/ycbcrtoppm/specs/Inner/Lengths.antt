@@ -6,4 +6,4 @@ use Rattle.picture.specs.declared.Outcome.TheVariants.{Written, Refused}
 -- all bytes of the picture; on refusal none, since the line that is written then doesn't stand in out
 abbrev pub written_length : Outcome → ℕ
 written_length (Written n) = n
-written_length (Refused k) = 0
+written_length (Err k) = 0

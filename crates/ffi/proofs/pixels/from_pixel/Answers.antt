@@ -5,6 +5,6 @@ pub returns-in-Rgb : goal.returns-in-Rgb
 returns-in-Rgb c =
     rw c.in-Rgb.is refl
 
-pub returns-in-Refused : goal.returns-in-Refused
-returns-in-Refused c =
-    rw c.in-Refused.is refl
+pub returns-in-Err : goal.returns-in-Err
+returns-in-Err c =
+    rw c.in-Err.is refl

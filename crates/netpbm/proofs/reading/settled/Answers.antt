@@ -1,10 +1,10 @@
 use mathlib.Core.Path.{refl}
 use Rattle.netpbm.proofs.reading.settled.Goals as goal
 
-pub returns-in-Accepted : goal.returns-in-Accepted
-returns-in-Accepted c =
-    rw c.in-Accepted.is refl
+pub returns-in-(Ok tt) : goal.returns-in-Ok tt
+returns-in-(Ok tt) c =
+    rw c.in-(Ok tt).is refl
 
-pub returns-in-Refused : goal.returns-in-Refused
-returns-in-Refused c =
-    rw c.in-Refused.is refl
+pub returns-in-Err : goal.returns-in-Err
+returns-in-Err c =
+    rw c.in-Err.is refl

@@ -1,5 +1,5 @@
 use Rattle.colorimetry.proofs.blend.answers.lower.Goals as goal
 
-pub returns-in-Refused : goal.returns-in-Refused
-returns-in-Refused c =
-    rw c.in-Refused.is c.lower_than.ensures
+pub returns-in-Err : goal.returns-in-Err
+returns-in-Err c =
+    rw c.in-Err.is c.lower_than.ensures

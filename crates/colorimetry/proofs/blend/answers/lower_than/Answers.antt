@@ -1,11 +1,11 @@
 use mathlib.Core.Path.{refl, ap}
-use Rattle.laws.specs.declared.answers.Answer.TheVariants.{Refused}
+use Rattle.std.specs.Prelude.{Ok, Err}
 use Rattle.colorimetry.proofs.blend.answers.lower_than.Goals as goal
 
-pub returns-in-Accepted : goal.returns-in-Accepted
-returns-in-Accepted c =
-    rw c.in-Accepted.is refl
+pub returns-in-(Ok tt) : goal.returns-in-Ok tt
+returns-in-(Ok tt) c =
+    rw c.in-(Ok tt).is refl
 
-pub returns-in-Refused : goal.returns-in-Refused
-returns-in-Refused c =
-    rw c.in-Refused.is (ap Refused c.least_number.ensures)
+pub returns-in-Err : goal.returns-in-Err
+returns-in-Err c =
+    rw c.in-Err.is (ap Err c.least_number.ensures)
