@@ -1,15 +1,15 @@
 // Linear reconstruction: one row in scratch, and the public call for a whole chroma plane.
 ghost use Rattle.std.specs.Prelude.{◌≡◌, ◌+◌, ◌*◌, ◌≤◌, ◌<◌, length};
 ghost use Rattle.laws.specs.Refusals.{first};
-ghost use Rattle.image.specs.Samples.{plane_of};
+ghost use Rattle.image.specs.Samples.{plane_of, seen};
 ghost use Rattle.linear.specs.Linear.{linear_tests, linear_row, linear_plane, linear_scratch, LinearGiven};
 ghost use Rattle.linear.specs.Inner.Linear.{Ready};
 
 use crate::across::across_row;
 use crate::down::down_row;
 use crate::rounded::store_row;
-use image::Layout;
-use laws::Answer;
+use image::{Layout, Plane};
+use laws::Refusal;
 use taps::tap_at;
 
 // Inner: row y of a chroma plane, to scratch from dst on. The cells are lerped down into a buffer behind room for two finished rows (Cb's
@@ -28,27 +28,30 @@ pub fn linear_row(layout: Layout, plane: &[u8], stride: usize, y: usize, s: &mut
 }
 
 // Inner: the lowest refusal of `linear_plane` that applies. `space` and `room` are the lengths of scratch and output; nothing is written.
+#[tactic(auto, unfolding(laws::specs::Refusals::first, image::specs::Tests::tests_for, crate::specs::Linear::linear_tests))]
 pub fn linear_answer(
     layout: Layout,
-    plane: &[u8],
-    stride: usize,
+    plane: Plane<'_>,
     space: usize,
     room: usize,
-) -> Answer
-    ensures { result ≡ first (linear_tests layout (plane_of plane.now stride) space room) }
+) -> Result<(), Refusal>
+    ensures { result ≡ first (linear_tests layout (seen plane.entry) space room) }
 {
-    let answer = layout.answer_for(false, false);
-    let short = image::bad_plane(
-        layout.sample_bytes,
-        layout.cw,
-        layout.ch,
-        stride,
-        plane.len(),
-    );
-    let answer = laws::then(answer, short, 7);
-    let answer = image::then_plane_above(answer, layout, plane, stride, layout.cw, layout.ch);
-    let answer = laws::then(answer, image::short_scratch(layout, space), 9);
-    laws::then(answer, laws::product_passes(layout.w, layout.h, room), 10)
+    layout.answer_for(false, false)?;
+    laws::first([(
+        plane.is_short(layout, layout.cw, layout.ch),
+        Refusal::BadPlane,
+    )])?;
+    let above = image::plane_above(layout, plane, layout.cw, layout.ch);
+    let short = laws::product_passes(layout.w, layout.h, room);
+    laws::first([
+        (above, Refusal::AboveMaxval),
+        (
+            image::short_scratch(layout, space),
+            Refusal::ShortScratch,
+        ),
+        (short, Refusal::ShortOutput),
+    ])
 }
 
 // Every row of the plane, each lerped into scratch at 0 and then rounded into out.
@@ -70,21 +73,18 @@ fn linear_rows(layout: Layout, plane: &[u8], stride: usize, s: &mut [f32], out: 
 
 // One whole chroma plane by linear interpolation: w by h values, rounded and limited to 0..=maxval, into out. It answers refusals 2, 3, 4, 18,
 // 5, 7, 17, 9 and 10. What scratch holds after an accepted call is `linear_scratch` of specs/Linear.
+#[tactic(auto, using(crate::proofs::LinearRows::ready))]
 pub fn linear_plane(
     layout: Layout,
-    plane: &[u8],
-    stride: usize,
+    plane: Plane<'_>,
     s: &mut [f32],
     out: &mut [u16],
-) -> Answer
+) -> Result<(), Refusal>
     ensures { LinearGiven
-        layout (plane_of plane.now stride) s.old out.old
+        layout (seen plane.entry) s.old out.old
         result s.new out.new }
 {
-    let answer = linear_answer(layout, plane, stride, s.len(), out.len());
-    if laws::refused(answer) {
-        return answer;
-    }
-    linear_rows(layout, plane, stride, s, out);
-    answer
+    linear_answer(layout, plane, s.len(), out.len())?;
+    linear_rows(layout, plane.bytes, plane.stride, s, out);
+    Ok(())
 }

@@ -1,20 +1,20 @@
 // Triangular chroma upsampling of a whole plane: `triangular` of the original's src/jpeg/upsample.rs, and the public call.
-ghost use Rattle.std.specs.Prelude.{◌≡◌, ◌*◌, ◌<◌, length};
-ghost use Rattle.laws.specs.declared.answers.Answer.TheVariants.{Accepted};
+ghost use Rattle.std.specs.Prelude.{◌≡◌, ◌*◌, ◌<◌, length, Ok};
 ghost use Rattle.laws.specs.Lists.{put};
 ghost use Rattle.laws.specs.Refusals.{first};
-ghost use Rattle.image.specs.Samples.{Plane, sample_at, plane_of};
+ghost use Rattle.image.specs.Samples.{sample_at, plane_of, seen};
 ghost use Rattle.upsample.specs.Triangular.{TriangularGiven, triangular_tests, triangular_plane, triangular_sample};
 
 use crate::across::across_row;
+use crate::answer::triangular_answer;
 use crate::axes::Bias;
-use image::Layout;
-use laws::Answer;
+use image::{Layout, Plane};
+use laws::Refusal;
 
 // Row y of an accepted call, by the ratios. At rv 1 a row of cells is a row of output; at rv 2 output row y lies between cell row y / 2 and
 // the far one.
 fn triangular_row(layout: Layout, plane: &[u8], stride: usize, y: usize, out: &mut [u16])
-    requires out_value { first (triangular_tests layout (plane_of plane.now stride) (length out.old)) ≡ Accepted }
+    requires out_value { first (triangular_tests layout (plane_of plane.now stride) (length out.old)) ≡ Ok tt }
     requires y_lt_h { y < layout.h }
     ensures { out.new ≡ put out.old (y * layout.w) layout.w
         (triangular_sample layout (sample_at layout.sample_bytes (plane_of plane.now stride)) y) }
@@ -40,7 +40,7 @@ fn triangular_row(layout: Layout, plane: &[u8], stride: usize, y: usize, out: &m
 
 // All rows of an accepted call, one after another.
 fn triangular(layout: Layout, plane: &[u8], stride: usize, out: &mut [u16])
-    requires { first (triangular_tests layout (plane_of plane.now stride) (length out.old)) ≡ Accepted }
+    requires { first (triangular_tests layout (plane_of plane.now stride) (length out.old)) ≡ Ok tt }
     ensures { out.new ≡ triangular_plane layout (plane_of plane.now stride) out.old }
 {
     let mut y = 0;
@@ -52,13 +52,14 @@ fn triangular(layout: Layout, plane: &[u8], stride: usize, out: &mut [u16])
 
 // One whole chroma plane by triangular weights: w by h values into out. It answers refusals 2, 3, 4, 18, 5, 6,
 // 16, 7, 17 and 10, and takes no scratch.
-pub fn triangular_plane(layout: Layout, plane: &[u8], stride: usize, out: &mut [u16]) -> Answer
-    ensures { TriangularGiven layout (plane_of plane.now stride) out.old result out.new }
+pub fn triangular_plane(
+    layout: Layout,
+    plane: Plane<'_>,
+    out: &mut [u16],
+) -> Result<(), Refusal>
+    ensures { TriangularGiven layout (seen plane.entry) out.old result out.new }
 {
-    let answer = crate::answer::triangular_answer(layout, plane, stride, out.len());
-    if laws::refused(answer) {
-        return answer;
-    }
-    triangular(layout, plane, stride, out);
-    answer
+    triangular_answer(layout, plane, out.len())?;
+    triangular(layout, plane.bytes, plane.stride, out);
+    Ok(())
 }
