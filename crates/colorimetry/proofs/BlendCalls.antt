@@ -14,7 +14,7 @@ use Rattle.laws.proofs.Refusals.{Asked, kept, made, passed, accepted_failed}
 use Rattle.reconstruction.specs.Fill.{pixels}
 use Rattle.reconstruction.proofs.Laws.{length_pixels, SideFine, side_fine, side_passes}
 use Rattle.guided.specs.declared.state.Reader.{Reader}
-use Rattle.guided.specs.declared.state.Reply.{Reply}
+use Rattle.guided.specs.Calls.{Reply}
 use Rattle.reconstruction.specs.Reader.{Side, RgbRowCall, rgb_row_call, RgbRowGiven, side_reader, side_scratch, side_colour}
 use Rattle.reconstruction.specs.Refusals.{rgb_row_tests}
 use Rattle.colorimetry.specs.Blends.{BlendCall, BlendGiven, blend_tests, blend_colour}

@@ -5,7 +5,7 @@ use mathlib.Core.Path.{◌≡◌, refl, sym, ◌∙◌}
 use mathlib.Core.Bool.{Bool, true, false, true≢false}
 use Prim.Native.Nat.{ℕ}
 use Rattle.laws.specs.Refusals.{Answer}
-use Rattle.guided.specs.declared.state.Reply.{Reply}
+use Rattle.guided.specs.Calls.{Reply}
 use Rattle.ffi.specs.declared.types.ChromaReader.{ChromaReader}
 use Rattle.ffi.specs.declared.types.ChromaReply.{ChromaReply}
 use Rattle.colorimetry.specs.declared.blend.BlendReply.{BlendReply}

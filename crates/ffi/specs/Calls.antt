@@ -1,7 +1,7 @@
 -- What the calls for C promise: the Rattle calls' own records, of the values that C's stand for. Definitions only.
 use Rattle.std.specs.Prelude.{◌≡◌, Bool, true, false, ◌||◌, ℕ, eqb, ltb}
 use Rattle.laws.specs.Refusals.{Answer}
-use Rattle.guided.specs.declared.state.Reply.{Reply}
+use Rattle.guided.specs.Calls.{Reply}
 use Rattle.kernels.specs.declared.pixel.Pixel.{Pixel}
 use Rattle.kernels.specs.declared.pixel.Pixel.TheVariants as P
 use Rattle.kernels.specs.declared.kernel.YcbcrKernel.{YcbcrKernel}

@@ -1,7 +1,7 @@
 -- What C gets of a reader's reply. Definitions only.
 use Rattle.std.specs.Prelude.{cond}
 use Rattle.laws.specs.Refusals.{accepted}
-use Rattle.guided.specs.declared.state.Reply.{Reply}
+use Rattle.guided.specs.Calls.{Reply}
 use Rattle.ffi.specs.declared.types.ChromaReader.{ChromaReader}
 use Rattle.ffi.specs.declared.types.ChromaReply.{ChromaReply}
 use Rattle.ffi.specs.Types.{number_of, chroma_reader}

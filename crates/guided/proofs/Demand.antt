@@ -1,6 +1,6 @@
 -- Demand 3, proved; and that a call which meets the premise is not turned away without a reason.
 -- Runs says that a row given is the guided row; Extremes and Locality then say the rest of that row. Acceptance of later calls is their tests,
--- read off the invariant `Ok`.
+-- read off the invariant `InStep`.
 use mathlib.Core.Path.{◌≡◌, refl, sym, ap, ◌∙◌, subst}
 use mathlib.Core.Bool.{Bool, true, false, cond, ◌&&◌, ◌||◌}
 use mathlib.Core.List.{List}
@@ -25,7 +25,7 @@ use Rattle.guided.specs.Calls.{reader_layout, OpenCall, SeekCall, RowCall, seek_
 use Rattle.guided.specs.Events.{RowEvent, Event, AllRan, Since, Start, After, picture_by, Premise, given, Within, AlikeNear, Run, Demand3}
 use Rattle.guided.proofs.Locality.{guided_local}
 use Rattle.guided.proofs.Extremes.{guided_within, within_number}
-use Rattle.guided.proofs.Runs.{Ok, Good, Gave, gave, after, after_ok}
+use Rattle.guided.proofs.Runs.{InStep, Good, Gave, gave, after, after_ok}
 
 -- a chroma sample of a picture is at most 65,535
 picture_small : (o : OpenCall) → Bytes o → (k : Chroma) (j i : ℕ) → (picture_by o).chroma k j i ≤ 65535
@@ -82,7 +82,7 @@ or_false a b e f = rw (e, f) refl
 
 -- after any list that meets the premise, with s what its accepted calls left
 module _ (es : List Event) (ran : AllRan es) (premise : Premise Start es) (s : Since) (now : after Start es ≡ After s) where
-  ok : Ok s
+  ok : InStep s
   ok = subst Good now (after_ok Start es ran premise tt)
 
   room : scratch_need s.by.layout ≤ length s.scratch

@@ -1,5 +1,5 @@
 -- Over a list of events that meets the premise: the state and scratch that accepted calls leave stand for a window of the current picture, and a row given is its guided row.
--- An induction over the list with the invariant `Ok`: open begins it, seek keeps it with nothing held, and a row call keeps it by
+-- An induction over the list with the invariant `InStep`: open begins it, seek keeps it with nothing held, and a row call keeps it by
 -- FinishedRows. The hard step is to put the current picture in the place of the planes and the state that a row call was handed, which the
 -- premise allows.
 use mathlib.Core.Path.{◌≡◌, refl, sym, ap, ◌∙◌, subst}
@@ -61,7 +61,7 @@ abbrev window : OpenCall → Reader → List Float → Type 0
 window o s xs = Win (picture_by o) (Cb ∷ Cr ∷ []) (top_of o.layout s.place) s.h_next s.f_next xs
 
 -- a state that passes, of the current picture's layout, and the window that its counters tell
-pub record Ok (s : Since) : Type 0 where
+pub record InStep (s : Since) : Type 0 where
   pub state : bad_state s.reader ≡ false
   pub layout : reader_layout s.reader ≡ s.by.layout
   pub planes : bad_planes s.by.layout s.by.planes ≡ false
@@ -71,19 +71,19 @@ pub record Ok (s : Since) : Type 0 where
 -- before the first accepted open nothing is known
 abbrev pub Good : Course → Type 0
 Good Start = Unit {0}
-Good (After s) = Ok s
+Good (After s) = InStep s
 
 has : (k : Chroma) → Has k (Cb ∷ Cr ∷ [])
 has Cb = inl refl
 has Cr = inr (inl refl)
 
 -- the layout of the current picture is sound
-pub sound_by : (s : Since) → Ok s → Sound s.by.layout
+pub sound_by : (s : Since) → InStep s → Sound s.by.layout
 sound_by s ok = subst Sound ok.layout (fine s.reader ok.state).sound
 
 -- ---- an accepted row call that gets what the accepted calls left
 
-module _ (s : Since) (ok : Ok s) (c : RowCall) (hd : RowHanded c) (v : Shows (picture_by s.by) c.planes) (er : c.reader ≡ s.reader) (es : c.scratch ≡ s.scratch) where
+module _ (s : Since) (ok : InStep s) (c : RowCall) (hd : RowHanded c) (v : Shows (picture_by s.by) c.planes) (er : c.reader ≡ s.reader) (es : c.scratch ≡ s.scratch) where
   lay : reader_layout c.reader ≡ s.by.layout
   lay = ap reader_layout er ∙ ok.layout
 
@@ -116,7 +116,7 @@ module _ (s : Since) (ok : Ok s) (c : RowCall) (hd : RowHanded c) (v : Shows (pi
   finished k = row_finished (picture_by s.by) (Cb ∷ Cr ∷ []) (sound_by s ok) s.reader.place s.reader.h_next s.reader.f_next place counters c.y within onward s.scratch ok.win k (has k)
 
   -- leaves the window at its row
-  row_ok : Ok (record { by = s.by; reader = after_row c.reader c.y; scratch = row_scratch c })
+  row_ok : InStep (record { by = s.by; reader = after_row c.reader c.y; scratch = row_scratch c })
   unfolding after_row reader_at reader_layout
   row_ok = record {
     state = after_row_passes c.reader c.y hd.state hd.inside;
@@ -146,7 +146,7 @@ pick : {A : Type 0} (b : Bool) (x y : A) → T b → cond b x y ≡ x
 pick true x y t = refl
 pick false x y t = absurd t
 
-open_ok : (o : OpenCall) (b : Bytes o) → OpenHanded o → Ok (record { by = o; reader = after_open o.layout; scratch = o.scratch })
+open_ok : (o : OpenCall) (b : Bytes o) → OpenHanded o → InStep (record { by = o; reader = after_open o.layout; scratch = o.scratch })
 unfolding after_open reader_at reader_layout geometry_of picture_of
 open_ok o b h = record {
   state = after_open_passes o.layout h.layout h.siting;
@@ -156,7 +156,7 @@ open_ok o b h = record {
   win = win_fresh (picture_by o) (Cb ∷ Cr ∷ []) (top_of o.layout 0) o.scratch (h.room, (sound false o.layout h.layout).cw_most);
 }
 
-seek_ok : (s : Since) → Ok s → (k : SeekCall) → SeekHanded k → k.reader ≡ s.reader → Ok (record { by = s.by; reader = after_seek k.reader k.y; scratch = s.scratch })
+seek_ok : (s : Since) → InStep s → (k : SeekCall) → SeekHanded k → k.reader ≡ s.reader → InStep (record { by = s.by; reader = after_seek k.reader k.y; scratch = s.scratch })
 unfolding after_seek reader_at reader_layout
 seek_ok s ok k h e = record {
   state = after_seek_passes k.reader k.y h.state h.inside;
@@ -172,12 +172,12 @@ seek_ok s ok k h e = record {
 moved_ok : (t : Course) (e : Event) → Ran e → T (done e) → Good t → Handed t e → Good (moved t e)
 unfolding Ran RanRow done moved Handed
 moved_ok t (Opened o r) h a g d =
-    subst (λ (z : Reader). Ok (record { by = o; reader = z; scratch = o.scratch })) (sym (h.leaves ∙ pick (accepted r.answer) (after_open o.layout) o.reader a))
+    subst (λ (z : Reader). InStep (record { by = o; reader = z; scratch = o.scratch })) (sym (h.leaves ∙ pick (accepted r.answer) (after_open o.layout) o.reader a))
     (open_ok o h.bytes (open_handed o (all_failed (open_tests o) r.answer h.answers a)))
 moved_ok Start (Sought k r) h a g d = tt
 moved_ok Start (Rowed e) h a g d = tt
 moved_ok (After s) (Sought k r) h a g d =
-    subst (λ (z : Reader). Ok (record { by = s.by; reader = z; scratch = s.scratch })) (sym (h.leaves ∙ pick (accepted r.answer) (after_seek k.reader k.y) k.reader a))
+    subst (λ (z : Reader). InStep (record { by = s.by; reader = z; scratch = s.scratch })) (sym (h.leaves ∙ pick (accepted r.answer) (after_seek k.reader k.y) k.reader a))
     (seek_ok s g k (seek_handed k (all_failed (seek_tests k) r.answer h.answers a)) d)
 moved_ok (After s) (Rowed e) h a g d =
     let c = e.call in
@@ -224,7 +224,7 @@ handed_row : (e : RowEvent) → Ran (Rowed e) → T (done (Rowed e)) → RowHand
 unfolding Ran RanRow done
 handed_row e h a = row_handed e.call (all_failed (row_tests e.call) e.reply.answer (h a).answers a)
 
-gave_here : (s : Since) (e : RowEvent) → Ran (Rowed e) → T (done (Rowed e)) → Ok s → Handed (After s) (Rowed e) → Gave s.by e
+gave_here : (s : Since) (e : RowEvent) → Ran (Rowed e) → T (done (Rowed e)) → InStep s → Handed (After s) (Rowed e) → Gave s.by e
 unfolding Handed given
 gave_here s e h a ok d =
     let c = e.call in

@@ -4,7 +4,7 @@ use Rattle.std.specs.Bool.{beq}
 use Rattle.std.specs.Float.{nan}
 use Rattle.laws.specs.Axes.{plain}
 use Rattle.laws.specs.Lists.{put}
-use Rattle.laws.specs.Refusals.{Test, first, accepted}
+use Rattle.laws.specs.Refusals.{Answer, Test, first, accepted}
 use Rattle.image.specs.declared.layout.Layout.{Layout}
 use Rattle.image.specs.Tests.{bad_siting, layout_tests}
 use Rattle.image.specs.declared.chroma.Chroma.{Chroma}
@@ -18,7 +18,6 @@ use Rattle.taps.specs.Taps.{tap_of, phase_at, phases_of}
 use Rattle.image.specs.Scratch.{scratch_need, cell_at}
 use Rattle.guided.specs.declared.geometry.Geometry.{Geometry}
 use Rattle.guided.specs.declared.state.Reader.{Reader}
-use Rattle.guided.specs.declared.state.Reply.{Reply}
 use Rattle.guided.specs.Scratch.{row_steps, finished_at}
 use Rattle.laws.specs.declared.refusal.Refusal.TheVariants.{BadState, BadPlane, ShortScratch, ShortOutput, BadRow, RowPassed, NotCentred, AboveMaxval}
 
@@ -145,6 +144,14 @@ row_scratch r =
 -- an output of an accepted row call: its first w values are the component's finished row, the rest is as it was
 unfoldable pub row_out : RowCall → Chroma → List Float → List Float
 row_out r k out = put out 0 r.reader.geometry.w (cell_at (row_scratch r) (finished_at (reader_layout r.reader) k))
+
+-- what open, seek and row answer, with the state afterwards
+pub record Reply : Type 0 where
+  pub answer : Answer
+  pub reader : Reader
+
+abbrev pub reply : Answer → Reader → Reply
+reply answer reader = record { answer = answer; reader = reader }
 
 -- ---- what the contracts promise: `ensures` of open, seek and row is one of these records, and nothing else
 

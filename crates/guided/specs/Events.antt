@@ -9,7 +9,7 @@ use Rattle.image.specs.declared.chroma.Chroma.TheVariants.{Cb, Cr}
 use Rattle.image.specs.Picture.{Picture, chroma_plane, picture_of, SameButRange}
 use Rattle.image.specs.Picture.{Planes}
 use Rattle.guided.specs.declared.state.Reader.{Reader}
-use Rattle.guided.specs.declared.state.Reply.{Reply}
+use Rattle.guided.specs.Calls.{Reply}
 use Rattle.guided.specs.Guided.{guided_row}
 use Rattle.guided.specs.Calls.{OpenCall, SeekCall, RowCall, OpenGiven, SeekGiven, RowGiven}
 

@@ -9,4 +9,4 @@ mod geometry;
 mod state;
 
 pub use geometry::Geometry;
-pub use state::{Reader, Reply};
+pub use state::Reader;

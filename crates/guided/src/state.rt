@@ -1,6 +1,5 @@
 // The state that open, seek and row hand from call to call.
 use crate::geometry::Geometry;
-use laws::Answer;
 
 // Where a reader is: its picture's numbers, the row it is at, the next chroma row to sum across and the next to finish.
 #[derive(Clone, Copy)]
@@ -11,11 +10,4 @@ pub struct Reader {
     pub place: usize,
     pub h_next: usize,
     pub f_next: usize,
-}
-
-// What open, seek and row answer, with the state afterwards.
-#[derive(Clone, Copy)]
-pub struct Reply {
-    pub answer: Answer,
-    pub reader: Reader,
 }

@@ -16,7 +16,7 @@ use Rattle.laws.proofs.Refusals.{Failed, accepted_is, failed_accepted}
 use Rattle.image.specs.Picture.{bad_planes}
 use Rattle.image.specs.Scratch.{scratch_need}
 use Rattle.guided.specs.declared.state.Reader.{Reader}
-use Rattle.guided.specs.declared.state.Reply.{Reply}
+use Rattle.guided.specs.Calls.{Reply}
 use Rattle.guided.specs.Calls.{reader_layout, bad_state, row_tests}
 use Rattle.guided.specs.Events.{RanRow}
 use Rattle.guided.proofs.Acceptance.{all_failed, is_true}

@@ -26,7 +26,7 @@ use Rattle.kernels.specs.declared.kernel.YcbcrKernel.TheVariants.{Exact}
 use Rattle.colour_rows.specs.Colours.{colour_in}
 use Rattle.guided.specs.Guided.{guided_sample, guided_row}
 use Rattle.guided.specs.declared.state.Reader.{Reader}
-use Rattle.guided.specs.declared.state.Reply.{Reply}
+use Rattle.guided.specs.Calls.{Reply}
 use Rattle.guided.specs.Scratch.{finished_at}
 use Rattle.guided.specs.Calls.{reader_layout, row_out, OpenCall}
 use Rattle.guided.specs.Events.{Event, Start, Gives, here, later, done, Run, picture_by, given, out_of}

@@ -5,7 +5,7 @@ use native.Mathlib.Omega.{arith}
 use lib.Ieee.{Float}
 use Rattle.laws.specs.Refusals.{place_of, Ascending, Lowest}
 use Rattle.laws.proofs.Refusals.{given_lowest}
-use Rattle.guided.specs.declared.state.Reply.{Reply}
+use Rattle.guided.specs.Calls.{Reply}
 use Rattle.rgb_rows.specs.RgbRows.{RgbRowCall, rgb_row_tests, RgbRowGiven}
 
 pub rgb_row_ascends : (c : RgbRowCall) → Ascending 0 (rgb_row_tests c)

@@ -13,7 +13,7 @@ use Rattle.kernels.specs.declared.kernel.YcbcrKernel.TheVariants.{Exact}
 use Rattle.kernel_blocks.specs.Stores.{pixels}
 use Rattle.colour_rows.specs.Colours.{colour_in}
 use Rattle.guided.specs.declared.state.Reader.{Reader}
-use Rattle.guided.specs.declared.state.Reply.{Reply}
+use Rattle.guided.specs.Calls.{Reply}
 use Rattle.guided.specs.Scratch.{finished_at}
 use Rattle.guided.specs.Calls.{reader_layout, bad_state, after_row, row_scratch, row_out, RowCall, OpenCall}
 use Rattle.guided.specs.Events.{RowEvent, Event, RanRow, Run, picture_by}
