@@ -2,13 +2,14 @@
 -- each side as a bound. The facts about cw and ch follow from Quotients, since test 5 says that they are the rounded-up quotients. `sound` is its
 -- case of numerator 1.
 use mathlib.Core.Path.{◌≡◌, refl, sym, ap, ◌∙◌}
-use mathlib.Core.Bool.{Bool, true, false, ◌&&◌, ◌||◌, not, cond}
+use mathlib.Core.Bool.{Bool, true, false, true≢false, ◌&&◌, ◌||◌, not, cond}
 use Prim.Native.Nat.{ℕ, suc, ◌+◌, ◌-◌, ◌*◌, ◌≤◌, ◌<◌}
 use native.Mathlib.Nat.{mul-le-mul, mul-le-mul_left, mul-pos, mul-one, le_trans, le-div_iff_mul-le, suc-mul}
 use native.Mathlib.Omega.{arith}
 use lib.Dec.{eqb}
 use borrow.Author.Tests.{eqb-true, not-false}
-use Rattle.laws.specs.Refusals.{first, accepted, place_of, Ascending}
+use Rattle.std.specs.Prelude.{Ok, Err, is_err}
+use Rattle.laws.specs.Refusals.{Answer, first, accepted, place_of, Ascending}
 use Rattle.laws.proofs.Refusals.{Failed, accepted_failed, accepted_is}
 pub use Rattle.laws.proofs.Limits.{neither, within}
 use Rattle.laws.specs.Numbers.{outside_of}
@@ -196,6 +197,11 @@ shaped_answer whole fixed l e = shaped whole fixed l (accepted_failed (tests_for
 -- the same of a layout whose answer is no refusal
 pub sound_answer : (fixed : Bool) (l : Layout) → accepted (first (layout_tests fixed l)) ≡ true → Sound l
 sound_answer fixed l e = sound fixed l (accepted_failed (layout_tests fixed l) (accepted_is (first (layout_tests fixed l)) e))
+
+-- and of one that wasn't turned down
+pub sound_unless : (l : Layout) (a : Answer) → a ≡ first (layout_tests false l) → is_err a ≡ false → Sound l
+sound_unless l (Ok _) e h = sound false l (accepted_failed (layout_tests false l) (sym e))
+sound_unless l (Err why) e h = let z : ◌≡◌ {A = Bool} true false = h in absurd (true≢false z)
 
 -- ---- where ratios are whole and 16 does not apply both axes are plain
 

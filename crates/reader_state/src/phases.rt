@@ -8,6 +8,7 @@ use image::Layout;
 use taps::Phase;
 
 // Inner: the geometry that open keeps of a layout, its phases among it.
+#[tactic(auto, unfolding(guided::specs::Calls::geometry_of))]
 pub fn geometry_of(layout: Layout) -> Geometry
     requires { layout.rh ≤ 4 }
     ensures { result ≡ geometry_of layout }
@@ -27,10 +28,11 @@ pub fn geometry_of(layout: Layout) -> Geometry
 }
 
 // Whether two phases are the same, their fractions bit for bit.
+#[tactic(auto, unfolding(guided::specs::Calls::same_phase))]
 fn same_phase(a: Phase, b: Phase) -> bool
     ensures { result ≡ same_phase a b }
 {
-    laws::both(a.left == b.left, fround::same_float(a.f, b.f))
+    a.left == b.left && fround::same_float(a.f, b.f)
 }
 
 // Whether p is phase k of ratio r.
@@ -42,13 +44,12 @@ fn phase_is(p: Phase, r: usize, k: usize) -> bool
 }
 
 // Inner: whether a phase is another than those that open leaves, the unused ones too.
+#[tactic(auto, unfolding(guided::specs::Calls::bad_phases))]
 pub fn bad_phases(g: Geometry) -> bool
     requires { g.rh ≤ 4 }
     ensures { result ≡ bad_phases g }
 {
     let r = g.rh;
     let p = g.phases;
-    let last = laws::both(phase_is(p[2], r, 2), phase_is(p[3], r, 3));
-    let more = laws::both(phase_is(p[1], r, 1), last);
-    !laws::both(phase_is(p[0], r, 0), more)
+    !(phase_is(p[0], r, 0) && phase_is(p[1], r, 1) && phase_is(p[2], r, 2) && phase_is(p[3], r, 3))
 }

@@ -9,6 +9,7 @@ use image::Layout;
 use laws::Axis;
 
 // Inner: the layout that a reader's picture was opened with, put together from its state. Open takes plain axes alone.
+#[tactic(auto, unfolding(guided::specs::Calls::reader_layout))]
 pub fn reader_layout(reader: Reader) -> Layout
     ensures { result ≡ reader_layout reader }
 {
@@ -30,6 +31,7 @@ pub fn reader_layout(reader: Reader) -> Layout
 }
 
 // Inner: the first chroma row that picture row y takes from.
+#[tactic(auto, unfolding(guided::specs::Calls::top_of))]
 pub fn top_of(layout: Layout, y: usize) -> usize
     requires sound { Sound layout }
     requires y_lt_h { y < layout.h }
@@ -40,18 +42,18 @@ pub fn top_of(layout: Layout, y: usize) -> usize
 }
 
 // Inner: the last chroma row that picture row y takes from or is clamped by.
+#[tactic(auto, unfolding(guided::specs::Calls::last_of))]
 pub fn last_of(layout: Layout, y: usize) -> usize
     requires sound { Sound layout }
     requires y_lt_h { y < layout.h }
     ensures { (result ≡ last_of layout y) × (result < layout.ch) }
 {
     let t = taps::plain_tap(layout.rv, layout.ch, y);
-    let own = y / layout.rv;
-    if t.i1 < own { own } else { t.i1 }
+    t.i1.max(y / layout.rv)
 }
 
 // A reader's two counters: the next chroma row to sum across, and the next to finish.
-#[derive(Clone, Copy)]
+#[derive(Clone, Copy, PartialEq, Eq, Debug)]
 pub struct Counters {
     pub h_next: usize,
     pub f_next: usize,
@@ -84,12 +86,13 @@ pub fn done_counters(layout: Layout, y: usize) -> Counters
 {
     let last = last_of(layout, y);
     Counters {
-        h_next: laws::least(last + 2, layout.ch),
+        h_next: layout.ch.min(last + 2),
         f_next: last + 1,
     }
 }
 
 // Inner: a layout's reader at row y with these counters, which is the state that open, seek and row leave.
+#[tactic(auto, unfolding(guided::specs::Calls::reader_at))]
 pub fn reader_at(geometry: Geometry, layout: Layout, y: usize, c: Counters) -> Reader
     ensures { result ≡ reader_at geometry layout y c.h_next c.f_next }
 {
@@ -107,10 +110,11 @@ pub fn reader_at(geometry: Geometry, layout: Layout, y: usize, c: Counters) -> R
 fn counters_are(reader: Reader, c: Counters) -> bool
     ensures { result ≡ (eqb reader.h_next c.h_next && eqb reader.f_next c.f_next) }
 {
-    laws::both(reader.h_next == c.h_next, reader.f_next == c.f_next)
+    reader.h_next == c.h_next && reader.f_next == c.f_next
 }
 
 // Whether the counters are neither open's or seek's nor row's at the state's place.
+#[tactic(auto, unfolding(guided::specs::Calls::bad_counters, guided::specs::Calls::reader_layout))]
 fn bad_counters(reader: Reader) -> bool
     requires sound { Sound (reader_layout reader) }
     requires place_lt_h { reader.place < reader.geometry.h }
@@ -119,22 +123,17 @@ fn bad_counters(reader: Reader) -> bool
     let layout = reader_layout(reader);
     let fresh = fresh_counters(layout, reader.place);
     let done = done_counters(layout, reader.place);
-    !laws::either(counters_are(reader, fresh), counters_are(reader, done))
+    !(counters_are(reader, fresh) || counters_are(reader, done))
 }
 
 // Inner: refusal 1's test: whether open, seek and row never leave this state.
+#[tactic(auto, unfolding(guided::specs::Calls::bad_state))]
 pub fn bad_state(reader: Reader) -> bool
     ensures { result ≡ bad_state reader }
 {
-    if laws::refused(reader_layout(reader).answer(false)) {
+    if reader_layout(reader).answer(false).is_err() {
         return true;
     }
     let g = reader.geometry;
-    if bad_phases(g) {
-        return true;
-    }
-    if g.h <= reader.place {
-        return true;
-    }
-    bad_counters(reader)
+    bad_phases(g) || g.h <= reader.place || bad_counters(reader)
 }
