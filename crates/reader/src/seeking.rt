@@ -2,12 +2,13 @@
 ghost use Rattle.std.specs.Prelude.{◌≡◌, ◌<◌};
 ghost use Rattle.image.specs.Inner.Tests.{Sound};
 ghost use Rattle.laws.specs.Refusals.{first};
-ghost use Rattle.guided.specs.Calls.{reader_layout, after_seek, seek_call, seek_tests, SeekGiven};
+ghost use Rattle.guided.specs.Calls.{reader_layout, after_seek, seek_call, seek_tests, reply, SeekGiven};
 
-use guided::{Reader, Reply};
-use laws::Answer;
+use guided::Reader;
+use laws::Refusal;
 
 // The state that an accepted seek leaves at row y.
+#[tactic(auto, unfolding(guided::specs::Calls::after_seek, guided::specs::Calls::reader_layout))]
 fn after_seek(reader: Reader, y: usize) -> Reader
     requires sound { Sound (reader_layout reader) }
     requires y_lt_h { y < reader.geometry.h }
@@ -20,24 +21,21 @@ fn after_seek(reader: Reader, y: usize) -> Reader
 }
 
 // The lowest refusal of `seek` that applies.
-fn seek_answer(reader: Reader, y: usize) -> Answer
+#[tactic(auto, unfolding(guided::specs::Calls::seek_tests))]
+fn seek_answer(reader: Reader, y: usize) -> Result<(), Refusal>
     ensures { result ≡ first (seek_tests (seek_call y reader)) }
 {
-    let g = reader.geometry;
-    let answer = laws::then(Answer::Accepted, reader_state::bad_state(reader), 1);
-    laws::then(answer, g.h <= y, 11)
+    laws::first([
+        (reader_state::bad_state(reader), Refusal::BadState),
+        (reader.geometry.h <= y, Refusal::BadRow),
+    ])
 }
 
 // Moves a reader to any row, back as well. Refusals 1 and 11.
-pub fn seek(reader: Reader, y: usize) -> Reply
-    ensures { SeekGiven (seek_call y reader) result }
+pub fn seek(reader: &mut Reader, y: usize) -> Result<(), Refusal>
+    ensures { SeekGiven (seek_call y reader.old) (reply result reader.new) }
 {
-    let answer = seek_answer(reader, y);
-    if laws::refused(answer) {
-        return Reply { answer, reader };
-    }
-    Reply {
-        answer,
-        reader: after_seek(reader, y),
-    }
+    seek_answer(*reader, y)?;
+    *reader = after_seek(*reader, y);
+    Ok(())
 }
