@@ -4,7 +4,9 @@ use mathlib.Core.Bool.{false}
 use Prim.Native.Nat.{◌*◌, ◌≤◌, ◌<◌}
 use lib.ListN.{length}
 use borrow.Author.Tests.{ltb-false, leb-false}
-use Rattle.laws.proofs.Refusals.{Failed}
+use Rattle.std.proofs.Common.{◌∙◌, sym, Ok}
+use Rattle.laws.specs.Refusals.{Answer, first}
+use Rattle.laws.proofs.Refusals.{Failed, accepted_failed}
 use Rattle.image.specs.Picture.{bad_planes}
 use Rattle.image.specs.Scratch.{scratch_need}
 use Rattle.guided.specs.Calls.{reader_layout, bad_state}
@@ -28,3 +30,6 @@ rgb_row_handed c f =
       output = ltb-false (length c.out) (l.w * 3) f.1.1.1.0;
       inside = leb-false l.h c.y f.1.1.1.1.0;
     }
+
+pub rowed : (c : RgbRowCall) (a : Answer) → a ≡ first (rgb_row_tests c) → a ≡ Ok tt → RgbRowHanded c
+rowed c a e h = rgb_row_handed c (accepted_failed _ (sym e ∙ h))

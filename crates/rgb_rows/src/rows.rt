@@ -1,6 +1,7 @@
 // A reader's row as RGB bytes.
 ghost use Rattle.std.specs.Prelude.{◌≡◌, ◌*◌, ◌≤◌, length};
-ghost use Rattle.image.specs.Picture.{planes_of};
+ghost use Rattle.image.specs.Picture.{planes_seen};
+ghost use Rattle.guided.specs.Calls.{reply};
 ghost use Rattle.image.specs.Samples.{plane_of};
 ghost use Rattle.kernels.specs.declared.kernel.YcbcrKernel.TheVariants.{Exact};
 ghost use Rattle.colour_rows.specs.Inner.Colours.{ranged_row};
@@ -8,9 +9,10 @@ ghost use Rattle.colour_rows.specs.Inner.Lent.{RowLent};
 ghost use Rattle.rgb_rows.specs.RgbRows.{side_of, rgb_row_call, RgbRowGiven};
 
 use crate::answers::rgb_row_answer;
-use guided::{Reader, Reply};
-use image::{Components, Layout, Strides};
+use guided::Reader;
+use image::{Components, Layout, Planes, Strides};
 use kernels::YcbcrKernel;
+use laws::Refusal;
 use reader::after_row;
 
 // The chroma that scratch holds, with row `row` of luma's plane, by the exact kernel in the layout's range, as w pixels of three bytes
@@ -39,30 +41,29 @@ fn exact_row(layout: Layout, plane: &[u8], stride: usize, row: usize, s: &[f32],
 // Row `row` as w pixels of three bytes to the front of out: guided, by the exact kernel, and the reader moved as by `row`. Surplus bytes are
 // left. Refusals 1, 7, 9, 10 (out shorter than 3·w), 11 and 12. Scratch afterwards is what `row` leaves.
 pub fn rgb_row(
-    reader: Reader,
-    y: &[u8],
-    cb: &[u8],
-    cr: &[u8],
-    strides: Strides,
+    reader: &mut Reader,
+    planes: Planes<'_>,
     row: usize,
     s: &mut [f32],
     out: &mut [u8],
-) -> Reply
+) -> Result<(), Refusal>
     ensures { RgbRowGiven
-        (rgb_row_call row (side_of reader (planes_of y.now cb.now cr.now strides) s.old)
+        (rgb_row_call row (side_of reader.old (planes_seen planes.entry) s.old)
         out.old)
-        result s.new out.new }
+        (reply result reader.new) s.new out.new }
 {
-    let answer = rgb_row_answer(reader, y, cb, cr, strides, row, s, out);
-    if laws::refused(answer) {
-        return Reply { answer, reader };
-    }
-    let layout = reader_state::reader_layout(reader);
+    rgb_row_answer(*reader, planes, row, s, out)?;
+    let layout = reader_state::reader_layout(*reader);
+    let strides = Strides {
+        y: planes.y.stride,
+        cb: planes.cb.stride,
+        cr: planes.cr.stride,
+    };
     guided_rows::row_steps(
         layout,
-        y,
-        cb,
-        cr,
+        planes.y.bytes,
+        planes.cb.bytes,
+        planes.cr.bytes,
         strides,
         Components::Both,
         reader.h_next,
@@ -70,9 +71,7 @@ pub fn rgb_row(
         row,
         s,
     );
-    exact_row(layout, y, strides.y, row, s, out);
-    Reply {
-        answer,
-        reader: after_row(reader, row),
-    }
+    exact_row(layout, planes.y.bytes, planes.y.stride, row, s, out);
+    *reader = after_row(*reader, row);
+    Ok(())
 }

@@ -14,7 +14,7 @@ row_steps-requires c =
   let a = c.args in
   let k : RowCall = row_call a.row (planes_seen a.planes) a.reader.now a.s.now a.out_cb.now a.out_cr.now in
   let h : RowHanded k = rowed k _ c.row_answer.ensures c.in_ok-row_answer.was in
-  rw c.reader_layout-layout.ensures (record { lent = lent k h; row_lt_h = (h.inside, h.room) })
+  rw c.reader_layout-layout.ensures (record { lent = lent k.reader k.planes h.state h.planes; row_lt_h = (h.inside, h.room) })
 
 pub copy_rows-requires : goal.copy_rows-requires
 unfolding row_scratch
@@ -23,7 +23,7 @@ copy_rows-requires c =
   let k : RowCall = row_call a.row (planes_seen a.planes) a.reader.now a.s.now a.out_cb.now a.out_cr.now in
   let h : RowHanded k = rowed k _ c.row_answer.ensures c.in_ok-row_answer.was in
   let made : c.row_steps.new.s ≡ row_scratch k = rw (sym c.reader_layout-layout.ensures) c.row_steps.ensures in
-  let m = room_after k h _ made in
+  let m = room_after k _ h.room made in
   let w = ap (λ (l : Layout). l.w) c.reader_layout-layout.ensures in
   let b = h.cb in
   let r = h.cr in
