@@ -6,43 +6,57 @@ ghost use Rattle.image.specs.Scratch.{scratch_need};
 ghost use Rattle.linear.specs.Inner.Stores.{store_run};
 ghost use Rattle.guided_window.specs.Inner.Lent.{Lent};
 ghost use Rattle.guided_rows.specs.CatchingUp.{guided_step, guided_rows};
-ghost use Rattle.guided_plane.specs.Plane.{planes_with, picture_with, short_pair, guided_tests, guided_plane, GuidedGiven};
-ghost use Rattle.image.specs.Samples.{plane_of};
+ghost use Rattle.guided_plane.specs.Plane.{planes_with, picture_with, short_pair, above_pair, guided_tests, guided_plane, GuidedGiven};
+ghost use Rattle.image.specs.Samples.{plane_of, seen};
+ghost use Rattle.image.specs.Inner.Tests.{Sound};
 
 use guided_rows::guided_step;
-use image::{Components, Layout, Strides};
-use laws::Answer;
+use image::{Components, Layout, Plane, Strides};
+use laws::Refusal;
 
-// Refusal 7's test for luma and the one chroma plane: whether either is too short.
-fn bad_pair(layout: Layout, y: &[u8], y_stride: usize, c: &[u8], c_stride: usize) -> bool
-    ensures { result ≡ short_pair layout (plane_of y.now y_stride) (plane_of c.now c_stride) }
+// Refusal 7's test for luma and the one chroma plane.
+#[tactic(auto, unfolding(crate::specs::Plane::short_pair))]
+fn short_pair(layout: Layout, y: Plane<'_>, c: Plane<'_>) -> bool
+    ensures { result ≡ short_pair layout (seen y.entry) (seen c.entry) }
 {
-    let size = layout.sample_bytes;
-    let bad_y = image::bad_plane(size, layout.w, layout.h, y_stride, y.len());
-    let bad_c = image::bad_plane(size, layout.cw, layout.ch, c_stride, c.len());
-    laws::either(bad_y, bad_c)
+    y.is_short(layout, layout.w, layout.h) || c.is_short(layout, layout.cw, layout.ch)
 }
 
-// The lowest refusal of `guided_plane` that applies; `space` and `room` are the lengths of scratch and output. It writes nothing.
+// Refusal 17's test for the two, neither of which is short.
+#[tactic(auto, unfolding(crate::specs::Plane::above_pair, crate::specs::Plane::short_pair))]
+fn above_pair(layout: Layout, y: Plane<'_>, c: Plane<'_>) -> bool
+    requires { Sound layout × (short_pair layout (seen y) (seen c) ≡ false) }
+    ensures { result ≡ above_pair layout (seen y.entry) (seen c.entry) }
+{
+    image::plane_above(layout, y, layout.w, layout.h)
+        || image::plane_above(layout, c, layout.cw, layout.ch)
+}
+
+// The lowest refusal of `guided_plane` that applies. `space` and `room` are the lengths of scratch and output; nothing is written.
+#[tactic(auto, unfolding(laws::specs::Refusals::first, image::specs::Tests::tests_for, crate::specs::Plane::guided_tests))]
 fn plane_answer(
     layout: Layout,
-    y: &[u8],
-    y_stride: usize,
-    c: &[u8],
-    c_stride: usize,
+    y: Plane<'_>,
+    c: Plane<'_>,
     space: usize,
     room: usize,
-) -> Answer
-    ensures { result ≡ first (guided_tests layout
-        (plane_of y.now y_stride) (plane_of c.now c_stride) space room) }
+) -> Result<(), Refusal>
+    ensures { result ≡ first (guided_tests layout (seen y.entry) (seen c.entry) space room) }
 {
-    let answer = layout.answer(false);
-    let answer = laws::then(answer, layout.bad_siting(), 16);
-    let answer = laws::then(answer, bad_pair(layout, y, y_stride, c, c_stride), 7);
-    let answer = image::then_plane_above(answer, layout, y, y_stride, layout.w, layout.h);
-    let answer = image::then_plane_above(answer, layout, c, c_stride, layout.cw, layout.ch);
-    let answer = laws::then(answer, image::short_scratch(layout, space), 9);
-    laws::then(answer, laws::product_passes(layout.w, layout.h, room), 10)
+    layout.answer(false)?;
+    laws::first([
+        (layout.bad_siting(), Refusal::NotCentred),
+        (short_pair(layout, y, c), Refusal::BadPlane),
+    ])?;
+    let short = laws::product_passes(layout.w, layout.h, room);
+    laws::first([
+        (above_pair(layout, y, c), Refusal::AboveMaxval),
+        (
+            image::short_scratch(layout, space),
+            Refusal::ShortScratch,
+        ),
+        (short, Refusal::ShortOutput),
+    ])
 }
 
 // Makes one row: its steps over scratch, then the finished row rounded into out. The chroma plane is lent as both components, and only
@@ -104,24 +118,17 @@ fn plane_rows(
 
 // One whole chroma plane, guided by luma: w by h values, rounded and limited to 0..=maxval, into out. Refusals 2, 3, 4, 18, 5, 16, 7,
 // 17, 9 and 10. Scratch afterwards is `guided_rows` of guided_rows' specs/CatchingUp.
+#[tactic(auto, using(crate::proofs::PlaneRows::ready))]
 pub fn guided_plane(
     layout: Layout,
-    y: &[u8],
-    y_stride: usize,
-    c: &[u8],
-    c_stride: usize,
+    y: Plane<'_>,
+    c: Plane<'_>,
     s: &mut [f32],
     out: &mut [u16],
-) -> Answer
-    ensures { GuidedGiven layout
-        (plane_of y.now y_stride) (plane_of c.now c_stride)
-        s.old out.old
-        result s.new out.new }
+) -> Result<(), Refusal>
+    ensures { GuidedGiven layout (seen y.entry) (seen c.entry) s.old out.old result s.new out.new }
 {
-    let answer = plane_answer(layout, y, y_stride, c, c_stride, s.len(), out.len());
-    if laws::refused(answer) {
-        return answer;
-    }
-    plane_rows(layout, y, y_stride, c, c_stride, s, out);
-    answer
+    plane_answer(layout, y, c, s.len(), out.len())?;
+    plane_rows(layout, y.bytes, y.stride, c.bytes, c.stride, s, out);
+    Ok(())
 }
