@@ -15,3 +15,4 @@ pub mod Settling
 pub mod Worked
 pub mod WorkedBlends
 pub mod WorkedCharts
+pub mod Summing

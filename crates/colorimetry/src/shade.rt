@@ -1,5 +1,5 @@
 // The reading of a patch on a chart: the nearest shade, and the nearest mix of two neighbours.
-ghost use Rattle.std.specs.Prelude.{◌≡◌, [], ◌∷◌, ◌+◌, ◌-◌, ◌*◌, ◌/◌, ◌%◌, ◌≤◌, ◌<◌, length};
+ghost use Rattle.std.specs.Prelude.{◌≡◌, ℕ, [], ◌∷◌, ◌+◌, ◌-◌, ◌*◌, ◌/◌, ◌%◌, ◌≤◌, ◌<◌, length};
 ghost use Rattle.colorimetry.specs.declared.shade.Nearest.TheVariants as N;
 ghost use Rattle.colorimetry.specs.declared.shade.Between.TheVariants as B;
 ghost use Rattle.colorimetry.specs.Charts.{bad_chart, square_of, distance, shade_at, mix_at, shade_off, candidate_off, chart_call, ChartGiven};
@@ -7,7 +7,7 @@ ghost use Rattle.colorimetry.specs.Inner.Search.{channel, Least};
 
 use crate::mix::mix;
 use crate::patch::{Patched, patch_mean};
-use laws::{Answer, either, outside};
+use laws::{Answer, outside};
 use reconstruction::Rectangle;
 
 // The nearest shade by its index, counted from 0; `Nothing` where the patch is nothing.
@@ -41,31 +41,24 @@ pub struct ChartReading {
 const WEIGHTS: usize = 17;
 
 // Refusal 20's test: not 2 to 24 shades of three bytes, or bytes over.
+#[tactic(auto, unfolding(crate::specs::Charts::bad_chart))]
 fn bad_chart(len: usize) -> bool
     ensures { result ≡ bad_chart len }
 {
-    either(len % 3 != 0, outside(2, 24, len / 3))
-}
-
-// How far two bytes are apart.
-fn apart(a: u8, b: u8) -> u32
-    ensures { (result ≡ a - b + (b - a)) × (result ≤ 255) }
-{
-    if a < b {
-        return (b - a) as u32;
-    }
-    (a - b) as u32
+    len % 3 != 0 || outside(2, 24, len / 3)
 }
 
 // The square of the difference of two bytes.
+#[tactic(auto, unfolding(crate::specs::Charts::square_of))]
 fn square(a: u8, b: u8) -> u32
     ensures { (result ≡ square_of a b) × (result ≤ 65025) }
 {
-    let d = apart(a, b);
+    let d = u32::from(a.abs_diff(b));
     d * d
 }
 
 // The sum of the squared differences of two colours.
+#[tactic(auto, unfolding(crate::specs::Charts::distance))]
 fn sum_of_squares(a: [u8; 3], b: [u8; 3]) -> u32
     ensures { result ≡ distance (channel a) (channel b) }
 {
@@ -73,6 +66,7 @@ fn sum_of_squares(a: [u8; 3], b: [u8; 3]) -> u32
 }
 
 // Shade i of a chart.
+#[tactic(auto, unfolding(crate::specs::Charts::shade_at))]
 fn shade(chart: &[u8], i: usize) -> [u8; 3]
     requires { (3 * i + 3 ≤ length chart.now) × (i < 24) }
     ensures { result ≡ shade_at chart.now i 0 ∷ shade_at chart.now i 1 ∷ shade_at chart.now i 2 ∷ [] }
@@ -82,6 +76,7 @@ fn shade(chart: &[u8], i: usize) -> [u8; 3]
 }
 
 // The mix of shade i and the one behind it.
+#[tactic(auto, unfolding(crate::specs::Charts::mix_at))]
 fn mixed(chart: &[u8], i: usize, weight: usize) -> [u8; 3]
     requires { (3 * i + 6 ≤ length chart.now) × (i < 23) × (weight ≤ 16) }
     ensures { result ≡ mix_at chart.now i weight 0 ∷ mix_at chart.now i weight 1 ∷ mix_at chart.now i weight 2 ∷ [] }
@@ -96,6 +91,7 @@ fn mixed(chart: &[u8], i: usize, weight: usize) -> [u8; 3]
 }
 
 // How far shade i is from a colour.
+#[tactic(auto, unfolding(crate::specs::Charts::shade_off, crate::specs::Charts::distance))]
 fn shade_off(chart: &[u8], i: usize, colour: [u8; 3]) -> u32
     requires { (3 * i + 3 ≤ length chart.now) × (i < 24) }
     ensures { result ≡ shade_off chart.now colour i }
@@ -105,6 +101,7 @@ fn shade_off(chart: &[u8], i: usize, colour: [u8; 3]) -> u32
 
 // How far candidate q is from a colour: the pair q / 17 at the weight q % 17, so that the candidates stand in the order of pairs and,
 // within a pair, of weights.
+#[tactic(auto, unfolding(crate::specs::Charts::candidate_off, crate::specs::Charts::mix_off, crate::specs::Charts::distance))]
 fn candidate_off(chart: &[u8], q: usize, colour: [u8; 3]) -> u32
     requires { (3 * (q / 17) + 6 ≤ length chart.now) × (q < 391) }
     ensures { result ≡ candidate_off chart.now colour q }
@@ -119,23 +116,34 @@ struct Found {
     off: u32,
 }
 
+// The first of n candidates that is least far, where `off` says how far one is.
+fn first_nearest<F: Fn(usize) -> u32>(n: usize, off: F) -> Found
+    requires some { 1 ≤ n }
+    requires callable { (i : ℕ) → i < n → F.pre off i }
+    ensures { (d : ℕ → ℕ) → ((i x : ℕ) → i < n → F.post off i x → x ≡ d i) → Least d n result.index result.off }
+{
+    let mut found = Found {
+        index: 0,
+        off: off(0),
+    };
+    for i in 1..n {
+        let next = off(i);
+        if next < found.off {
+            found = Found {
+                index: i,
+                off: next,
+            };
+        }
+    }
+    found
+}
+
 // The first of the n shades that is least far from a colour.
 fn nearest_shade(chart: &[u8], n: usize, colour: [u8; 3]) -> Found
     requires { (1 ≤ n) × (n ≤ 24) × (3 * n ≤ length chart.now) }
     ensures { Least (shade_off chart.now colour) n result.index result.off }
 {
-    let mut index = 0;
-    let mut off = shade_off(chart, 0, colour);
-    let mut i = 1;
-    while i < n {
-        let d = shade_off(chart, i, colour);
-        if d < off {
-            index = i;
-            off = d;
-        }
-        i += 1;
-    }
-    Found { index, off }
+    first_nearest(n, |i| shade_off(chart, i, colour))
 }
 
 // The first of the candidates between n shades that is least far from a colour.
@@ -143,19 +151,7 @@ fn nearest_mix(chart: &[u8], n: usize, colour: [u8; 3]) -> Found
     requires { (2 ≤ n) × (n ≤ 24) × (3 * n ≤ length chart.now) }
     ensures { Least (candidate_off chart.now colour) (17 * (n - 1)) result.index result.off }
 {
-    let count = WEIGHTS * (n - 1);
-    let mut index = 0;
-    let mut off = candidate_off(chart, 0, colour);
-    let mut q = 1;
-    while q < count {
-        let d = candidate_off(chart, q, colour);
-        if d < off {
-            index = q;
-            off = d;
-        }
-        q += 1;
-    }
-    Found { index, off }
+    first_nearest(WEIGHTS * (n - 1), |q| candidate_off(chart, q, colour))
 }
 
 // No reading: a call that was refused, or whose patch is nothing.

@@ -10,47 +10,39 @@ pub struct Sums {
     pub b: u64,
 }
 
-// A byte for a sum, with the bound that keeps sums small.
-fn wide(x: u8) -> u64
-    ensures { (result ≡ x) × (result < 256) }
-{
-    x as u64
+impl Sums {
+    // The sums over no pixel.
+    const NONE: Sums = Sums { r: 0, g: 0, b: 0 };
 }
 
 // The sums of the n pixels from byte `at` on.
+#[tactic(auto, using(crate::proofs::Summing::row_none, crate::proofs::Summing::row_more))]
 fn row_sums(rgb: &[u8], at: usize, n: usize) -> Sums
     requires { (at + 3 * n ≤ length rgb.now) × (n ≤ 8192) }
     ensures { Totals (λ k. row_sum rgb.now at n k) (255 * n) result }
 {
-    let mut r: u64 = 0;
-    let mut g: u64 = 0;
-    let mut b: u64 = 0;
-    let mut i = 0;
-    while i < n {
-        r += wide(rgb[at + 3 * i]);
-        g += wide(rgb[at + 3 * i + 1]);
-        b += wide(rgb[at + 3 * i + 2]);
-        i += 1;
+    let mut sums = Sums::NONE;
+    for i in 0..n {
+        sums.r += u64::from(rgb[at + 3 * i]);
+        sums.g += u64::from(rgb[at + 3 * i + 1]);
+        sums.b += u64::from(rgb[at + 3 * i + 2]);
     }
-    Sums { r, g, b }
+    sums
 }
 
 // Inner: the sums over m rows of n pixels, the first of which begins at byte `at` and each of the others `pitch` bytes after the one
 // before it.
+#[tactic(auto, using(crate::proofs::Summing::area_none, crate::proofs::Summing::area_more), unfolding(crate::specs::Inner::Sums::Inside))]
 pub fn area_sums(rgb: &[u8], at: usize, pitch: usize, n: usize, m: usize) -> Sums
     requires { (n ≤ 8192) × (m ≤ 8192) × Inside (length rgb.now) at pitch n m }
     ensures { Totals (λ k. area_sum rgb.now at pitch n m k) (255 * (n * m)) result }
 {
-    let mut r: u64 = 0;
-    let mut g: u64 = 0;
-    let mut b: u64 = 0;
-    let mut j = 0;
-    while j < m {
+    let mut sums = Sums::NONE;
+    for j in 0..m {
         let row = row_sums(rgb, at + j * pitch, n);
-        r += row.r;
-        g += row.g;
-        b += row.b;
-        j += 1;
+        sums.r += row.r;
+        sums.g += row.g;
+        sums.b += row.b;
     }
-    Sums { r, g, b }
+    sums
 }

@@ -13,14 +13,7 @@ pub struct Rgb {
 pub fn limit8(v: u32, bias: u32) -> u8
     ensures { result ≡ min (v - bias) 255 }
 {
-    if v <= bias {
-        return 0;
-    }
-    let x = v - bias;
-    if 255 <= x {
-        return 255;
-    }
-    x as u8
+    v.saturating_sub(bias).min(255) as u8
 }
 
 // Inner: the floor of (p - n) / q, limited to 0..=255. What is subtracted comes apart, since the difference may lie below 0.
@@ -28,12 +21,5 @@ pub fn limit_quot(p: u64, n: u64, q: u64) -> u8
     requires { 0 < q }
     ensures { result ≡ min ((p - n) / q) 255 }
 {
-    if p <= n {
-        return 0;
-    }
-    let v = (p - n) / q;
-    if 255 <= v {
-        return 255;
-    }
-    v as u8
+    (p.saturating_sub(n) / q).min(255) as u8
 }

@@ -28,7 +28,7 @@ fn raised_offset(k: u64, bias: u32, c: u32) -> u32
     requires { (k ≤ 116130) × (bias ≤ 227) × (128 * k < 65536 * bias + 32768) × (c ≤ 65535) }
     ensures { result ≡ raised_fixed k bias c }
 {
-    let n = k * (c as u64) + (65_536 * (bias as u64) + 32_768 - 128 * k);
+    let n = k * u64::from(c) + (65_536 * u64::from(bias) + 32_768 - 128 * k);
     (n >> 16) as u32
 }
 
@@ -68,9 +68,9 @@ fn green_cb_part(cb: u32) -> u64
     ensures { result ≡ 1478167808 - 22554 * cb }
 {
     if in_tables(cb) {
-        return green_cb_raised(cb as usize) as u64 + 1_472_397_312;
+        return u64::from(green_cb_raised(cb as usize)) + 1_472_397_312;
     }
-    1_478_167_808 - Fixed::CB_TO_G * (cb as u64)
+    1_478_167_808 - Fixed::CB_TO_G * u64::from(cb)
 }
 
 // Green's part by Cr, raised by 65,536 * 46,845: read where Cr is a byte, worked out above. An entry comes raised by 91 of the 46,845, so
@@ -80,9 +80,9 @@ fn green_cr_part(cr: u32) -> u64
     ensures { result ≡ 3076057344 - 46802 * cr }
 {
     if in_tables(cr) {
-        return green_cr_raised(cr as usize) as u64 + 3_064_070_144;
+        return u64::from(green_cr_raised(cr as usize)) + 3_064_070_144;
     }
-    3_076_057_344 - Fixed::CR_TO_G * (cr as u64)
+    3_076_057_344 - Fixed::CR_TO_G * u64::from(cr)
 }
 
 // Green, whose two parts are summed before the shift. Their biases make 65,536 * 69,356.

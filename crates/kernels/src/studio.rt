@@ -12,6 +12,7 @@ use crate::exact::{Multiplier, limit_chroma};
 //
 // 57,344,000 is 224 * 256,000, and 12,558,336,000 is 219 times that. 917,504,000 is 16 * 57,344,000, and 7,176,192 is 219 * 32,768. The sum
 // is below 2^60.
+#[tactic(auto, using(crate::proofs::Studios::studio_chroma_is))]
 pub fn studio_chroma(k: u64, y: u64, c: u64) -> u8
     requires { (k ≤ 1772) × (y ≤ 65535) × (c ≤ 65536) }
     ensures { result ≡ studio_chroma k y c }
@@ -28,6 +29,7 @@ pub fn studio_chroma(k: u64, y: u64, c: u64) -> u8
 //
 // 33,660,928,000 is 224 * 150,272,000, and 7,371,743,232,000 is 219 times that; 538,574,848,000 is 16 times. 44,239,752 and 91,804,362 are
 // 219 * 202,008 and 219 * 419,198, and 4,457,893,527,552 is 32,768 times their sum.
+#[tactic(auto, using(crate::proofs::Studios::studio_green))]
 pub fn studio_green(y: u64, cb: u64, cr: u64) -> u8
     requires { (y ≤ 65535) × (cb ≤ 65536) × (cr ≤ 65536) }
     ensures { result ≡ (studio255 y cb cr).green }
@@ -44,12 +46,12 @@ pub fn ycbcr_frac_to_rgb8_studio(y: u32, cb256: u32, cr256: u32) -> Rgb
     requires { y ≤ 65535 }
     ensures { colour_of result ≡ studio255 y cb256 cr256 }
 {
-    let luma = y as u64;
-    let cb = limit_chroma(cb256) as u64;
-    let cr = limit_chroma(cr256) as u64;
+    let luma = u64::from(y);
+    let cb = u64::from(limit_chroma(cb256));
+    let cr = u64::from(limit_chroma(cr256));
     Rgb {
-        r: studio_chroma(Multiplier::RED as u64, luma, cr),
+        r: studio_chroma(u64::from(Multiplier::RED), luma, cr),
         g: studio_green(luma, cb, cr),
-        b: studio_chroma(Multiplier::BLUE as u64, luma, cb),
+        b: studio_chroma(u64::from(Multiplier::BLUE), luma, cb),
     }
 }

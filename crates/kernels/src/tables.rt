@@ -4,8 +4,9 @@
 // The numbers stand once, in entries.rt. Each table is held to its rule by one computed check for the whole table, which proofs/TableRules
 // carries to each entry.
 //
-// A table that a function names is made anew on its stack. So one entry is read by quarters, and no more than its quarter is made then; and
-// whoever reads many entries makes the tables once (`all_tables`) and lends them.
+// The tables are statics, so that one entry is read in place. Whoever reads many entries is lent a copy of all four (`all_tables`).
+//
+// The four functions below are each one sum. They stay four: a shared one would have to be told its table, its raise and its rule.
 ghost use Rattle.std.specs.Prelude.{◌≡◌, ◌-◌, ◌*◌, ◌<◌};
 ghost use Rattle.kernels.specs.Kernels.{fixed_red, fixed_blue, fixed_green_cb, fixed_green_cr};
 ghost use Rattle.kernels.specs.Inner.Forms.{raised_fixed};
@@ -31,64 +32,12 @@ impl Raise {
     pub const GREEN_CR: i32 = 5_963_776;
 }
 
-// Red's offset by Cr.
-fn red_entry(c: usize) -> i32
-    requires { c < 256 }
-    ensures { result ≡ fixed_red c }
-{
-    match c / 64 {
-        0 => RED[c % 64],
-        1 => RED[64 + c % 64],
-        2 => RED[128 + c % 64],
-        _ => RED[192 + c % 64],
-    }
-}
-
-// Blue's offset by Cb.
-fn blue_entry(c: usize) -> i32
-    requires { c < 256 }
-    ensures { result ≡ fixed_blue c }
-{
-    match c / 64 {
-        0 => BLUE[c % 64],
-        1 => BLUE[64 + c % 64],
-        2 => BLUE[128 + c % 64],
-        _ => BLUE[192 + c % 64],
-    }
-}
-
-// Green's part by Cb, before the shift.
-fn green_cb_entry(c: usize) -> i32
-    requires { c < 256 }
-    ensures { result ≡ fixed_green_cb c }
-{
-    match c / 64 {
-        0 => GREEN_CB[c % 64],
-        1 => GREEN_CB[64 + c % 64],
-        2 => GREEN_CB[128 + c % 64],
-        _ => GREEN_CB[192 + c % 64],
-    }
-}
-
-// Green's part by Cr, before the shift, the rounding in it.
-fn green_cr_entry(c: usize) -> i32
-    requires { c < 256 }
-    ensures { result ≡ fixed_green_cr c }
-{
-    match c / 64 {
-        0 => GREEN_CR[c % 64],
-        1 => GREEN_CR[64 + c % 64],
-        2 => GREEN_CR[128 + c % 64],
-        _ => GREEN_CR[192 + c % 64],
-    }
-}
-
 // Inner: red's offset by Cr, raised by `Bias::RED`.
 pub fn red_raised(c: usize) -> u32
     requires { c < 256 }
     ensures { result ≡ raised_fixed 91881 180 c }
 {
-    (red_entry(c) + Raise::RED) as u32
+    (RED[c] + Raise::RED) as u32
 }
 
 // Inner: blue's offset by Cb, raised by `Bias::BLUE`.
@@ -96,7 +45,7 @@ pub fn blue_raised(c: usize) -> u32
     requires { c < 256 }
     ensures { result ≡ raised_fixed 116130 227 c }
 {
-    (blue_entry(c) + Raise::BLUE) as u32
+    (BLUE[c] + Raise::BLUE) as u32
 }
 
 // Inner: green's part by Cb, raised by `Raise::GREEN_CB`: 5,770,496 is that and 128 * 22,554.
@@ -104,7 +53,7 @@ pub fn green_cb_raised(c: usize) -> u32
     requires { c < 256 }
     ensures { result ≡ 5770496 - 22554 * c }
 {
-    (green_cb_entry(c) + Raise::GREEN_CB) as u32
+    (GREEN_CB[c] + Raise::GREEN_CB) as u32
 }
 
 // Inner: green's part by Cr, raised by `Raise::GREEN_CR`: 11,987,200 is that, 32,768 and 128 * 46,802.
@@ -112,7 +61,7 @@ pub fn green_cr_raised(c: usize) -> u32
     requires { c < 256 }
     ensures { result ≡ 11987200 - 46802 * c }
 {
-    (green_cr_entry(c) + Raise::GREEN_CR) as u32
+    (GREEN_CR[c] + Raise::GREEN_CR) as u32
 }
 
 // Where each table stands in `all_tables`.

@@ -4,12 +4,15 @@
 use mathlib.Core.Path.{◌≡◌, refl, sym, ap, ◌∙◌}
 use mathlib.Core.Bool.{Bool, true, false, ◌&&◌, cond}
 use mathlib.Core.List.{List, [], ◌∷◌}
-use Prim.Native.Nat.{ℕ, suc, ◌+◌, max, ◌≤◌, ◌<◌}
+use Prim.Native.Nat.{ℕ, suc, ◌+◌, ◌-◌, max, ◌≤◌, ◌<◌}
 use native.Mathlib.Numerals.{add-one}
 use native.Mathlib.Omega.{arith}
 use lib.Dec.{leb, ltb, eqb}
-use lib.ListN.{length, get_or, drop, length-drop, drop_of_length-le, get_or-eq_default}
-use lib.Seq.{drop-cons}
+use lib.ListN.{length, get_or, take, drop, length-drop, drop_of_length-le, get_or-eq_default}
+use lib.Pointwise.{pointwise}
+use lib.Seq.{drop-cons, take-length}
+use Rattle.std.proofs.lemmas.Bool.Decides.{nat_tests}
+use Rattle.std.proofs.lemmas.List.{get_or-drop}
 use borrow.Author.Tests.{ltb-true, ltb-false, leb-true, lt-ltb, le-ltb}
 use Rattle.netpbm.specs.Ascii.{is_blank, is_digit}
 use Rattle.netpbm.specs.Bytes.{leading, in_comment, is_space, spaces, has_blank, has_space, has_digit, digits_at, past_spaces, past_digits}
@@ -125,6 +128,30 @@ digit_range s at e = go (leb 48 (get_or s at 0)) (leb (get_or s at 0) 57) (leb-t
     go false b f g e = differ false e refl
 
 -- ---- the magic
+
+-- the first two bytes of what is left are the magic's, or no magic stands
+swapped : (a b : ℕ) → eqb a b ≡ eqb b a
+swapped a b = grind (arith, nat_tests)
+
+begins : (xs : List ℕ) → pointwise eqb (80 ∷ 53 ∷ []) (take 2 xs) ≡ (eqb (get_or xs 0 0) 80 && eqb (get_or xs 1 0) 53)
+begins [] = refl
+begins (x ∷ []) = go (eqb 80 x) (eqb x 80) (swapped 80 x)
+  where
+    go : (a b : Bool) → a ≡ b → (a && false) ≡ (b && false)
+    go a b e = ap (λ (z : Bool). z && false) e
+begins (x ∷ y ∷ xs) = rw (swapped 80 x, swapped 53 y) (go (eqb x 80) (eqb y 53))
+  where
+    go : (a b : Bool) → (a && (b && true)) ≡ (a && b)
+    go true true = refl
+    go true false = refl
+    go false b = refl
+
+pub magic_here : (s : List ℕ) (at : ℕ) → pointwise eqb (80 ∷ 53 ∷ []) (take 2 (take (length s - at) (drop at s))) ≡ has_magic s at
+unfolding has_magic
+magic_here s at =
+    let z : at + 0 ≡ at = omega arith in
+    let e : take (length s - at) (drop at s) ≡ drop at s = rw (← (length-drop at s)) (take-length (drop at s)) in
+    ap (λ (xs : List ℕ). pointwise eqb (80 ∷ 53 ∷ []) (take 2 xs)) e ∙ begins (drop at s) ∙ rw (get_or-drop at s 0 0, get_or-drop at s 1 0, z) refl
 
 -- where fewer than two bytes are left no magic stands
 pub magic_outside : (s : List ℕ) (at : ℕ) → length s ≤ at + 1 → false ≡ has_magic s at

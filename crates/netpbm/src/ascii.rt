@@ -7,10 +7,7 @@ ghost use Rattle.netpbm.specs.Ascii.{is_blank, is_mark, ends_comment, is_digit};
 pub fn is_blank(b: u8) -> bool
     ensures { result ≡ is_blank b }
 {
-    laws::either(
-        laws::either(b == b' ', b == b'\t'),
-        laws::either(b == b'\r', b == b'\n'),
-    )
+    matches!(b, b' ' | b'\t' | b'\r' | b'\n')
 }
 
 // Inner: whether a byte is `#`, which begins a comment wherever whitespace may stand.
@@ -24,12 +21,12 @@ pub fn is_mark(b: u8) -> bool
 pub fn ends_comment(last: u8) -> bool
     ensures { result ≡ ends_comment last }
 {
-    laws::either(last == b'\r', last == b'\n')
+    matches!(last, b'\r' | b'\n')
 }
 
 // Inner: whether a byte is one of the digits 0 to 9; a sign is none, so that a header has no negative number.
 pub fn is_digit(b: u8) -> bool
     ensures { result ≡ is_digit b }
 {
-    laws::both(b'0' <= b, b <= b'9')
+    b.is_ascii_digit()
 }

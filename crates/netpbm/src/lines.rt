@@ -5,7 +5,8 @@ ghost use Rattle.netpbm.specs.Lines.{digits_of, ppm_header, refusal_line};
 ghost use Rattle.netpbm.specs.Texts.{line_of};
 ghost use Rattle.netpbm.specs.Inner.Texts.{pushed, Put};
 
-// A line to write: its bytes are the first `len` of `bytes`, and the others are 0, so that a text is held in one way only.
+// A line to write: its bytes are the first `len` of `bytes`, and the others are 0, so that a text is held in one way only. An array with a
+// length beside it, and not a `String`, since nothing here allocates.
 #[derive(Clone, Copy)]
 pub struct Line {
     pub bytes: [u8; Line::ROOM],
@@ -16,10 +17,9 @@ impl Line {
     // How many bytes a line can hold. The longest header, of 128 columns and 8,192 rows, has 3 + 3 + 1 + 4 + 5 = 16; the longest line
     // of a refusal has 12.
     pub const ROOM: usize = 16;
-}
 
-impl Line {
     // The empty line.
+    #[tactic(auto, unfolding(crate::specs::Texts::line_of))]
     fn new() -> Line
         ensures { (result ≡ line_of []) × (result.len ≡ 0) }
     {
@@ -30,6 +30,7 @@ impl Line {
     }
 
     // The line with one byte more at its end.
+    #[tactic(auto, unfolding(crate::specs::Inner::Texts::pushed))]
     fn push(mut self, b: u8) -> Line
         requires { self.len < 16 }
         ensures { result ≡ pushed self b }
@@ -46,13 +47,14 @@ impl Line {
         ensures { Put self text.now result }
     {
         let mut line = self;
-        for i in 0..text.len() {
-            line = line.push(text[i]);
+        for b in text {
+            line = line.push(*b);
         }
         line
     }
 
     // The line with the digit of a number below 10 at its end. Its length is promised beside it, so that `put_number` can count room.
+    #[tactic(auto, unfolding(crate::specs::Inner::Texts::pushed))]
     fn push_digit(self, d: usize) -> Line
         requires { (self.len < 16) × (d < 10) }
         ensures { (result ≡ pushed self (48 + d)) × (result.len ≡ self.len + 1) }
@@ -60,7 +62,8 @@ impl Line {
         self.push(b'0' + d as u8)
     }
 
-    // The line with a number's digits at its end, with no zeros in front. Sides and refusals have four digits at most, each written out.
+    // The line with a number's digits at its end, with no zeros in front. Sides and refusals have four digits at most, each written out, since
+    // a promise names every byte of a line, and `write!` promises none.
     fn put_number(self, n: usize) -> Line
         requires n_bound { n < 10000 }
         requires n_bound_2 { self.len + length (digits_of n) ≤ 16 }
@@ -99,6 +102,6 @@ pub fn refusal_line(n: u8) -> Line
 {
     Line::new()
         .put(b"refused ")
-        .put_number(n as usize)
+        .put_number(usize::from(n))
         .put(b"\n")
 }

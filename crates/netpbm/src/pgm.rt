@@ -7,7 +7,8 @@ ghost use Rattle.netpbm.specs.Inner.Held.{held, field_held, header_held, rows_he
 use crate::scan::{blank_at, digit_at, magic_at, number_at, skip_spaces, space_at};
 use laws::{Answer, then};
 
-// A number of a header: whether whitespace and digits stand where it should, the digits' value, and where they end.
+// A number of a header: whether whitespace and digits stand where it should, the digits' value, and where they end. It is no Option, since a
+// header is read to its end before any of its numbers is tested, from where the one before it ends.
 #[derive(Clone, Copy)]
 pub struct Field {
     pub good: bool,
@@ -46,11 +47,12 @@ impl Image {
 }
 
 // The number of a header that begins with the whitespace at `at`, comments counted.
+#[tactic(auto, using(crate::proofs::Runs::space_is), unfolding(crate::specs::Inner::Held::field_held, crate::specs::Images::has_number, crate::specs::Images::field_of, crate::specs::Images::field_end, crate::specs::Inner::Held::number_held))]
 fn field_at(input: &[u8], at: usize) -> Field
     ensures { result ≡ field_held input.now at }
 {
     let start = skip_spaces(input, at);
-    let good = laws::both(space_at(input, at, false), digit_at(input, start));
+    let good = space_at(input, at, false) && digit_at(input, start);
     let n = number_at(input, start);
     Field {
         good,
@@ -61,6 +63,7 @@ fn field_at(input: &[u8], at: usize) -> Field
 
 // The header of the image whose magic stands at `at`. Its numbers are read before any is tested, which is safe because a number is read at
 // every place, past the end too.
+#[tactic(auto, using(crate::proofs::Fields::header_of))]
 fn header_at(input: &[u8], at: usize) -> Header
     requires { (length input.now ≤ 49152) × (at ≤ length input.now) }
     ensures { result ≡ header_held input.now at }
@@ -76,13 +79,11 @@ fn header_at(input: &[u8], at: usize) -> Header
 }
 
 // Inner: how many bytes a sample has in an image of this maxval.
+#[tactic(auto, unfolding(crate::specs::Images::sample_bytes))]
 pub fn sample_bytes(maxval: usize) -> usize
     ensures { result ≡ sample_bytes maxval }
 {
-    if Image::BYTE < maxval {
-        return 2;
-    }
-    1
+    if Image::BYTE < maxval { 2 } else { 1 }
 }
 
 // How many bytes the rows of an image of this header have. That they are no more than 2^33 is promised, so that callers can add to them.
@@ -100,17 +101,14 @@ fn row_bytes(header: Header) -> usize
 fn other_maxval(wanted: usize, maxval: usize) -> bool
     ensures { result ≡ other_maxval wanted maxval }
 {
-    laws::either(laws::outside(1, Image::MAXVAL, maxval), wanted != maxval)
+    laws::outside(1, Image::MAXVAL, maxval) || wanted != maxval
 }
 
 // Whether fewer than `due` bytes of `len` stand from `rows` on, which may lie past the end.
 fn rows_missing(len: usize, rows: usize, due: usize) -> bool
     ensures { result ≡ ltb (len - rows) due }
 {
-    if len < rows {
-        return 0 < due;
-    }
-    len - rows < due
+    len.saturating_sub(rows) < due
 }
 
 // The first thing that is wrong with the image whose magic stands at `at` and whose header holds these numbers, where this maxval is wanted.

@@ -12,25 +12,25 @@ fn fits_both(n: usize, a: usize, b: usize, r: usize) -> bool
     ensures { result ≡ fits_both n a b r }
 {
     let cells = image::div_ceil(n, r);
-    laws::both(a == cells, b == cells)
+    a == cells && b == cells
 }
 
 // The smallest ratio that fits both chroma images along a side of n pixels, of which they have a and b cells; 0 where none does.
+#[tactic(auto, using(crate::proofs::Ratios::tried_none, crate::proofs::Ratios::tried_more, crate::proofs::Ratios::tried_here, crate::proofs::Ratios::tried_all))]
 fn ratio_for(n: usize, a: usize, b: usize) -> usize
     ensures { result ≡ ratio_for n a b }
 {
-    let mut r = 1;
-    while r <= Layout::RATIO {
+    for r in 1..=Layout::RATIO {
         if fits_both(n, a, b, r) {
             return r;
         }
-        r += 1;
     }
     0
 }
 
 // Inner: the layout of three images, with the first one's maxval, which is held as 65,536 at most and so fits a layout's type. A ratio of 0
 // in it says that none fits, which `no_ratio` tests.
+#[tactic(auto, unfolding(crate::specs::Inner::HeldInput::layout_held))]
 pub fn layout_of(y: Image, cb: Image, cr: Image) -> Layout
     requires { y.maxval ≤ 65536 }
     ensures { result ≡ layout_held y cb cr }
@@ -53,8 +53,9 @@ pub fn layout_of(y: Image, cb: Image, cr: Image) -> Layout
 }
 
 // Inner: refusal 5's test for a layout that `layout_of` gave: whether one of its ratios is missing.
+#[tactic(auto, unfolding(crate::specs::Reading::no_ratio))]
 pub fn no_ratio(layout: Layout) -> bool
     ensures { result ≡ no_ratio layout }
 {
-    laws::either(layout.rh == 0, layout.rv == 0)
+    layout.rh == 0 || layout.rv == 0
 }

@@ -1,4 +1,5 @@
 pub mod Readings
 pub mod Reversals
+pub mod Copied
 pub mod Fronts
 pub mod Rooms

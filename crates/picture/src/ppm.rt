@@ -20,10 +20,7 @@ fn put_line(line: Line, out: &mut [u8])
     requires { (line.len ≤ 16) × (line.len ≤ length out.old) }
     ensures { out.new ≡ put out.old 0 line.len (λ i. get_or line.bytes i 0) }
 {
-    let bytes = line.bytes;
-    for i in 0..line.len {
-        out[i] = bytes[i];
-    }
+    out[..line.len].copy_from_slice(&line.bytes[..line.len]);
 }
 
 // How far apart the rows of planes begin that stand one right behind the other.

@@ -13,7 +13,7 @@ pub(crate) fn empty() -> [u8; 49_152] {
     [0; 49_152]
 }
 
-// Copies the b bytes from `at` on, the last one first.
+// Copies the b bytes from `at` on, the last one first. By places, since a copy and a `reverse` of slices this short would each be a call.
 fn turn_sample(input: &[u8], at: usize, b: usize, planes: &mut [u8])
     requires { (at + b ≤ length input.now) × (at + b ≤ length planes.old) }
     ensures { planes.new ≡ put planes.old at b (λ t. get_or input.now (at + (b - 1 - t)) 0) }

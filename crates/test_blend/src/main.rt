@@ -240,13 +240,9 @@ fn blend(
 
 // Puts a row into the picture from a byte on, as far as that reaches.
 fn keep(rows: &mut [u8], at: usize, out: &[u8]) {
-    let from = laws::least(at, rows.len());
-    let n = laws::least(out.len(), rows.len() - from);
-    let mut i = 0;
-    while i < n {
-        rows[from + i] = out[i];
-        i += 1;
-    }
+    let from = at.min(rows.len());
+    let n = out.len().min(rows.len() - from);
+    rows[from..from + n].copy_from_slice(&out[..n]);
 }
 
 // Makes a line's call on one reader into an output that no call has written, writes its line and gives the reader for the next one.
@@ -498,16 +494,14 @@ fn replay_all<R: Read>(
         early: nobody(),
         late: nobody(),
     };
-    for _ in 0..65_536usize {
-        let mut text = [0u8; 142];
-        if test_support::read_full(input, &mut text)? < 142 {
+    for _ in 0..test_support::LINES {
+        let Some(text) = test_support::read_line(input)? else {
             break;
+        };
+        match text[0] {
+            b'e' => early = text,
+            _ => pair = replay(rt, &text, &early, pair, s, t, rows)?,
         }
-        if test_support::byte(&text, 0) == b'e' {
-            early = text;
-            continue;
-        }
-        pair = replay(rt, &text, &early, pair, s, t, rows)?;
     }
     Ok(())
 }

@@ -395,18 +395,16 @@ fn replay(
 // Makes the calls of all lines, which have 142 bytes each, the newline too. The list ends where fewer are left. The first state has 0
 // throughout, which no open gave.
 fn replay_all<R: Read>(rt: &impl Print, input: &mut R, s: &mut [f32]) -> io::Result<()> {
-    let mut text = [0u8; 142];
     let mut spelling = [0u8; 142];
     let mut reader = reader_of([0; 16]);
-    for _ in 0..65_536usize {
-        if test_support::read_full(input, &mut text)? < 142 {
+    for _ in 0..test_support::LINES {
+        let Some(text) = test_support::read_line(input)? else {
             break;
+        };
+        match text[0] {
+            b'b' => spelling = text,
+            _ => reader = replay(rt, &text, &spelling, reader, s)?,
         }
-        if test_support::byte(&text, 0) == b'b' {
-            spelling = text;
-            continue;
-        }
-        reader = replay(rt, &text, &spelling, reader, s)?;
     }
     Ok(())
 }

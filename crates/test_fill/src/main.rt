@@ -150,22 +150,17 @@ fn replay(
 // is one of kind `c`, which is kept as the change.
 fn main(rt: HostRuntime) -> io::Result<()> {
     let mut input = rt.stdin();
-    let mut text = [0u8; 122];
     let mut spelling = [0u8; 122];
     let mut change = [0u8; 122];
-    for _ in 0..65_536usize {
-        if test_support::read_full(&mut input, &mut text)? < 122 {
+    for _ in 0..test_support::LINES {
+        let Some(text) = test_support::read_line(&mut input)? else {
             break;
+        };
+        match text[0] {
+            b'b' => spelling = text,
+            b'c' => change = text,
+            _ => replay(&rt, &text, &spelling, &change)?,
         }
-        if test_support::byte(&text, 0) == b'b' {
-            spelling = text;
-            continue;
-        }
-        if test_support::byte(&text, 0) == b'c' {
-            change = text;
-            continue;
-        }
-        replay(&rt, &text, &spelling, &change)?;
     }
     Ok(())
 }

@@ -108,10 +108,8 @@ fn old_byte(text: &[u8], change: &[u8], new: &[u8], k: usize, i: usize) -> u8
 fn put_old(text: &[u8], change: &[u8], new: &[u8], k: usize, plane: &mut [u8])
     requires { (k < 3) × (length plane.old < 65536) }
 {
-    let mut i = 0;
-    while i < plane.len() {
-        plane[i] = old_byte(text, change, new, k, i);
-        i += 1;
+    for (i, b) in plane.iter_mut().enumerate() {
+        *b = old_byte(text, change, new, k, i);
     }
 }
 

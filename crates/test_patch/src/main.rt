@@ -237,22 +237,17 @@ fn replay(
 // A line has 202 bytes, its newline too; the list ends where fewer are left.
 fn main(rt: HostRuntime) -> io::Result<()> {
     let mut input = rt.stdin();
-    let mut text = [0u8; 202];
     let mut pixels = [0u8; 202];
     let mut shades = [0u8; 202];
-    for _ in 0..65_536usize {
-        if test_support::read_full(&mut input, &mut text)? < 202 {
+    for _ in 0..test_support::LINES {
+        let Some(text) = test_support::read_line(&mut input)? else {
             break;
+        };
+        match text[0] {
+            b'b' => pixels = text,
+            b'k' => shades = text,
+            _ => replay(&rt, &text, &pixels, &shades)?,
         }
-        if test_support::byte(&text, 0) == b'b' {
-            pixels = text;
-            continue;
-        }
-        if test_support::byte(&text, 0) == b'k' {
-            shades = text;
-            continue;
-        }
-        replay(&rt, &text, &pixels, &shades)?;
     }
     Ok(())
 }

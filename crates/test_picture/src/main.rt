@@ -27,11 +27,9 @@ fn copied(source: &[u8], from: usize, to: usize, room: &mut [u8]) -> usize
     if to < from {
         return 0;
     }
-    let n = laws::least(to - from, room.len());
-    let mut i = 0;
-    while i < n {
-        room[i] = test_support::byte(source, from + i);
-        i += 1;
+    let n = (to - from).min(room.len());
+    for (i, b) in room[..n].iter_mut().enumerate() {
+        *b = test_support::byte(source, from + i);
     }
     n
 }
@@ -160,11 +158,10 @@ fn replay_all<R: Read>(
     s: &mut [f32],
 ) -> io::Result<()> {
     let mut len = 0;
-    let mut text = [0u8; 17];
-    for _ in 0..65_536usize {
-        if test_support::read_full(list, &mut text)? < 17 {
+    for _ in 0..test_support::LINES {
+        let Some(text) = test_support::read_line::<17, _>(list)? else {
             break;
-        }
+        };
         len = replayed(rt, &text, base, input, len, s)?;
     }
     Ok(())

@@ -123,11 +123,10 @@ fn replay(rt: &impl Print, text: &[u8]) -> io::Result<()> {
 // A line has 77 bytes, its newline too; the list ends where fewer are left.
 fn main(rt: HostRuntime) -> io::Result<()> {
     let mut input = rt.stdin();
-    let mut text = [0u8; 77];
-    for _ in 0..65_536usize {
-        if test_support::read_full(&mut input, &mut text)? < 77 {
+    for _ in 0..test_support::LINES {
+        let Some(text) = test_support::read_line::<77, _>(&mut input)? else {
             break;
-        }
+        };
         replay(&rt, &text)?;
     }
     Ok(())

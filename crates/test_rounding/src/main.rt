@@ -6,30 +6,27 @@ use std::io;
 
 // The plane whose four bytes are n's, the highest first.
 fn plane(n: u32) -> [u8; 4] {
-    [
-        (n / 16_777_216) as u8,
-        (n / 65_536 % 256) as u8,
-        (n / 256 % 256) as u8,
-        (n % 256) as u8,
-    ]
+    n.to_be_bytes()
 }
 
 // The one-byte sample at an index of the plane of n's four bytes. Past its end it gives 2^16, which no sample is.
 fn sample_one(n: u32, index: u32) -> u32 {
     let plane = plane(n);
     if index < 4 {
-        return image::sample(&plane, 1, index as usize) as u32;
+        u32::from(image::sample(&plane, 1, index as usize))
+    } else {
+        65_536
     }
-    65_536
 }
 
 // The two-byte sample at an index of the plane of n's four bytes. Past its end it gives 2^16, which no sample is.
 fn sample_two(n: u32, index: u32) -> u32 {
     let plane = plane(n);
     if index < 2 {
-        return image::sample(&plane, 2, index as usize * 2) as u32;
+        u32::from(image::sample(&plane, 2, index as usize * 2))
+    } else {
+        65_536
     }
-    65_536
 }
 
 // The answer to a line: a number, or a float's bits. Where the kind is none of these it gives 2^32 - 2, which no answer is, since every
@@ -52,11 +49,10 @@ fn answer(text: &[u8]) -> u32 {
 // A line has 20 bytes, its newline too; the list ends where fewer are left.
 fn main(rt: HostRuntime) -> io::Result<()> {
     let mut input = rt.stdin();
-    let mut text = [0u8; 20];
-    for _ in 0..65_536usize {
-        if test_support::read_full(&mut input, &mut text)? < 20 {
+    for _ in 0..test_support::LINES {
+        let Some(text) = test_support::read_line::<20, _>(&mut input)? else {
             break;
-        }
+        };
         test_support::write_line(&rt, 0, answer(&text))?;
     }
     Ok(())

@@ -20,7 +20,7 @@ pub use checksums::{
     sum_values,
 };
 pub use floats::{bits, float};
-pub use input::read_full;
+pub use input::{LINES, read_line};
 pub use lines::{kind, layout, numerator, range, range_of, scratch_part, siting, strides};
 pub use planes::{grow, grown, grown_held, large_buffer, plane, spelled_plane};
 pub use words::{byte, eight, long, size, value, word};

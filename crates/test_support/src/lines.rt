@@ -7,14 +7,12 @@ use laws::{Axis, Siting};
 
 // Whether a line's kind is a capital, which says that the words of its ratios and of its sample bytes hold more than these.
 fn capital(text: &[u8]) -> bool {
-    let kind = byte(text, 0);
-    laws::both(b'A' <= kind, kind <= b'Z')
+    byte(text, 0).is_ascii_uppercase()
 }
 
 // Inner: a line's kind, as a small letter.
 pub fn kind(text: &[u8]) -> u8 {
-    let kind = byte(text, 0);
-    if capital(text) { kind | 32 } else { kind }
+    byte(text, 0).to_ascii_lowercase()
 }
 
 // The ratio in word k of a line.
@@ -54,16 +52,13 @@ pub fn numerator(text: &[u8], k: usize) -> usize
 fn axis(text: &[u8], k: usize) -> Axis
     requires { k < 999 }
 {
-    let num = numerator(text, k);
-    if siting(text, k) == 1 {
-        return Axis {
-            siting: Siting::CoSited,
-            num,
-        };
-    }
     Axis {
-        siting: Siting::Centred,
-        num,
+        siting: if siting(text, k) == 1 {
+            Siting::CoSited
+        } else {
+            Siting::Centred
+        },
+        num: numerator(text, k),
     }
 }
 
@@ -87,10 +82,7 @@ pub fn range(text: &[u8]) -> u32 {
 
 // Inner: the range that a number stands for: 1 is studio.
 pub fn range_of(n: u32) -> Range {
-    if n == 1 {
-        return Range::Studio;
-    }
-    Range::Full
+    if n == 1 { Range::Studio } else { Range::Full }
 }
 
 // Inner: the layout that a line begins with. It takes nine words, the maxval two of them.

@@ -2,55 +2,80 @@
 // wanted, spelled by a line of their own.
 ghost use Rattle.std.specs.Prelude.{◌≡◌, ◌<◌, length};
 
+use crate::checksums::low;
+use crate::words::{long, size, spelled, word};
+
 // The next state of a linear congruential generator, modulo 2^32.
 fn next(state: u32) -> u32 {
-    ((state as u64 * 1_103_515_245 + 12_345) % 4_294_967_296) as u32
+    state.wrapping_mul(1_103_515_245).wrapping_add(12_345)
 }
 
 // Byte i of a plane whose samples of two bytes are 0, 1, 65,534 or 65,535: the upper byte, at odd places, is 255 or 0 by its state's upper
 // bit; the lower one, before it, is 254 or 0 by the same bit, and one more by the upper bit of its own state.
 fn end_byte(state: u32, i: usize) -> u8 {
+    let upper = (state >> 31) as u8;
     if i % 2 == 1 {
-        return (state / 2_147_483_648) as u8 * 255;
+        upper * 255
+    } else {
+        (next(state) >> 31) as u8 * 254 + upper
     }
-    (next(state) / 2_147_483_648) as u8 * 254 + (state / 2_147_483_648) as u8
 }
 
-// Byte i of a plane by its shape. Shape 0 gives all values, from the state's upper eight bits; shape 1 the sixteen smallest, from its
-// upper four; shape 2 always 77; shape 4 all values at even places and 0 at odd ones, which are samples of two bytes up to 255; shape 5
-// samples of two bytes at their ends (`end_byte`); any other always the shape's own low byte.
-fn shaped(state: u32, shape: usize, i: usize) -> u8 {
-    if shape == 0 {
-        return (state / 16_777_216) as u8;
+// What bytes a plane has that is grown.
+#[derive(Clone, Copy)]
+enum Shape {
+    // All values, from the state's upper eight bits.
+    Wide,
+    // The sixteen smallest values, from the state's upper four bits.
+    Narrow,
+    // All values at even places and 0 at odd ones, which are samples of two bytes up to 255.
+    Low,
+    // Samples of two bytes at their ends (`end_byte`).
+    Ends,
+    // One value throughout.
+    Flat(u8),
+}
+
+// The shape that a line's number stands for: a number that is no other's is a flat plane of its own low byte.
+impl From<usize> for Shape {
+    fn from(n: usize) -> Shape {
+        match n {
+            0 => Shape::Wide,
+            1 => Shape::Narrow,
+            2 => Shape::Flat(77),
+            4 => Shape::Low,
+            5 => Shape::Ends,
+            _ => Shape::Flat((n % 256) as u8),
+        }
     }
-    if shape == 1 {
-        return (state / 268_435_456) as u8;
+}
+
+// Byte i of a plane by its shape.
+fn shaped(state: u32, shape: Shape, i: usize) -> u8 {
+    match shape {
+        Shape::Wide => (state >> 24) as u8,
+        Shape::Narrow => (state >> 28) as u8,
+        Shape::Low => { if i % 2 == 0 { (state >> 24) as u8 } else { 0 } }
+        Shape::Ends => end_byte(state, i),
+        Shape::Flat(b) => b,
     }
-    if shape == 2 {
-        return 77;
+}
+
+// Fills a plane with a byte for each of the generator's states behind a seed, and the place that it stands at.
+fn grow_by<F: Fn(u32, usize) -> u8>(plane: &mut [u8], seed: usize, byte: F)
+    requires { F.IsAlwaysCallable byte }
+{
+    let mut state = low(seed);
+    for (i, b) in plane.iter_mut().enumerate() {
+        state = next(state);
+        *b = byte(state, i);
     }
-    if shape == 4 {
-        return if i % 2 == 0 {
-            (state / 16_777_216) as u8
-        } else {
-            0
-        };
-    }
-    if shape == 5 {
-        return end_byte(state, i);
-    }
-    (shape % 256) as u8
 }
 
 // Inner: fills a plane with bytes of a shape, from the generator's states behind a seed.
 pub fn grow(plane: &mut [u8], seed: usize, shape: usize) {
-    let mut state = (seed % 4_294_967_296) as u32;
-    let mut i = 0;
-    while i < plane.len() {
-        state = next(state);
-        plane[i] = shaped(state, shape, i);
-        i += 1;
-    }
+    let shape = Shape::from(shape);
+    grow_by(plane, seed, |state, i| shaped(state, shape, i));
 }
 
 // Inner: a buffer of 65,536 zeros.
@@ -72,9 +97,10 @@ pub fn grown(n: usize, seed: usize, shape: usize) -> [u8; 65_536]
 // The upper sixteen bits of a state, as a sample that is at most `most`.
 fn held(state: u32, most: u32) -> u32 {
     if 65_535 <= most {
-        return state / 65_536;
+        state >> 16
+    } else {
+        (state >> 16) % (most + 1)
     }
-    state / 65_536 % (most + 1)
 }
 
 // Byte i of a plane whose samples are at most `most`. Samples of two bytes begin at even places, and are held by the state of their upper
@@ -91,13 +117,9 @@ fn held_byte(state: u32, sample_bytes: usize, most: u32, i: usize) -> u8 {
 
 // Fills a plane with samples that are at most `most`, from the generator's states behind a seed.
 fn grow_held(plane: &mut [u8], seed: usize, sample_bytes: usize, most: u32) {
-    let mut state = (seed % 4_294_967_296) as u32;
-    let mut i = 0;
-    while i < plane.len() {
-        state = next(state);
-        plane[i] = held_byte(state, sample_bytes, most, i);
-        i += 1;
-    }
+    grow_by(plane, seed, |state, i| {
+        held_byte(state, sample_bytes, most, i)
+    });
 }
 
 // Inner: a plane of n bytes whose samples are at most `most`, at the front of a buffer like that of `grown`.
@@ -111,10 +133,8 @@ pub fn grown_held(n: usize, seed: usize, sample_bytes: usize, most: u32) -> [u8;
 
 // Fills a plane with the bytes that a line spells, from byte `from` of those on.
 fn spell(plane: &mut [u8], spelling: &[u8], from: usize) {
-    let mut i = 0;
-    while i < plane.len() {
-        plane[i] = crate::words::spelled(spelling, from, i);
-        i += 1;
+    for (i, b) in plane.iter_mut().enumerate() {
+        *b = spelled(spelling, from, i);
     }
 }
 
@@ -131,8 +151,8 @@ pub fn spelled_plane(n: usize, spelling: &[u8], from: usize) -> [u8; 65_536]
 fn start(text: &[u8], k: usize) -> usize {
     match k {
         0 => 0,
-        1 => crate::words::word(text, 12),
-        _ => crate::words::word(text, 12) + crate::words::word(text, 13),
+        1 => word(text, 12),
+        _ => word(text, 12) + word(text, 13),
     }
 }
 
@@ -141,15 +161,15 @@ fn start(text: &[u8], k: usize) -> usize {
 pub fn plane(text: &[u8], spelling: &[u8], k: usize) -> [u8; 65_536]
     requires { k < 3 }
 {
-    let n = crate::words::word(text, 12 + k);
-    let shape = crate::words::word(text, 16 + k);
+    let n = word(text, 12 + k);
+    let shape = word(text, 16 + k);
     if shape == 3 {
         return spelled_plane(n, spelling, start(text, k));
     }
-    let seed = crate::words::word(text, 15) + k;
+    let seed = word(text, 15) + k;
     if shape == 6 {
-        let most = crate::words::long(text, 7) as u32;
-        return grown_held(n, seed, crate::words::size(text, 6), most);
+        let most = long(text, 7) as u32;
+        return grown_held(n, seed, size(text, 6), most);
     }
     grown(n, seed, shape)
 }

@@ -4,29 +4,18 @@ ghost use Rattle.std.specs.Prelude.{◌<◌};
 
 // Inner: the byte at a place of a line; 0 past its end.
 pub fn byte(text: &[u8], at: usize) -> u8 {
-    if at < text.len() {
-        return text[at];
-    }
-    0
+    text.get(at).copied().unwrap_or(0)
 }
 
 // The value of a hex digit. Any other byte gives 0, so that a line with one has a wrong number in it and its answer shows that.
 fn digit(b: u8) -> usize
     ensures { result < 16 }
 {
-    if b < b'0' {
-        return 0;
+    match b {
+        b'0'..=b'9' => usize::from(b - b'0'),
+        b'a'..=b'f' => usize::from(b - b'a') + 10,
+        _ => 0,
     }
-    if b <= b'9' {
-        return (b - b'0') as usize;
-    }
-    if b < b'a' {
-        return 0;
-    }
-    if b <= b'f' {
-        return (b - b'a') as usize + 10;
-    }
-    0
 }
 
 // The number of the two digits at a place.
@@ -64,7 +53,7 @@ pub fn word(text: &[u8], k: usize) -> usize
 // Inner: of the bytes that the words of a line spell, two each, the one that stands i places behind `from`. Past the line's end it is 0: no
 // line has a thousand of them.
 pub fn spelled(text: &[u8], from: usize, i: usize) -> u8 {
-    let at = laws::least(from, 1_000) + laws::least(i, 1_000);
+    let at = from.min(1_000) + i.min(1_000);
     two(text, 2 + at / 2 * 5 + at % 2 * 2) as u8
 }
 
@@ -81,10 +70,7 @@ pub fn size(text: &[u8], k: usize) -> usize
     requires { k < 1000 }
 {
     let n = word(text, k);
-    if n == 65_535 {
-        return 18_446_744_073_709_551_615;
-    }
-    n
+    if n == 65_535 { usize::MAX } else { n }
 }
 
 // Inner: words k to k+2 of a line as one number, the highest first. ffffffff in the lower two stands for the largest usize, 2^64 - 1.
@@ -93,7 +79,7 @@ pub fn value(text: &[u8], k: usize) -> usize
 {
     let n = long(text, k + 1);
     if n == 4_294_967_295 {
-        return 18_446_744_073_709_551_615;
+        return usize::MAX;
     }
     word(text, k) * 4_294_967_296 + n
 }

@@ -9,16 +9,16 @@ use Rattle.netpbm.proofs.lines.refusal_line.Goals as goal
 
 pub put_number-requires : goal.put_number-requires
 put_number-requires c =
-    let n = three_most c.args.n (omega arith) in
+    let n = three_most c.from.result (omega arith) in
     record { n_bound = omega arith; n_bound_2 = omega arith }
 
 pub put-requires-2 : goal.put-requires-2
 put-requires-2 c =
-    let n = three_most c.args.n (omega arith) in omega arith
+    let n = three_most c.from.result (omega arith) in omega arith
 
 pub returns : goal.returns
 unfolding refusal_line
 returns c =
     let n = refusal_most c.args.n (omega arith) in
     line_written (refusal_line c.args.n) _ (omega arith)
-    (rw (c.put-2.ensures.is, c.put_number.ensures.is, c.put.ensures.is, c.new.ensures.0, written_on, written_on) refl)
+    (rw (← c.from.ensures, c.put-2.ensures.is, c.put_number.ensures.is, c.put.ensures.is, c.new.ensures.0, written_on, written_on) refl)

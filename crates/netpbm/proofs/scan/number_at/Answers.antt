@@ -29,7 +29,7 @@ pub loop-value-preserved : goal.loop-value-preserved
 loop-value-preserved c =
     let digit : has_digit c.args.input.now c.loop-value.end ≡ true = sym c.digit_at.ensures ∙ c.loop-value-test.true in
     let d = c.digit_value.ensures in
-    counting_more c.loop-value.invariant digit _ _ d.0 c.least-value.ensures
+    counting_more c.loop-value.invariant digit _ _ d.0 c.min-value.ensures
 
 pub returns : goal.returns
 returns c =

@@ -1,9 +1,5 @@
-use Prim.Native.Nat.{◌-◌}
 use Rattle.netpbm.proofs.Ratios.{Tried}
 use Rattle.netpbm.proofs.sizes.ratio_for.Given as goal
 
 abbrev pub invariant-loop-r : goal.invariant-loop-r
 invariant-loop-r l = Tried l.n l.a l.b l.r
-
-abbrev pub decreases-loop-r : goal.decreases-loop-r
-decreases-loop-r l = 5 - l.r

@@ -1,9 +1,0 @@
-use mathlib.Core.Path.{◌≡◌, refl}
-use Prim.Native.Nat.{◌-◌}
-use native.Mathlib.Nat.{zero-div}
-use native.Mathlib.Omega.{arith}
-use Rattle.kernels.proofs.bytes.limit_quot.Goals as goal
-
-pub returns-then-p-n : goal.returns-then-p-n
-returns-then-p-n c =
-    let e : c.args.p - c.args.n ≡ 0 = omega arith in rw (e, zero-div) refl

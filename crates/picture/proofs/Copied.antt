@@ -1,0 +1,28 @@
+-- The front of a list that is copied to the front of another is a run put there.
+use mathlib.Core.Path.{◌≡◌, sym, ◌∙◌}
+use mathlib.Core.Logic.{inl, inr}
+use mathlib.Core.List.{List, ◌++◌}
+use Prim.Native.Nat.{ℕ, ◌+◌, ◌-◌, ◌≤◌}
+use native.Mathlib.Omega.{arith}
+use lib.ListN.{length, get_or, take, drop, length-append}
+use Rattle.std.proofs.lemmas.List.{ext_get_or, get_or_append_left, get_or-append_right, get_or-take, get_or-drop, length-take-le, length-drop}
+use Rattle.std.proofs.lemmas.Bool.{cases_lt}
+use Rattle.laws.specs.Lists.{put}
+use Rattle.laws.proofs.Lists.{length_put, put_inside, put_after}
+
+module _ {A : Type 0} (d : A) (s out : List A) (n : ℕ) (h : n ≤ length s) (l : n ≤ length out) where
+  taken : length (take n s) ≡ n
+  taken = length-take-le n s h
+
+  pub copied : take n s ++ drop n out ≡ put out 0 n (λ i. get_or s i d)
+  copied =
+      ext_get_or d (take n s ++ drop n out) (put out 0 n (λ i. get_or s i d))
+      (rw (length-append, taken, length-drop, length_put) (omega arith))
+      (λ i w. elim (cases_lt i n) [
+        | inl q ↦
+            let z : 0 + i ≡ i = omega arith in
+            get_or_append_left (take n s) (drop n out) d i (rw taken q) ∙ get_or-take n s i d q ∙ sym (rw z at (put_inside out 0 n (λ j. get_or s j d) i d q (omega arith)))
+        | inr q ↦
+            let e : n + (i - n) ≡ i = omega arith in
+            get_or-append_right (take n s) (drop n out) n i d taken q ∙ get_or-drop n out (i - n) d ∙ rw e (sym (put_after out 0 n (λ j. get_or s j d) i d (omega arith)))
+      ])
