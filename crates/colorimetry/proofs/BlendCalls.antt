@@ -10,7 +10,7 @@ use Rattle.laws.specs.Refusals.{Answer}
 use Rattle.std.specs.Prelude.{Ok, Err}
 use Rattle.laws.specs.Refusals.{accepted, first}
 use Rattle.laws.specs.Lists.{put}
-use Rattle.laws.proofs.Refusals.{Asked, kept, made, passed, accepted_failed}
+use Rattle.laws.proofs.Refusals.{accepted_failed}
 use Rattle.reconstruction.specs.Fill.{pixels}
 use Rattle.reconstruction.proofs.Laws.{length_pixels, SideFine, side_fine, side_passes}
 use Rattle.guided.specs.declared.state.Reader.{Reader}
@@ -63,26 +63,26 @@ late_given k s y out room r scratch late out' p l g m =
           ∙ mix_pixels o room c (side_colour s y) k s.reader.geometry.w O h;
     }
 
--- ---- a blend: asked for its answer, then refused or done
+-- ---- a blend that was accepted
 
-module _ (c : BlendCall) (a : Answer) (told : Bool) (q : Asked (blend_tests c) a told) where
-  pub handed : told ≡ false → BlendHanded c
-  handed t = blend_handed c (accepted_failed (blend_tests c) (passed q t))
+pub handed : (c : BlendCall) → first (blend_tests c) ≡ Ok tt → BlendHanded c
+handed c e = blend_handed c (accepted_failed (blend_tests c) e)
 
-  pub blend_refused : told ≡ true → BlendGiven c (record { answer = a; early = c.early.reader; late = c.late.reader }) c.early.scratch c.late.scratch c.out
-  blend_refused t = record { answers = q.answers; early_leaves = kept q t _ _; late_leaves = kept q t _ _; early_scratches = kept q t _ _; late_scratches = kept q t _ _; gives = kept q t _ _ }
+-- its first row call can't be refused
+pub early_done : (c : BlendCall) → first (blend_tests c) ≡ Ok tt → first (rgb_row_tests (early_call c)) ≡ Ok tt
+early_done c e = let h = handed c e in side_passes (early_call c) h.early h.output
 
-  pub blend_given : (r : Reply) (l : Reader) (s t : List Float) (mid out : List ℕ) → told ≡ false
-      → RgbRowGiven (early_call c) r s mid → LateGiven c.weight c.late c.y mid l t out → BlendGiven c (record { answer = a; early = r.reader; late = l }) s t out
-  blend_given r l s t mid out k g d =
-      let h = handed k in
-      let e = row_done (early_call c) r s mid g h.early h.output in
-      let m = d.gives c.out (side_colour c.early c.y) (rw (sym h.wide) h.output) (e.gives ∙ ap (pixels c.out 0 3 (side_colour c.early c.y)) h.wide) in
-      record {
-        answers = q.answers;
-        early_leaves = made q k _ e.leaves;
-        late_leaves = made q k _ d.leaves;
-        early_scratches = made q k _ e.scratches;
-        late_scratches = made q k _ d.scratches;
-        gives = made q k _ (m ∙ ap (pixels c.out 0 3 (blend_colour c)) (sym h.wide));
-      }
+pub blend_given : (c : BlendCall) → first (blend_tests c) ≡ Ok tt → (r : Reply) (l : Reader) (s t : List Float) (mid out : List ℕ)
+    → RgbRowGiven (early_call c) r s mid → LateGiven c.weight c.late c.y mid l t out → BlendGiven c (record { answer = Ok tt; early = r.reader; late = l }) s t out
+blend_given c q r l s t mid out g d =
+    let h = handed c q in
+    let e = row_done (early_call c) r s mid g h.early h.output in
+    let m = d.gives c.out (side_colour c.early c.y) (rw (sym h.wide) h.output) (e.gives ∙ ap (pixels c.out 0 3 (side_colour c.early c.y)) h.wide) in
+    record {
+      answers = sym q;
+      early_leaves = e.leaves;
+      late_leaves = d.leaves;
+      early_scratches = e.scratches;
+      late_scratches = d.scratches;
+      gives = m ∙ ap (pixels c.out 0 3 (blend_colour c)) (sym h.wide);
+    }

@@ -14,31 +14,41 @@ use Rattle.laws.specs.Refusals.{Answer}
 use Rattle.laws.specs.Refusals.{first, accepted}
 use Rattle.laws.proofs.Refusals.{accepted_is, accepted_failed}
 use Rattle.colorimetry.specs.declared.patch.Patch.TheVariants as P
-use Rattle.colorimetry.specs.declared.patch.Patched.{Patched}
-use Rattle.colorimetry.specs.declared.shade.Nearest.TheVariants as N
-use Rattle.colorimetry.specs.declared.shade.Between.TheVariants as B
-use Rattle.colorimetry.specs.declared.shade.ChartReading.{ChartReading}
+use Rattle.colorimetry.specs.Patches.{PatchReply}
+use Rattle.colorimetry.specs.Charts.{ChartReply}
 use Rattle.colorimetry.specs.Patches.{channel_mean, has_mean, pick_patch, PatchGiven}
-use Rattle.colorimetry.specs.Charts.{ChartCall, shades_of, shade_at, mix_at, distance, mix_off, candidate_off, bad_chart, chart_tests, whole_colour, has_reading, nearest_of, between_of, pick_nearest, pick_between, ChartGiven}
+use Rattle.colorimetry.specs.Charts.{ChartCall, shades_of, shade_at, mix_at, distance, mix_off, candidate_off, bad_chart, chart_tests, whole_colour, has_reading, nearest_of, between_of, ChartGiven}
 use Rattle.colorimetry.specs.ChartClaims.{FirstLeast, OnChart, Before, shade_from, mix_from, ChartClaims}
 use Rattle.colorimetry.proofs.Least.{least_found, least_only}
 use Rattle.colorimetry.proofs.Mixing.{mix_between, mix_first, mix_last}
 use Rattle.colorimetry.proofs.Readings.{chart_shades, reading_is}
+use Rattle.std.specs.Prelude.{Option, None, Some}
+use Rattle.colorimetry.specs.declared.shade.Between.{Between}
+use Rattle.colorimetry.specs.Charts.{given_if, pair_of, pair_given}
 
 -- ---- what was given is the definition's
 
-none_shade : (i : ℕ) → N.Nothing ≡ N.Shade i → ⊥
+none_shade : (i : ℕ) → ◌≡◌ {A = Option ℕ} None (Some i) → ⊥
 none_shade i e = let z : ◌≡◌ {A = ℕ} 0 1 = cc in omega arith
 
-none_mix : (i k : ℕ) → B.Nothing ≡ B.Mix i k → ⊥
+none_mix : (i k : ℕ) → ◌≡◌ {A = Option Between} None (pair_given i k) → ⊥
 none_mix i k e = let z : ◌≡◌ {A = ℕ} 0 1 = cc in omega arith
 
-shade_is : (b : Bool) (x i : ℕ) → pick_nearest b (N.Shade x) N.Nothing ≡ N.Shade i → (b ≡ true) × (x ≡ i)
+shade_is : (b : Bool) (x i : ℕ) → given_if b x ≡ Some i → (b ≡ true) × (x ≡ i)
 shade_is true x i e = (refl, (cc))
 shade_is false x i e = absurd (none_shade i e)
 
-mix_is : (b : Bool) (x y i k : ℕ) → pick_between b (B.Mix x y) B.Nothing ≡ B.Mix i k → (b ≡ true) × (x ≡ i) × (y ≡ k)
-mix_is true x y i k e = (refl, (cc), (cc))
+mix_is : (b : Bool) (x y i k : ℕ) → given_if b (pair_of x y) ≡ pair_given i k → (b ≡ true) × (x ≡ i) × (y ≡ k)
+mix_is true x y i k e = (refl, ap (λ (o : Option Between). first_in o) e, ap (λ (o : Option Between). weight_in o) e)
+  where
+    first_in : Option Between → ℕ
+    first_in None = 0
+    first_in (Some p) = p.first
+
+    weight_in : Option Between → ℕ
+    weight_in None = 0
+    weight_in (Some p) = p.weight
+
 mix_is false x y i k e = absurd (none_mix i k e)
 
 -- ---- the chart of a reading
@@ -57,7 +67,7 @@ read c h = chart_shades (length c.chart) (good c (and_left (accepted (first (cha
 
 -- ---- shades
 
-nearest : (c : ChartCall) (r : ChartReading) (i : ℕ) → ChartGiven c r → r.nearest ≡ N.Shade i → FirstLeast (shade_from c) (shades_of c) i
+nearest : (c : ChartCall) (r : ChartReply) (i : ℕ) → ChartGiven c r → r.nearest ≡ Some i → FirstLeast (shade_from c) (shades_of c) i
 unfolding nearest_of
 nearest c r i g e =
     let p = shade_is (has_reading c) (nearest_of c) i (sym g.shade ∙ e) in
@@ -66,7 +76,7 @@ nearest c r i g e =
 
 -- ---- mixes, by their places
 
-module _ (c : ChartCall) (r : ChartReading) (i k : ℕ) (g : ChartGiven c r) (e : r.between ≡ B.Mix i k) where
+module _ (c : ChartCall) (r : ChartReply) (i k : ℕ) (g : ChartGiven c r) (e : r.between ≡ pair_given i k) where
   place : (has_reading c ≡ true) × (between_of c / 17 ≡ i) × (between_of c % 17 ≡ k)
   place = mix_is (has_reading c) (between_of c / 17) (between_of c % 17) i k (sym g.mix ∙ e)
 
@@ -125,7 +135,7 @@ same_mix chart colour i =
       mix_first (shade_at chart (i + 1) 2) (shade_at chart (i + 1 + 1) 2),
     ) refl
 
-zero_first : (c : ChartCall) (r : ChartReading) (i : ℕ) → ChartGiven c r → r.between ≡ B.Mix i 0 → i ≡ 0
+zero_first : (c : ChartCall) (r : ChartReply) (i : ℕ) → ChartGiven c r → r.between ≡ pair_given i 0 → i ≡ 0
 zero_first c r zero g e = refl
 zero_first c r (suc j) g e =
     let o = (on_chart c r (suc j) 0 g e).pair in
@@ -140,20 +150,20 @@ no_mean : (a b d : Float) → P.Mean a b d ≡ P.Nothing → ⊥
 no_mean a b d e = let z : ◌≡◌ {A = ℕ} 0 1 = cc in omega arith
 
 -- there is a reading exactly where there is a mean
-both : (c : ChartCall) (r : ChartReading) → ChartGiven c r → T (accepted r.answer) → has_reading c ≡ has_mean c.patch
+both : (c : ChartCall) (r : ChartReply) → ChartGiven c r → T (accepted r.answer) → has_reading c ≡ has_mean c.patch
 both c r g a = reading_is c (good c (is_true (accepted (first (chart_tests c))) (subst (λ (z : Answer). T (accepted z)) g.answers a)))
 
-nothing : (c : ChartCall) (r : ChartReading) (s : Patched) → ChartGiven c r → PatchGiven c.patch s → T (accepted r.answer) → s.patch ≡ P.Nothing → (r.nearest ≡ N.Nothing) × (r.between ≡ B.Nothing)
+nothing : (c : ChartCall) (r : ChartReply) (s : PatchReply) → ChartGiven c r → PatchGiven c.patch s → T (accepted r.answer) → s.patch ≡ P.Nothing → (r.nearest ≡ None) × (r.between ≡ None)
 nothing c r s g q a e = go (has_mean c.patch) (both c r g a) q.mean
   where
-    go : (b : Bool) → has_reading c ≡ b → s.patch ≡ pick_patch b (P.Mean (channel_mean c.patch 0) (channel_mean c.patch 1) (channel_mean c.patch 2)) P.Nothing → (r.nearest ≡ N.Nothing) × (r.between ≡ B.Nothing)
+    go : (b : Bool) → has_reading c ≡ b → s.patch ≡ pick_patch b (P.Mean (channel_mean c.patch 0) (channel_mean c.patch 1) (channel_mean c.patch 2)) P.Nothing → (r.nearest ≡ None) × (r.between ≡ None)
     go true h m = absurd (no_mean _ _ _ (sym m ∙ e))
     go false h m = (g.shade ∙ rw h refl, g.mix ∙ rw h refl)
 
-something : (c : ChartCall) (r : ChartReading) (s : Patched) → ChartGiven c r → PatchGiven c.patch s → T (accepted r.answer) → (r.nearest ≡ N.Nothing) ⊎ (r.between ≡ B.Nothing) → s.patch ≡ P.Nothing
+something : (c : ChartCall) (r : ChartReply) (s : PatchReply) → ChartGiven c r → PatchGiven c.patch s → T (accepted r.answer) → (r.nearest ≡ None) ⊎ (r.between ≡ None) → s.patch ≡ P.Nothing
 something c r s g q a e = go (has_mean c.patch) (both c r g a) q.mean e
   where
-    go : (b : Bool) → has_reading c ≡ b → s.patch ≡ pick_patch b (P.Mean (channel_mean c.patch 0) (channel_mean c.patch 1) (channel_mean c.patch 2)) P.Nothing → (r.nearest ≡ N.Nothing) ⊎ (r.between ≡ B.Nothing) → s.patch ≡ P.Nothing
+    go : (b : Bool) → has_reading c ≡ b → s.patch ≡ pick_patch b (P.Mean (channel_mean c.patch 0) (channel_mean c.patch 1) (channel_mean c.patch 2)) P.Nothing → (r.nearest ≡ None) ⊎ (r.between ≡ None) → s.patch ≡ P.Nothing
     go true h m (inl e) = absurd (none_shade (nearest_of c) (sym e ∙ g.shade ∙ rw h refl))
     go true h m (inr e) = absurd (none_mix (between_of c / 17) (between_of c % 17) (sym e ∙ g.mix ∙ rw h refl))
     go false h m e = m

@@ -19,7 +19,8 @@ use Rattle.laws.proofs.Rows.{row_fits}
 use Rattle.laws.proofs.Sums.{sum_same}
 use Rattle.colorimetry.specs.declared.patch.Patch.{Patch}
 use Rattle.colorimetry.specs.declared.patch.Patch.TheVariants.{Mean, Nothing}
-use Rattle.colorimetry.specs.declared.patch.Patched.{Patched}
+use Rattle.laws.specs.declared.refusal.Refusal.{Refusal}
+use Rattle.colorimetry.specs.Patches.{patch_reply}
 use Rattle.colorimetry.specs.Patches.{PatchCall, channel_at, shared_of, across_of, down_of, count_of, channel_sum, channel_mean, whole_mean, bad_sides, passes, passes_end, patch_tests, has_mean, PatchGiven}
 use Rattle.colorimetry.specs.Inner.Sums.{row_sum, area_sum, Inside}
 
@@ -60,28 +61,32 @@ down_most c h = let a = h.h_most in omega arith
 pub count_most : (c : PatchCall) → PatchHanded c → count_of c ≤ 67108864
 count_most c h = mul-le-mul (across_most c h) (down_most c h)
 
+-- where the shared rows begin
+pub start_most : (c : PatchCall) → PatchHanded c → c.rectangle.top * c.w ≤ 536862720
+start_most c h = let a : c.rectangle.top ≤ 65535 = omega (arith, h.down_end) in mul-le-mul a h.w_most
+
 -- ---- the three answers
 
 -- refused
-pub refused_given : (c : PatchCall) (r : Patched) (a : Answer) → r ≡ record { answer = a; patch = Nothing; whole = 0 ∷ 0 ∷ 0 ∷ []; pixels = 0 } → a ≡ first (patch_tests c) → accepted a ≡ false → PatchGiven c r
+pub refused_given : (c : PatchCall) (why : Refusal) → Err why ≡ first (patch_tests c) → PatchGiven c (patch_reply (Err why))
 unfolding has_mean
-refused_given c r a q e f = let g : accepted (first (patch_tests c)) ≡ false = ap accepted (sym e) ∙ f in rw q (record { answers = e; mean = rw g refl; wholes = rw g refl; count = rw g refl })
+refused_given c why e = let g : accepted (first (patch_tests c)) ≡ false = ap accepted (sym e) in record { answers = e; mean = rw g refl; wholes = rw g refl; count = rw g refl }
 
 -- accepted, with no pixel
-pub nothing_given : (c : PatchCall) (r : Patched) (a : Answer) → r ≡ record { answer = a; patch = Nothing; whole = 0 ∷ 0 ∷ 0 ∷ []; pixels = 0 } → a ≡ first (patch_tests c) → PatchHanded c → count_of c ≡ 0 → PatchGiven c r
+pub nothing_given : (c : PatchCall) → PatchHanded c → count_of c ≡ 0 → PatchGiven c (patch_reply (Ok (record { patch = Nothing; whole = 0 ∷ 0 ∷ 0 ∷ []; pixels = 0 })))
 unfolding has_mean
-nothing_given c r a q e h z =
+nothing_given c h z =
     let g : accepted (first (patch_tests c)) && ltb 0 (count_of c) ≡ false = rw h.passed (rw z refl) in
-    rw q (record { answers = e; mean = rw g refl; wholes = rw g refl; count = rw g refl })
+    record { answers = sym h.passed; mean = rw g refl; wholes = rw g refl; count = rw g refl }
 
 -- accepted, with some
-pub mean_given : (c : PatchCall) (a : Answer) (p : Patch) (ws : List ℕ) (n : ℕ) → a ≡ first (patch_tests c) → PatchHanded c → n ≡ count_of c → 0 < n
+pub mean_given : (c : PatchCall) (p : Patch) (ws : List ℕ) (n : ℕ) → PatchHanded c → n ≡ count_of c → 0 < n
     → p ≡ Mean (channel_mean c 0) (channel_mean c 1) (channel_mean c 2) → ws ≡ whole_mean c 0 ∷ whole_mean c 1 ∷ whole_mean c 2 ∷ []
-    → PatchGiven c (record { answer = a; patch = p; whole = ws; pixels = n })
+    → PatchGiven c (patch_reply (Ok (record { patch = p; whole = ws; pixels = n })))
 unfolding has_mean
-mean_given c a p ws n e h q z ep ew =
+mean_given c p ws n h q z ep ew =
     let g : accepted (first (patch_tests c)) && ltb 0 (count_of c) ≡ true = rw h.passed (lt-ltb 0 (count_of c) (subst (λ (k : ℕ). 0 < k) q z)) in
-    record { answers = e; mean = rw g ep; wholes = rw g ew; count = rw g q }
+    record { answers = sym h.passed; mean = rw g ep; wholes = rw g ew; count = rw g q }
 
 -- ---- the shared rows, as bytes
 

@@ -6,9 +6,9 @@ use native.Mathlib.Omega.{arith}
 use lib.Ieee.{Float}
 use Rattle.laws.specs.Refusals.{place_of, Ascending, Lowest}
 use Rattle.laws.proofs.Refusals.{given_lowest}
-use Rattle.colorimetry.specs.declared.blend.BlendReply.{BlendReply}
-use Rattle.colorimetry.specs.declared.patch.Patched.{Patched}
-use Rattle.colorimetry.specs.declared.shade.ChartReading.{ChartReading}
+use Rattle.colorimetry.specs.Blends.{BlendReply}
+use Rattle.colorimetry.specs.Patches.{PatchReply}
+use Rattle.colorimetry.specs.Charts.{ChartReply}
 use Rattle.colorimetry.specs.Patches.{PatchCall, patch_tests, PatchGiven}
 use Rattle.colorimetry.specs.Charts.{ChartCall, chart_tests, ChartGiven}
 use Rattle.colorimetry.specs.Blends.{BlendCall, blend_tests, BlendGiven}
@@ -17,14 +17,14 @@ pub patch_ascends : (c : PatchCall) → Ascending 0 (patch_tests c)
 unfolding place_of Ascending patch_tests
 patch_ascends c = (omega arith, (omega arith, (omega arith, tt)))
 
-pub patch_lowest : (c : PatchCall) (r : Patched) → PatchGiven c r → Lowest (patch_tests c) r.answer
+pub patch_lowest : (c : PatchCall) (r : PatchReply) → PatchGiven c r → Lowest (patch_tests c) r.answer
 patch_lowest c r g = given_lowest (patch_tests c) r.answer (patch_ascends c) g.answers
 
 pub chart_ascends : (c : ChartCall) → Ascending 0 (chart_tests c)
 unfolding place_of Ascending chart_tests patch_tests
 chart_ascends c = (omega arith, (omega arith, (omega arith, (omega arith, tt))))
 
-pub chart_lowest : (c : ChartCall) (r : ChartReading) → ChartGiven c r → Lowest (chart_tests c) r.answer
+pub chart_lowest : (c : ChartCall) (r : ChartReply) → ChartGiven c r → Lowest (chart_tests c) r.answer
 chart_lowest c r g = given_lowest (chart_tests c) r.answer (chart_ascends c) g.answers
 
 pub blend_ascends : (c : BlendCall) → Ascending 0 (blend_tests c)

@@ -17,7 +17,7 @@ use Rattle.laws.proofs.Refusals.{accepted_is}
 use Rattle.laws.proofs.Sums.{sum_same, sum_within}
 use Rattle.laws.proofs.Values.{cast_value}
 use Rattle.colorimetry.specs.declared.patch.Patch.TheVariants.{Mean, Nothing}
-use Rattle.colorimetry.specs.declared.patch.Patched.{Patched}
+use Rattle.colorimetry.specs.Patches.{PatchReply}
 use Rattle.colorimetry.specs.Patches.{PatchCall, channel_at, shared_of, across_of, down_of, count_of, channel_sum, channel_mean, passes_end, bad_sides, patch_tests, has_mean, pick_patch, PatchGiven}
 use Rattle.colorimetry.specs.PatchClaims.{Shared, Bytes, with_rgb, too_short, PatchClaims}
 use Rattle.colorimetry.proofs.Handed.{PatchHanded, patch_handed, count_most, factor_some}
@@ -94,7 +94,7 @@ module _ (c : PatchCall) (rgb : List ℕ) (h : (k y x : ℕ) → k < 3 → Share
   unfolding patch_tests
   tests_alike e = ap (λ (b : Bool). first ((bad_sides c.w c.h, BadSize) ∷ (passes_end c.rectangle, BadRectangle) ∷ (b, ShortOutput) ∷ [])) e
 
-  given_alike : (r s : Patched) → PatchGiven c r → PatchGiven (with_rgb c rgb) s → too_short c ≡ too_short (with_rgb c rgb) → r ≡ s
+  given_alike : (r s : PatchReply) → PatchGiven c r → PatchGiven (with_rgb c rgb) s → too_short c ≡ too_short (with_rgb c rgb) → r ≡ s
   unfolding has_mean
   given_alike r s g q e =
       let t = tests_alike e in
@@ -112,7 +112,7 @@ module _ (c : PatchCall) (rgb : List ℕ) (h : (k y x : ℕ) → k < 3 → Share
 differ : (a b d : Float) → Mean a b d ≡ Nothing → ⊥
 differ a b d e = let z : ◌≡◌ {A = ℕ} 0 1 = cc in omega arith
 
-something : (c : PatchCall) (r : Patched) → PatchGiven c r → T (accepted r.answer) → r.patch ≡ Nothing → (y x : ℕ) → Shared c y x → ⊥
+something : (c : PatchCall) (r : PatchReply) → PatchGiven c r → T (accepted r.answer) → r.patch ≡ Nothing → (y x : ℕ) → Shared c y x → ⊥
 unfolding has_mean
 something c r g a e y x s =
     let b = is_true (accepted (first (patch_tests c))) (subst (λ (z : Answer). T (accepted z)) g.answers a) in
@@ -120,7 +120,7 @@ something c r g a e y x s =
     let M = Mean (channel_mean c 0) (channel_mean c 1) (channel_mean c 2) in
     differ (channel_mean c 0) (channel_mean c 1) (channel_mean c 2) (ap (λ (t : Bool). pick_patch t M Nothing) (sym m) ∙ sym g.mean ∙ e)
 
-nothing : (c : PatchCall) (r : Patched) → PatchGiven c r → T (accepted r.answer) → ((y x : ℕ) → Shared c y x → ⊥) → r.patch ≡ Nothing
+nothing : (c : PatchCall) (r : PatchReply) → PatchGiven c r → T (accepted r.answer) → ((y x : ℕ) → Shared c y x → ⊥) → r.patch ≡ Nothing
 unfolding has_mean
 nothing c r g a h =
     let b = is_true (accepted (first (patch_tests c))) (subst (λ (z : Answer). T (accepted z)) g.answers a) in

@@ -14,15 +14,15 @@ use Rattle.std.specs.Prelude.{Ok, Err}
 use Rattle.laws.specs.Refusals.{first, accepted}
 use Rattle.laws.proofs.Limits.{neither, within}
 use Rattle.laws.proofs.Refusals.{refused_here, passed_over}
-use Rattle.colorimetry.specs.declared.patch.Patched.{Patched}
-use Rattle.colorimetry.specs.declared.shade.Nearest.TheVariants as N
-use Rattle.colorimetry.specs.declared.shade.Between.TheVariants as B
-use Rattle.colorimetry.specs.declared.shade.ChartReading.{ChartReading}
+use Rattle.colorimetry.specs.Patches.{PatchReply}
+use Rattle.colorimetry.specs.Charts.{ChartReply}
 use Rattle.colorimetry.specs.Patches.{PatchCall, count_of, patch_tests, has_mean, PatchGiven}
-use Rattle.colorimetry.specs.Charts.{ChartCall, shades_of, shade_off, candidate_off, bad_chart, chart_tests, whole_colour, has_reading, nearest_of, between_of, ChartGiven}
+use Rattle.colorimetry.specs.Charts.{ChartCall, no_reading, shades_of, shade_off, candidate_off, bad_chart, chart_tests, whole_colour, has_reading, nearest_of, between_of, ChartGiven}
 use Rattle.colorimetry.specs.Inner.Search.{Least}
 use Rattle.colorimetry.proofs.Least.{least_is}
 use Rattle.laws.specs.declared.refusal.Refusal.TheVariants.{BadChart}
+use Rattle.std.specs.Prelude.{None, Some}
+use Rattle.colorimetry.specs.Charts.{pair_of, pair_given}
 
 -- ---- a good chart
 
@@ -32,7 +32,7 @@ chart_shades len e = let w = within 2 24 (len / 3) (neither (not (eqb (len % 3) 
 
 tests_are : (c : ChartCall) → bad_chart (length c.chart) ≡ false → first (chart_tests c) ≡ first (patch_tests c.patch)
 unfolding chart_tests
-tests_are c e = passed_over (bad_chart (length c.chart)) 20 (patch_tests c.patch) e
+tests_are c e = passed_over (bad_chart (length c.chart)) BadChart (patch_tests c.patch) e
 
 pub reading_is : (c : ChartCall) → bad_chart (length c.chart) ≡ false → has_reading c ≡ has_mean c.patch
 unfolding has_reading has_mean
@@ -48,7 +48,7 @@ counted : (c : PatchCall) → has_mean c ≡ true → 0 < count_of c
 unfolding has_mean
 counted c e = ltb-true 0 (count_of c) (and_right (accepted (first (patch_tests c))) (ltb 0 (count_of c)) e)
 
-module _ (c : PatchCall) (p : Patched) (g : PatchGiven c p) where
+module _ (c : PatchCall) (p : PatchReply) (g : PatchGiven c p) where
   no_mean : p.pixels ≡ 0 → has_mean c ≡ false
   no_mean z = go (has_mean c) refl
     where
@@ -66,29 +66,26 @@ module _ (c : PatchCall) (p : Patched) (g : PatchGiven c p) where
 -- ---- the three answers
 
 -- no reading, with an answer that is the list's
-none_given : (c : ChartCall) (r : ChartReading) (a : Answer) → r ≡ record { answer = a; nearest = N.Nothing; between = B.Nothing; nearest_off = 0; between_off = 0; whole = 0 ∷ 0 ∷ 0 ∷ []; pixels = 0 }
-    → a ≡ first (chart_tests c) → has_reading c ≡ false → ChartGiven c r
-none_given c r a q e f = rw q (record { answers = e; shade = rw f refl; mix = rw f refl; shade_off_is = rw f refl; mix_off_is = rw f refl; wholes = rw f refl; count = rw f refl })
+none_given : (c : ChartCall) (a : Answer) → a ≡ first (chart_tests c) → has_reading c ≡ false → ChartGiven c (no_reading a)
+none_given c a e f = record { answers = e; shade = rw f refl; mix = rw f refl; shade_off_is = rw f refl; mix_off_is = rw f refl; wholes = rw f refl; count = rw f refl }
 
-pub chart_refused : (c : ChartCall) (r : ChartReading) → r ≡ record { answer = Err BadChart; nearest = N.Nothing; between = B.Nothing; nearest_off = 0; between_off = 0; whole = 0 ∷ 0 ∷ 0 ∷ []; pixels = 0 }
-    → bad_chart (length c.chart) ≡ true → ChartGiven c r
+pub chart_refused : (c : ChartCall) → bad_chart (length c.chart) ≡ true → ChartGiven c (no_reading (Err BadChart))
 unfolding has_reading chart_tests
-chart_refused c r q b =
-    let e = refused_here (bad_chart (length c.chart)) 20 (patch_tests c.patch) b in
-    none_given c r (Err BadChart) q (sym e) (ap (λ (a : Answer). accepted a && ltb 0 (count_of c.patch)) e)
+chart_refused c b =
+    let e = refused_here (bad_chart (length c.chart)) BadChart (patch_tests c.patch) b in
+    none_given c (Err BadChart) (sym e) (ap (λ (a : Answer). accepted a && ltb 0 (count_of c.patch)) e)
 
-pub chart_nothing : (c : ChartCall) (r : ChartReading) (p : Patched) → PatchGiven c.patch p → bad_chart (length c.chart) ≡ false → p.pixels ≡ 0
-    → r ≡ record { answer = p.answer; nearest = N.Nothing; between = B.Nothing; nearest_off = 0; between_off = 0; whole = 0 ∷ 0 ∷ 0 ∷ []; pixels = 0 } → ChartGiven c r
-chart_nothing c r p g b z q = none_given c r p.answer q (g.answers ∙ sym (tests_are c b)) (reading_is c b ∙ no_mean c.patch p g z)
+pub chart_nothing : (c : ChartCall) (p : PatchReply) → PatchGiven c.patch p → bad_chart (length c.chart) ≡ false → p.pixels ≡ 0 → ChartGiven c (no_reading p.answer)
+chart_nothing c p g b z = none_given c p.answer (g.answers ∙ sym (tests_are c b)) (reading_is c b ∙ no_mean c.patch p g z)
 
 -- the searches looked at the patch's own whole-number mean
-colour_is : (c : PatchCall) (p : Patched) → PatchGiven c p → has_mean c ≡ true → p.whole ≡ whole_colour c
+colour_is : (c : PatchCall) (p : PatchReply) → PatchGiven c p → has_mean c ≡ true → p.whole ≡ whole_colour c
 unfolding whole_colour
 colour_is c p g m = g.wholes ∙ rw m refl
 
-pub chart_given : (c : ChartCall) (p : Patched) (i o q u : ℕ) → PatchGiven c.patch p → bad_chart (length c.chart) ≡ false → 0 < p.pixels
+pub chart_given : (c : ChartCall) (p : PatchReply) (i o q u : ℕ) → PatchGiven c.patch p → bad_chart (length c.chart) ≡ false → 0 < p.pixels
     → Least (shade_off c.chart p.whole) (shades_of c) i o → Least (candidate_off c.chart p.whole) (17 * (shades_of c - 1)) q u
-    → ChartGiven c (record { answer = p.answer; nearest = N.Shade i; between = B.Mix (q / 17) (q % 17); nearest_off = o; between_off = u; whole = p.whole; pixels = p.pixels })
+    → ChartGiven c (record { answer = p.answer; nearest = Some i; between = pair_given (q / 17) (q % 17); nearest_off = o; between_off = u; whole = p.whole; pixels = p.pixels })
 unfolding nearest_of between_of
 chart_given c p i o q u g b z l k =
     let m = some_mean c.patch p g z in
@@ -100,8 +97,8 @@ chart_given c p i o q u g b z l k =
     let y : q ≡ between_of c = least_is (candidate_off c.chart (whole_colour c.patch)) (17 * (shades_of c - 1)) q K.first in
     record {
       answers = g.answers ∙ sym (tests_are c b);
-      shade = rw h (ap N.Shade x);
-      mix = rw h (ap (λ (z : ℕ). B.Mix (z / 17) (z % 17)) y);
+      shade = rw h (ap Some x);
+      mix = rw h (ap (λ (z : ℕ). pair_given (z / 17) (z % 17)) y);
       shade_off_is = rw h (L.is ∙ ap (shade_off c.chart (whole_colour c.patch)) x);
       mix_off_is = rw h (K.is ∙ ap (candidate_off c.chart (whole_colour c.patch)) y);
       wholes = rw h w;

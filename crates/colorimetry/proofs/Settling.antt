@@ -3,14 +3,14 @@
 use mathlib.Core.Path.{◌≡◌, refl, sym, ap, ◌∙◌}
 use mathlib.Core.Bool.{Bool, true, false, ◌||◌, ◌&&◌, not}
 use mathlib.Core.List.{List, [], ◌∷◌}
-use Prim.Native.Nat.{ℕ, ◌*◌, ◌≤◌, ◌<◌, min}
+use Prim.Native.Nat.{ℕ, ◌*◌, ◌≤◌, ◌<◌}
 use native.Mathlib.Omega.{arith}
 use lib.Dec.{leb, ltb, eqb}
 use lib.ListN.{length}
-use borrow.Author.Tests.{eqb-true, ne_eqb, not-false}
-use Rattle.laws.specs.Refusals.{Answer}
+use borrow.Author.Tests.{eqb-true, ne_eqb, not-false, le-leb, lt-leb}
 use Rattle.std.specs.Prelude.{Ok, Err}
-use Rattle.laws.specs.Refusals.{Test, first, pick_answer}
+use Rattle.laws.specs.declared.refusal.Refusal.{Refusal}
+use Rattle.laws.specs.Refusals.{Answer, Test, first, number_of, pick_answer}
 use Rattle.laws.proofs.Limits.{neither}
 use Rattle.image.specs.Picture.{bad_planes}
 use Rattle.image.specs.Scratch.{scratch_need}
@@ -25,42 +25,46 @@ use Rattle.laws.specs.declared.refusal.Refusal.TheVariants.{BadState, BadPlane, 
 
 -- ---- the lower of two answers
 
--- no refusal below n
+-- no refusal of a number up to n
 abbrev Above : ℕ → Answer → Type 0
-Above n (Ok tt) = Unit {0}
-Above n (Err m) = n ≤ m
+Above n (Ok _) = Unit {0}
+Above n (Err why) = n < number_of why
 
 above_weak : (n m : ℕ) (x : Answer) → n ≤ m → Above m x → Above n x
-above_weak n m (Ok tt) h a = tt
-above_weak n m (Err k) h a = omega arith
+above_weak n m (Ok _) h a = tt
+above_weak n m (Err why) h a = omega arith
 
-above_pick : (b : Bool) (m : ℕ) (x : Answer) (n : ℕ) → n ≤ m → Above m x → Above n (pick_answer b (Err m) x)
-above_pick true m x n h a = h
-above_pick false m x n h a = above_weak n m x h a
+above_pick : (b : Bool) (why : Refusal) (x : Answer) (n : ℕ) → n < number_of why → Above (number_of why) x → Above n (pick_answer b (Err why) x)
+above_pick true why x n h a = h
+above_pick false why x n h a = above_weak n (number_of why) x (omega arith) a
 
 -- the numbers rise along the list, from above n on
 abbrev Rising : ℕ → List Test → Type 0
 Rising n [] = Unit {0}
-Rising n (t ∷ ts) = (n < t.1) × Rising t.1 ts
+Rising n (t ∷ ts) = (n < number_of t.1) × Rising (number_of t.1) ts
 
 above_first : (ts : List Test) (n : ℕ) → Rising n ts → Above n (first ts)
 unfolding first
 above_first [] n a = tt
-above_first (t ∷ ts) n a = above_pick t.0 t.1 (first ts) n (let h = a.0 in omega arith) (above_first ts t.1 a.1)
+above_first (t ∷ ts) n a = above_pick t.0 t.1 (first ts) n a.0 (above_first ts (number_of t.1) a.1)
 
-lower_left : (n : ℕ) (y : Answer) → Above n y → lower_than n y ≡ Err n
-lower_left n (Ok tt) a = refl
-lower_left n (Err m) a = let e : min n m ≡ n = omega arith in ap Err e
+lower_left : (why : Refusal) (y : Answer) → Above (number_of why) y → lower_than why y ≡ Err why
+lower_left why (Ok _) a = refl
+lower_left why (Err other) a = rw (le-leb (number_of why) (number_of other) (omega arith)) refl
 
-lower_right : (n : ℕ) (x : Answer) → Above n x → lower_of x (Err n) ≡ Err n
-lower_right n (Ok tt) a = refl
-lower_right n (Err m) a = let e : min m n ≡ n = omega arith in ap Err e
+lower_right : (why : Refusal) (x : Answer) → Above (number_of why) x → lower_of x (Err why) ≡ Err why
+lower_right why (Ok _) a = refl
+lower_right why (Err other) a = rw (lt-leb (number_of other) (number_of why) a) refl
 
-lower_pick : (b d : Bool) (n : ℕ) (x y : Answer) → Above n x → Above n y → lower_of (pick_answer b (Err n) x) (pick_answer d (Err n) y) ≡ pick_answer (b || d) (Err n) (lower_of x y)
-lower_pick true true n x y p q = let e : min n n ≡ n = omega arith in ap Err e
-lower_pick true false n x y p q = lower_left n y q
-lower_pick false true n x y p q = lower_right n x p
-lower_pick false false n x y p q = refl
+same_pick : (b : Bool) (x : Answer) → pick_answer b x x ≡ x
+same_pick true x = refl
+same_pick false x = refl
+
+lower_pick : (b d : Bool) (why : Refusal) (x y : Answer) → Above (number_of why) x → Above (number_of why) y → lower_of (pick_answer b (Err why) x) (pick_answer d (Err why) y) ≡ pick_answer (b || d) (Err why) (lower_of x y)
+lower_pick true true why x y p q = same_pick (leb (number_of why) (number_of why)) (Err why)
+lower_pick true false why x y p q = lower_left why y q
+lower_pick false true why x y p q = lower_right why x p
+lower_pick false false why x y p q = refl
 
 -- lists of the same numbers, and the list of either's tests
 abbrev Alike : List Test → List Test → Type 0
@@ -80,15 +84,15 @@ lower_first [] [] n m a b h = refl
 lower_first [] (u ∷ us) n m a b h = absurd h
 lower_first (t ∷ ts) [] n m a b h = absurd h
 lower_first (t ∷ ts) (u ∷ us) n m a b h =
-    ap (λ (k : ℕ). lower_of (pick_answer t.0 (Err t.1) (first ts)) (pick_answer u.0 (Err k) (first us))) h.0
-    ∙ lower_pick t.0 u.0 t.1 (first ts) (first us) (above_first ts t.1 a.1) (above_weak t.1 u.1 (first us) (let e = h.0 in omega arith) (above_first us u.1 b.1))
-    ∙ ap (pick_answer (t.0 || u.0) (Err t.1)) (lower_first ts us t.1 u.1 a.1 b.1 h.1)
+    ap (λ (r : Refusal). lower_of (pick_answer t.0 (Err t.1) (first ts)) (pick_answer u.0 (Err r) (first us))) h.0
+    ∙ lower_pick t.0 u.0 t.1 (first ts) (first us) (above_first ts (number_of t.1) a.1) (above_weak (number_of t.1) (number_of u.1) (first us) (let e = ap number_of h.0 in omega arith) (above_first us (number_of u.1) b.1))
+    ∙ ap (pick_answer (t.0 || u.0) (Err t.1)) (lower_first ts us (number_of t.1) (number_of u.1) a.1 b.1 h.1)
 
 -- ---- 1, 22, then the rest
 
 later : (x : Answer) → Above 2 x → is_state x ≡ false
-later (Ok tt) a = refl
-later (Err m) a = ne_eqb m 1 (λ e. omega arith)
+later (Ok _) a = refl
+later (Err why) a = ne_eqb (number_of why) 1 (λ e. omega arith)
 
 settle_cases : (e f u : Bool) (x y z : Answer) → Above 2 x → Above 2 y → (u ≡ false → lower_of x y ≡ z)
     → settled (pick_answer e (Err BadState) x) (pick_answer f (Err BadState) y) u ≡ pick_answer (e || f) (Err BadState) (pick_answer u (Err Unlike) z)

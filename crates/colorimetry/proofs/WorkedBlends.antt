@@ -26,12 +26,12 @@ use Rattle.reconstruction.specs.Fill.{pixel, pixels}
 use Rattle.reconstruction.specs.Lists.{row_of, event_of, guided_colour}
 use Rattle.reconstruction.specs.Reader.{Side, side_of, side_reader, side_scratch}
 use Rattle.reconstruction.proofs.Laws.{planes_c, open_c, open_c_answer, bytes_c, early_row, late_row}
-use Rattle.colorimetry.specs.declared.blend.BlendReply.{BlendReply}
+use Rattle.colorimetry.specs.Blends.{BlendReply}
 use Rattle.colorimetry.specs.Mixes.{mix_of, mix_colour}
 use Rattle.colorimetry.specs.Blends.{BlendCall, blend_call, same_range, same_geometry, unlike_of, blend_tests, blend_colour, BlendGiven}
 use Rattle.colorimetry.specs.BlendClaims.{early_event, late_event}
 use Rattle.colorimetry.proofs.BlendClaims.{blend_claims}
-use Rattle.laws.specs.declared.refusal.Refusal.TheVariants.{Unlike}
+use Rattle.laws.specs.declared.refusal.Refusal.TheVariants.{BadState, Unlike}
 
 -- ---- what a blend gives, by its contract
 
@@ -169,7 +169,7 @@ blend0_answer = failed_accepted (blend_tests blend0) (both_pass early0.reader la
 
 too_heavy_answer : first (blend_tests too_heavy) ≡ Err Unlike
 unfolding blend_tests unlike_of same_geometry same_range after_open after_row after_seek reader_at geometry_of reader_layout
-too_heavy_answer = passed_over _ 1 _ (both_pass early1.reader late1.reader early1_passes late1_passes) ∙ refused_here _ 22 _ refl
+too_heavy_answer = passed_over _ BadState _ (both_pass early1.reader late1.reader early1_passes late1_passes) ∙ refused_here _ Unlike _ refl
 
 blend1_answer : first (blend_tests blend1) ≡ Ok tt
 unfolding blend_tests unlike_of same_geometry same_range after_open after_row after_seek reader_at geometry_of reader_layout bad_plane short_plane bad_planes scratch_need

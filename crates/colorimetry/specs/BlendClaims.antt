@@ -4,7 +4,7 @@ use Rattle.reconstruction.specs.Fill.{pixels}
 use Rattle.reconstruction.specs.Lists.{RowEvent, Event, RanRow, Run, event_of, guided_colour}
 use Rattle.reconstruction.specs.Reader.{OpenCall, side_colour}
 use Rattle.reconstruction.specs.Refusals.{accepted}
-use Rattle.colorimetry.specs.declared.blend.BlendReply.{BlendReply}
+use Rattle.colorimetry.specs.Blends.{BlendReply}
 use Rattle.colorimetry.specs.Mixes.{mix_colour}
 use Rattle.colorimetry.specs.Blends.{BlendCall, BlendGiven}
 

@@ -5,11 +5,11 @@ use Rattle.reconstruction.specs.Colour.{Colour}
 use Rattle.reconstruction.specs.Fill.{pixels}
 use Rattle.reconstruction.specs.Geometry.{scratch_need}
 use Rattle.reconstruction.specs.Reader.{reader_layout, Side, side_reader, side_scratch, side_colour}
-use Rattle.reconstruction.specs.Refusals.{Test, first, accepted, bad_state, bad_planes}
+use Rattle.reconstruction.specs.Refusals.{Answer, Test, first, accepted, bad_state, bad_planes}
 use Rattle.image.specs.declared.layout.Range.{Range}
 use Rattle.image.specs.declared.layout.Range.TheVariants.{Full, Studio}
 use Rattle.guided.specs.declared.geometry.Geometry.{Geometry}
-use Rattle.colorimetry.specs.declared.blend.BlendReply.{BlendReply}
+use Rattle.guided.specs.declared.state.Reader.{Reader}
 use Rattle.colorimetry.specs.Mixes.{mix_colour}
 use Rattle.laws.specs.declared.refusal.Refusal.TheVariants.{BadState, BadPlane, ShortScratch, ShortOutput, BadRow, RowPassed, Unlike}
 
@@ -62,6 +62,15 @@ blend_tests c =
 -- the colour of column x: "Each RGB byte is floor(((16−k)·early + k·late + 8)/16)"
 abbrev pub blend_colour : BlendCall → ℕ → Colour
 blend_colour c x = mix_colour c.weight (side_colour c.early c.y x) (side_colour c.late c.y x)
+
+-- what `blend_row` answers, with both states after it
+pub record BlendReply : Type 0 where
+  pub answer : Answer
+  pub early : Reader
+  pub late : Reader
+
+abbrev pub blend_reply : Answer → Reader → Reader → BlendReply
+blend_reply answer early late = record { answer = answer; early = early; late = late }
 
 -- "each moved as by a row call; a refusal for either leaves both states, both scratches and the output untouched"
 pub record BlendGiven (c : BlendCall) (r : BlendReply) (scratchE scratchL : List Float) (out : List ℕ) : Type 0 where

@@ -2,13 +2,13 @@
 use Rattle.std.specs.Prelude.{◌≡◌, ◌⊎◌, ℕ, ◌+◌, ◌≤◌, ◌<◌, min, max, T}
 use Rattle.reconstruction.specs.Refusals.{accepted}
 use Rattle.colorimetry.specs.declared.patch.Patch.TheVariants as P
-use Rattle.colorimetry.specs.declared.patch.Patched.{Patched}
-use Rattle.colorimetry.specs.declared.shade.Nearest.TheVariants as N
-use Rattle.colorimetry.specs.declared.shade.Between.TheVariants as B
-use Rattle.colorimetry.specs.declared.shade.ChartReading.{ChartReading}
+use Rattle.colorimetry.specs.Patches.{PatchReply}
+use Rattle.colorimetry.specs.Charts.{ChartReply}
 use Rattle.colorimetry.specs.Mixes.{mix_of}
 use Rattle.colorimetry.specs.Patches.{PatchGiven}
 use Rattle.colorimetry.specs.Charts.{ChartCall, shades_of, shade_off, mix_off, first_least, whole_colour, ChartGiven}
+use Rattle.std.specs.Prelude.{None, Some}
+use Rattle.colorimetry.specs.Charts.{pair_given}
 
 -- "the least .., the first on a tie": of d 0, .. d (n - 1), none is less than d r and each before it is greater
 pub record FirstLeast (d : ℕ → ℕ) (n r : ℕ) : Type 0 where
@@ -37,17 +37,17 @@ pub record ChartClaims : Type 0 where
   pub found : (d : ℕ → ℕ) (n : ℕ) → 0 < n → FirstLeast d n (first_least d n)
   pub only : (d : ℕ → ℕ) (n r s : ℕ) → FirstLeast d n r → FirstLeast d n s → r ≡ s
   -- "the index, from 0, with the least sum .., the first on a tie"
-  pub nearest : (c : ChartCall) (r : ChartReading) (i : ℕ) → ChartGiven c r → r.nearest ≡ N.Shade i → FirstLeast (shade_from c) (shades_of c) i
+  pub nearest : (c : ChartCall) (r : ChartReply) (i : ℕ) → ChartGiven c r → r.nearest ≡ Some i → FirstLeast (shade_from c) (shades_of c) i
   -- "the pair .. and weight whose mix has the least such sum, the first pair and then the least weight on a tie"
-  pub on_chart : (c : ChartCall) (r : ChartReading) (i k : ℕ) → ChartGiven c r → r.between ≡ B.Mix i k → OnChart c i k
-  pub least : (c : ChartCall) (r : ChartReading) (i k j l : ℕ) → ChartGiven c r → r.between ≡ B.Mix i k → OnChart c j l → mix_from c i k ≤ mix_from c j l
-  pub first : (c : ChartCall) (r : ChartReading) (i k j l : ℕ) → ChartGiven c r → r.between ≡ B.Mix i k → OnChart c j l → Before j l i k → mix_from c i k < mix_from c j l
+  pub on_chart : (c : ChartCall) (r : ChartReply) (i k : ℕ) → ChartGiven c r → r.between ≡ pair_given i k → OnChart c i k
+  pub least : (c : ChartCall) (r : ChartReply) (i k j l : ℕ) → ChartGiven c r → r.between ≡ pair_given i k → OnChart c j l → mix_from c i k ≤ mix_from c j l
+  pub first : (c : ChartCall) (r : ChartReply) (i k j l : ℕ) → ChartGiven c r → r.between ≡ pair_given i k → OnChart c j l → Before j l i k → mix_from c i k < mix_from c j l
   -- a pair's last mix is the next pair's first, so that the weight 0 is only ever given with the first pair
-  pub zero_first : (c : ChartCall) (r : ChartReading) (i : ℕ) → ChartGiven c r → r.between ≡ B.Mix i 0 → i ≡ 0
+  pub zero_first : (c : ChartCall) (r : ChartReply) (i : ℕ) → ChartGiven c r → r.between ≡ pair_given i 0 → i ≡ 0
   -- a mix lies between its shades, and at the ends it is one of them
   pub mixed : (k a b : ℕ) → k ≤ 16 → (min a b ≤ mix_of k a b) × (mix_of k a b ≤ max a b)
   pub at_first : (a b : ℕ) → mix_of 0 a b ≡ a
   pub at_last : (a b : ℕ) → mix_of 16 a b ≡ b
   -- "Where the patch is nothing, so are both answers.", and only there
-  pub nothing : (c : ChartCall) (r : ChartReading) (s : Patched) → ChartGiven c r → PatchGiven c.patch s → T (accepted r.answer) → s.patch ≡ P.Nothing → (r.nearest ≡ N.Nothing) × (r.between ≡ B.Nothing)
-  pub something : (c : ChartCall) (r : ChartReading) (s : Patched) → ChartGiven c r → PatchGiven c.patch s → T (accepted r.answer) → (r.nearest ≡ N.Nothing) ⊎ (r.between ≡ B.Nothing) → s.patch ≡ P.Nothing
+  pub nothing : (c : ChartCall) (r : ChartReply) (s : PatchReply) → ChartGiven c r → PatchGiven c.patch s → T (accepted r.answer) → s.patch ≡ P.Nothing → (r.nearest ≡ None) × (r.between ≡ None)
+  pub something : (c : ChartCall) (r : ChartReply) (s : PatchReply) → ChartGiven c r → PatchGiven c.patch s → T (accepted r.answer) → (r.nearest ≡ None) ⊎ (r.between ≡ None) → s.patch ≡ P.Nothing

@@ -2,11 +2,10 @@
 use Rattle.std.specs.Prelude.{◌≡◌, Bool, true, false, ◌||◌, ◌&&◌, not, cond, List, [], ◌∷◌, ℕ, zero, suc, ◌+◌, ◌-◌, ◌*◌, ◌/◌, ◌%◌, ltb, eqb, get_or, length}
 use Rattle.laws.specs.Numbers.{outside_of}
 use Rattle.reconstruction.specs.Geometry.{Rectangle}
-use Rattle.reconstruction.specs.Refusals.{Test, first, accepted}
-use Rattle.colorimetry.specs.declared.shade.Nearest.{Nearest}
-use Rattle.colorimetry.specs.declared.shade.Nearest.TheVariants as N
+use Rattle.reconstruction.specs.Refusals.{Answer, Test, first, accepted}
+use Rattle.std.specs.Prelude.{Option, Some, None, Result, Ok, Err}
+use Rattle.laws.specs.declared.refusal.Refusal.{Refusal}
 use Rattle.colorimetry.specs.declared.shade.Between.{Between}
-use Rattle.colorimetry.specs.declared.shade.Between.TheVariants as B
 use Rattle.colorimetry.specs.declared.shade.ChartReading.{ChartReading}
 use Rattle.colorimetry.specs.Mixes.{mix_of}
 use Rattle.colorimetry.specs.Patches.{PatchCall, patch_call, count_of, whole_mean, patch_tests}
@@ -88,19 +87,38 @@ nearest_of c = first_least (shade_off c.chart (whole_colour c.patch)) (shades_of
 unfoldable pub between_of : ChartCall → ℕ
 between_of c = first_least (candidate_off c.chart (whole_colour c.patch)) (17 * (shades_of c - 1))
 
-abbrev pub pick_nearest : Bool → Nearest → Nearest → Nearest
-pick_nearest true a b = a
-pick_nearest false a b = b
+abbrev pub given_if : {A : Type 0} → Bool → A → Option A
+given_if true a = Some a
+given_if false a = None
 
-abbrev pub pick_between : Bool → Between → Between → Between
-pick_between true a b = a
-pick_between false a b = b
+abbrev pub pair_of : ℕ → ℕ → Between
+pair_of first weight = record { first = first; weight = weight }
+
+abbrev pub pair_given : ℕ → ℕ → Option Between
+pair_given first weight = Some (pair_of first weight)
+
+-- what `chart_reading` answers, and what it gives: where it is refused, as where the patch is nothing, nothing and zeros
+pub record ChartReply : Type 0 where
+  pub answer : Answer
+  pub nearest : Option ℕ
+  pub between : Option Between
+  pub nearest_off : ℕ
+  pub between_off : ℕ
+  pub whole : List ℕ
+  pub pixels : ℕ
+
+abbrev pub no_reading : Answer → ChartReply
+no_reading a = record { answer = a; nearest = None; between = None; nearest_off = 0; between_off = 0; whole = 0 ∷ 0 ∷ 0 ∷ []; pixels = 0 }
+
+abbrev pub chart_reply : Result ChartReading Refusal → ChartReply
+chart_reply (Ok r) = record { answer = Ok tt; nearest = r.nearest; between = r.between; nearest_off = r.nearest_off; between_off = r.between_off; whole = r.whole; pixels = r.pixels }
+chart_reply (Err why) = no_reading (Err why)
 
 -- "Where the patch is nothing, so are both answers." What isn't given is 0, and a refused call gives nothing.
-pub record ChartGiven (c : ChartCall) (r : ChartReading) : Type 0 where
+pub record ChartGiven (c : ChartCall) (r : ChartReply) : Type 0 where
   pub answers : r.answer ≡ first (chart_tests c)
-  pub shade : r.nearest ≡ pick_nearest (has_reading c) (N.Shade (nearest_of c)) N.Nothing
-  pub mix : r.between ≡ pick_between (has_reading c) (B.Mix (between_of c / 17) (between_of c % 17)) B.Nothing
+  pub shade : r.nearest ≡ given_if (has_reading c) (nearest_of c)
+  pub mix : r.between ≡ given_if (has_reading c) (pair_of (between_of c / 17) (between_of c % 17))
   pub shade_off_is : r.nearest_off ≡ cond (has_reading c) (shade_off c.chart (whole_colour c.patch) (nearest_of c)) 0
   pub mix_off_is : r.between_off ≡ cond (has_reading c) (candidate_off c.chart (whole_colour c.patch) (between_of c)) 0
   pub wholes : r.whole ≡ cond (has_reading c) (whole_colour c.patch) (0 ∷ 0 ∷ 0 ∷ [])

@@ -5,7 +5,7 @@ use Rattle.std.specs.Float.Ieee.{of_int, round, le}
 use Rattle.std.specs.Float.Ieee.Exact.{HasValue}
 use Rattle.reconstruction.specs.Refusals.{first, accepted}
 use Rattle.colorimetry.specs.declared.patch.Patch.TheVariants.{Nothing}
-use Rattle.colorimetry.specs.declared.patch.Patched.{Patched}
+use Rattle.colorimetry.specs.Patches.{PatchReply}
 use Rattle.colorimetry.specs.Patches.{PatchCall, patch_call, channel_at, across_of, down_of, count_of, channel_sum, channel_mean, whole_mean, patch_tests, PatchGiven}
 
 -- the rectangle and the picture share the pixel in row y, column x
@@ -44,8 +44,8 @@ pub record PatchClaims : Type 0 where
       → ((y x : ℕ) → Shared c y x → (lo ≤ channel_at c k y x) × (channel_at c k y x ≤ hi))
       → (T (le (of_int binary64 (pos lo)) (channel_mean c k)) × T (le (channel_mean c k) (of_int binary64 (pos hi)))) × ((lo ≤ whole_mean c k) × (whole_mean c k ≤ hi))
   -- pictures that are alike in the shared pixels give the same
-  pub alike : (c : PatchCall) (rgb : List ℕ) (r s : Patched) → PatchGiven c r → PatchGiven (with_rgb c rgb) s → too_short c ≡ too_short (with_rgb c rgb)
+  pub alike : (c : PatchCall) (rgb : List ℕ) (r s : PatchReply) → PatchGiven c r → PatchGiven (with_rgb c rgb) s → too_short c ≡ too_short (with_rgb c rgb)
       → ((k y x : ℕ) → k < 3 → Shared c y x → channel_at c k y x ≡ channel_at (with_rgb c rgb) k y x) → r ≡ s
   -- "or nothing if the rectangle and picture share no pixel", and only then
-  pub nothing : (c : PatchCall) (r : Patched) → PatchGiven c r → T (accepted r.answer) → ((y x : ℕ) → Shared c y x → ⊥) → r.patch ≡ Nothing
-  pub something : (c : PatchCall) (r : Patched) → PatchGiven c r → T (accepted r.answer) → r.patch ≡ Nothing → (y x : ℕ) → Shared c y x → ⊥
+  pub nothing : (c : PatchCall) (r : PatchReply) → PatchGiven c r → T (accepted r.answer) → ((y x : ℕ) → Shared c y x → ⊥) → r.patch ≡ Nothing
+  pub something : (c : PatchCall) (r : PatchReply) → PatchGiven c r → T (accepted r.answer) → r.patch ≡ Nothing → (y x : ℕ) → Shared c y x → ⊥

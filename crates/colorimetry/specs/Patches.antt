@@ -6,7 +6,9 @@ use Rattle.laws.specs.Numbers.{outside_of}
 use Rattle.laws.specs.Rounding.{half_up}
 use Rattle.laws.specs.Sums.{sum_to}
 use Rattle.reconstruction.specs.Geometry.{Rectangle}
-use Rattle.reconstruction.specs.Refusals.{Test, first, accepted}
+use Rattle.std.specs.Prelude.{Result, Ok, Err}
+use Rattle.laws.specs.declared.refusal.Refusal.{Refusal}
+use Rattle.reconstruction.specs.Refusals.{Answer, Test, first, accepted}
 use Rattle.colorimetry.specs.declared.patch.Patch.{Patch}
 use Rattle.colorimetry.specs.declared.patch.Patch.TheVariants.{Mean, Nothing}
 use Rattle.colorimetry.specs.declared.patch.Patched.{Patched}
@@ -85,9 +87,20 @@ abbrev pub pick_patch : Bool → Patch → Patch → Patch
 pick_patch true a b = a
 pick_patch false a b = b
 
+-- what `patch_mean` answers, and what it gives: where it is refused, as where it gives nothing, zeros
+pub record PatchReply : Type 0 where
+  pub answer : Answer
+  pub patch : Patch
+  pub whole : List ℕ
+  pub pixels : ℕ
+
+abbrev pub patch_reply : Result Patched Refusal → PatchReply
+patch_reply (Ok p) = record { answer = Ok tt; patch = p.patch; whole = p.whole; pixels = p.pixels }
+patch_reply (Err why) = record { answer = Err why; patch = Nothing; whole = 0 ∷ 0 ∷ 0 ∷ []; pixels = 0 }
+
 -- "The answer is the patch's mean, three f64 values, or nothing if the rectangle and picture share no pixel."
 -- "A whole-number mean, halves up, is given beside it, zeros beside nothing." A refused call gives nothing too.
-pub record PatchGiven (c : PatchCall) (r : Patched) : Type 0 where
+pub record PatchGiven (c : PatchCall) (r : PatchReply) : Type 0 where
   pub answers : r.answer ≡ first (patch_tests c)
   pub mean : r.patch ≡ pick_patch (has_mean c) (Mean (channel_mean c 0) (channel_mean c 1) (channel_mean c 2)) Nothing
   pub wholes : r.whole ≡ cond (has_mean c) (whole_mean c 0 ∷ whole_mean c 1 ∷ whole_mean c 2 ∷ []) (0 ∷ 0 ∷ 0 ∷ [])

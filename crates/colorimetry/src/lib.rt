@@ -13,6 +13,6 @@ mod patch;
 mod shade;
 mod sums;
 
-pub use blend::{BlendReply, blend_row};
+pub use blend::blend_row;
 pub use patch::{Patch, Patched, patch_mean};
-pub use shade::{Between, ChartReading, Nearest, chart_reading};
+pub use shade::{Between, ChartReading, chart_reading};

@@ -2,12 +2,12 @@
 ghost use Rattle.std.specs.Prelude.{◌≡◌, [], ◌∷◌, ◌+◌, ◌*◌, ◌≤◌, ◌<◌};
 ghost use Rattle.reconstruction.specs.Refusals.{first};
 ghost use Rattle.laws.specs.Rounding.{half_up};
-ghost use Rattle.colorimetry.specs.declared.patch.Patch.TheVariants.{Mean, Nothing};
-ghost use Rattle.colorimetry.specs.Patches.{mean_of, shared_of, bad_sides, passes, passes_end, patch_call, patch_tests, PatchGiven};
+ghost use Rattle.colorimetry.specs.declared.patch.Patch.TheVariants.{Mean};
+ghost use Rattle.colorimetry.specs.Patches.{mean_of, shared_of, bad_sides, passes, passes_end, patch_call, patch_tests, patch_reply, PatchGiven};
 ghost use Rattle.colorimetry.specs.Inner.Sums.{SumsMost};
 
 use crate::sums::{Sums, area_sums};
-use laws::{Answer, either, outside, then};
+use laws::{Refusal, outside};
 use reconstruction::{Layout, Rectangle};
 
 // The mean of the pixels that a rectangle and a picture share: red, green and blue; `Nothing` where they share none.
@@ -17,59 +17,61 @@ pub enum Patch {
     Nothing,
 }
 
-// What `patch_mean` answers: the mean, beside it the whole-number mean, and how many pixels it is of. `Nothing` and zeros where no pixel is
-// shared or the call was refused.
+// What `patch_mean` gives where it accepts: the mean, beside it the whole-number mean, and how many pixels it is of. `Nothing` and zeros where
+// no pixel is shared.
 #[derive(Clone, Copy)]
 pub struct Patched {
-    pub answer: Answer,
     pub patch: Patch,
     pub whole: [u8; 3],
     pub pixels: usize,
 }
 
 // Refusal 2's test, whether a side of the picture is 0 or longer than `Layout::SIDE`.
+#[tactic(auto, unfolding(crate::specs::Patches::bad_sides))]
 fn bad_sides(w: usize, h: usize) -> bool
     ensures { result ≡ bad_sides w h }
 {
-    either(outside(1, Layout::SIDE, w), outside(1, Layout::SIDE, h))
+    outside(1, Layout::SIDE, w) || outside(1, Layout::SIDE, h)
 }
 
 // Whether start + len is more than `Rectangle::END`. No sum is formed, since it may be past 2^64.
+#[tactic(auto, unfolding(crate::specs::Patches::passes))]
 fn passes_along(start: usize, len: usize) -> bool
     ensures { result ≡ passes start len }
 {
-    if start > Rectangle::END {
-        return true;
-    }
-    len > Rectangle::END - start
+    start > Rectangle::END || len > Rectangle::END - start
 }
 
 // Refusal 19's test, whether the rectangle's end passes `Rectangle::END`, across or down.
+#[tactic(auto, unfolding(crate::specs::Patches::passes_end))]
 fn passes_end(rectangle: Rectangle) -> bool
     ensures { result ≡ passes_end rectangle }
 {
-    either(
-        passes_along(rectangle.left, rectangle.width),
-        passes_along(rectangle.top, rectangle.height),
-    )
+    passes_along(rectangle.left, rectangle.width) || passes_along(rectangle.top, rectangle.height)
 }
 
 // The lowest refusal of `patch_mean` that applies.
-fn patch_answer(rectangle: Rectangle, w: usize, h: usize, rgb: &[u8]) -> Answer
+#[tactic(auto, unfolding(crate::specs::Patches::patch_tests))]
+fn patch_answer(rectangle: Rectangle, w: usize, h: usize, rgb: &[u8]) -> Result<(), Refusal>
     ensures { result ≡ first (patch_tests (patch_call rectangle w h rgb.now)) }
 {
-    let answer = then(Answer::Accepted, bad_sides(w, h), 2);
-    let answer = then(answer, passes_end(rectangle), 19);
-    then(answer, laws::volume_passes(w, h, 3, rgb.len()), 10)
+    laws::first([
+        (bad_sides(w, h), Refusal::BadSize),
+        (passes_end(rectangle), Refusal::BadRectangle),
+        (
+            laws::volume_passes(w, h, 3, rgb.len()),
+            Refusal::ShortOutput,
+        ),
+    ])
 }
 
 // How many of the `len` columns, or rows, from `start` on lie before `side`.
+#[tactic(auto, unfolding(crate::specs::Patches::shared_of))]
 fn shared(start: usize, len: usize, side: usize) -> usize
     requires { start + len ≤ 65535 }
     ensures { (result ≡ shared_of start len side) × (result ≤ side) }
 {
-    let end = laws::least(start + len, side);
-    if end < start { 0 } else { end - start }
+    side.min(start + len).saturating_sub(start)
 }
 
 // "the exact whole sum, made a float, divided once by the count": both are below 2^53, so that neither cast rounds.
@@ -112,38 +114,31 @@ fn whole_patch(s: Sums, count: usize) -> [u8; 3]
     ]
 }
 
-// No mean: a call that was refused, or that met no pixel.
-fn no_patch(answer: Answer) -> Patched
-    ensures { result ≡ record { answer = answer; patch = Nothing; whole = 0 ∷ 0 ∷ 0 ∷ []; pixels = 0 } }
-{
-    Patched {
-        answer,
-        patch: Patch::Nothing,
-        whole: [0; 3],
-        pixels: 0,
-    }
-}
-
 // The mean of the pixels that the rectangle shares with a picture of w by h pixels, and beside it the whole-number mean. Refusals 2, 19 and
 // 10, in this order.
-pub fn patch_mean(rectangle: Rectangle, w: usize, h: usize, rgb: &[u8]) -> Patched
-    ensures { PatchGiven (patch_call rectangle w h rgb.now) result }
+pub fn patch_mean(
+    rectangle: Rectangle,
+    w: usize,
+    h: usize,
+    rgb: &[u8],
+) -> Result<Patched, Refusal>
+    ensures { PatchGiven (patch_call rectangle w h rgb.now) (patch_reply result) }
 {
-    let answer = patch_answer(rectangle, w, h, rgb);
-    if laws::refused(answer) {
-        return no_patch(answer);
-    }
+    patch_answer(rectangle, w, h, rgb)?;
     let n = shared(rectangle.left, rectangle.width, w);
     let m = shared(rectangle.top, rectangle.height, h);
     let pixels = n * m;
     if pixels == 0 {
-        return no_patch(answer);
+        return Ok(Patched {
+            patch: Patch::Nothing,
+            whole: [0; 3],
+            pixels: 0,
+        });
     }
     let s = area_sums(rgb, 3 * (rectangle.top * w + rectangle.left), 3 * w, n, m);
-    Patched {
-        answer,
+    Ok(Patched {
         patch: mean_patch(s, pixels),
         whole: whole_patch(s, pixels),
         pixels,
-    }
+    })
 }

@@ -1,36 +1,26 @@
 // The reading of a patch on a chart: the nearest shade, and the nearest mix of two neighbours.
 ghost use Rattle.std.specs.Prelude.{◌≡◌, ℕ, [], ◌∷◌, ◌+◌, ◌-◌, ◌*◌, ◌/◌, ◌%◌, ◌≤◌, ◌<◌, length};
-ghost use Rattle.colorimetry.specs.declared.shade.Nearest.TheVariants as N;
-ghost use Rattle.colorimetry.specs.declared.shade.Between.TheVariants as B;
-ghost use Rattle.colorimetry.specs.Charts.{bad_chart, square_of, distance, shade_at, mix_at, shade_off, candidate_off, chart_call, ChartGiven};
+ghost use Rattle.colorimetry.specs.Charts.{bad_chart, square_of, distance, shade_at, mix_at, shade_off, candidate_off, chart_call, chart_reply, ChartGiven};
 ghost use Rattle.colorimetry.specs.Inner.Search.{channel, Least};
 
 use crate::mix::mix;
-use crate::patch::{Patched, patch_mean};
-use laws::{Answer, outside};
+use crate::patch::patch_mean;
+use laws::{Refusal, outside};
 use reconstruction::Rectangle;
 
-// The nearest shade by its index, counted from 0; `Nothing` where the patch is nothing.
-#[derive(Clone, Copy)]
-pub enum Nearest {
-    Shade(usize),
-    Nothing,
+// A mix of two neighbours: the index of the first, and the weight of the second in sixteenths.
+#[derive(Clone, Copy, PartialEq, Eq, Debug)]
+pub struct Between {
+    pub first: usize,
+    pub weight: usize,
 }
 
-// The nearest mix: the index of its first shade, and its weight in sixteenths; `Nothing` where the patch is nothing.
-#[derive(Clone, Copy)]
-pub enum Between {
-    Mix(usize, usize),
-    Nothing,
-}
-
-// What `chart_reading` answers: the nearest shade and the nearest mix, each with its sum of squared differences, beside the patch's
-// whole-number mean and its number of pixels. `Nothing` and zeros where the patch is nothing or the call was refused.
-#[derive(Clone, Copy)]
+// What `chart_reading` gives where it accepts: the nearest shade by its index, counted from 0, and the nearest mix, each with its sum of squared
+// differences, beside the patch's whole-number mean and its number of pixels. None and zeros where the patch is nothing.
+#[derive(Clone, Copy, PartialEq, Eq, Debug)]
 pub struct ChartReading {
-    pub answer: Answer,
-    pub nearest: Nearest,
-    pub between: Between,
+    pub nearest: Option<usize>,
+    pub between: Option<Between>,
     pub nearest_off: u32,
     pub between_off: u32,
     pub whole: [u8; 3],
@@ -154,21 +144,6 @@ fn nearest_mix(chart: &[u8], n: usize, colour: [u8; 3]) -> Found
     first_nearest(WEIGHTS * (n - 1), |q| candidate_off(chart, q, colour))
 }
 
-// No reading: a call that was refused, or whose patch is nothing.
-fn no_reading(answer: Answer) -> ChartReading
-    ensures { result ≡ record { answer = answer; nearest = N.Nothing; between = B.Nothing; nearest_off = 0; between_off = 0; whole = 0 ∷ 0 ∷ 0 ∷ []; pixels = 0 } }
-{
-    ChartReading {
-        answer,
-        nearest: Nearest::Nothing,
-        between: Between::Nothing,
-        nearest_off: 0,
-        between_off: 0,
-        whole: [0; 3],
-        pixels: 0,
-    }
-}
-
 // The reading of a patch on a chart of 2 to 24 shades, three bytes each and no byte over: the index of the nearest shade, and the pair of
 // neighbours and the weight whose mix is nearest. Refusal 20, then those of `patch_mean`.
 pub fn chart_reading(
@@ -177,28 +152,36 @@ pub fn chart_reading(
     w: usize,
     h: usize,
     rgb: &[u8],
-) -> ChartReading
-    ensures { ChartGiven (chart_call chart.now rectangle w h rgb.now) result }
+) -> Result<ChartReading, Refusal>
+    ensures { ChartGiven (chart_call chart.now rectangle w h rgb.now) (chart_reply result) }
 {
     if bad_chart(chart.len()) {
-        return no_reading(Answer::Refused(20));
+        return Err(Refusal::BadChart);
     }
-    let p = patch_mean(rectangle, w, h, rgb);
-    let answer = p.answer;
+    let p = patch_mean(rectangle, w, h, rgb)?;
     if p.pixels == 0 {
-        return no_reading(answer);
+        return Ok(ChartReading {
+            nearest: None,
+            between: None,
+            nearest_off: 0,
+            between_off: 0,
+            whole: [0; 3],
+            pixels: 0,
+        });
     }
     let n = chart.len() / 3;
     let whole = p.whole;
     let shade = nearest_shade(chart, n, whole);
     let mix = nearest_mix(chart, n, whole);
-    ChartReading {
-        answer,
-        nearest: Nearest::Shade(shade.index),
-        between: Between::Mix(mix.index / WEIGHTS, mix.index % WEIGHTS),
+    Ok(ChartReading {
+        nearest: Some(shade.index),
+        between: Some(Between {
+            first: mix.index / WEIGHTS,
+            weight: mix.index % WEIGHTS,
+        }),
         nearest_off: shade.off,
         between_off: mix.off,
         whole,
         pixels: p.pixels,
-    }
+    })
 }

@@ -37,6 +37,10 @@ accepted_failed (t ∷ ts) e = go t.0 (accepted_failed ts) e
     go true k e = absurd (differ t.1 e)
     go false k e = (refl, k e)
 
+-- an accepted call is not refused
+pub not_refused : (ts : List Test) (a : Answer) (why : Refusal) → first ts ≡ Ok tt → a ≡ first ts → a ≡ Err why → ⊥
+not_refused ts a why e f g = differ why (sym g ∙ f ∙ e)
+
 -- and where every test failed the call is accepted
 pub failed_accepted : (ts : List Test) → Failed ts → first ts ≡ Ok tt
 unfolding first

@@ -3,7 +3,7 @@ pub use Rattle.guided.specs.Calls.{OpenCall, open_call, SeekCall, seek_call, Row
 -- "After open or seek the place is that row, after a row call it is the row given."
 pub use Rattle.guided.specs.Calls.{after_open, after_seek, after_row}
 -- the promises
-pub use Rattle.guided.specs.Calls.{OpenGiven, SeekGiven, RowGiven}
+pub use Rattle.guided.specs.Calls.{Reply, reply, OpenGiven, SeekGiven, RowGiven}
 -- the layout that a reader's picture was opened with
 pub use Rattle.guided.specs.Calls.{reader_layout}
 -- W14: "One call gives one row of RGB, guided and exact": a reader's row as colour, the reader "moved as by a row call"

@@ -1,7 +1,7 @@
 -- 'Reasons for turning a call down'.
 
 -- "The lowest number that applies is given, and only then"
-pub use Rattle.laws.specs.Refusals.{Test, accepted, first, place_of, Ascending, Applies, Lowest}
+pub use Rattle.laws.specs.Refusals.{Answer, number_of, Test, accepted, first, place_of, Ascending, Applies, Lowest}
 -- the rows of the table, and the lists of the calls
 pub use Rattle.image.specs.Tests.{bad_size, bad_pair, bad_ratio, bad_samples, bad_range, bad_chroma, bad_siting, bad_plane, tests_for, layout_tests}
 -- W6: "look at all samples inside the planes lent and turn the picture down if one exceeds maxval"

@@ -4,11 +4,11 @@
 #![tactic(auto)]
 
 pub use fill::{ChromaUpsampling, fill, refill};
-pub use guided::{Geometry, Reader, Reply};
+pub use guided::{Geometry, Reader};
 pub use guided_plane::guided_plane;
-pub use image::{Layout, Range, Rectangle, Strides};
-pub use kernels::{Pixel, YcbcrKernel, ycbcr_frac_to_rgb8, ycbcr_to_rgb8_fixed16};
-pub use laws::{Answer, Axis, Siting};
+pub use image::{Layout, Plane, Planes, Range, Rectangle};
+pub use kernels::{Rgb, YcbcrKernel, ycbcr_frac_to_rgb8, ycbcr_to_rgb8_fixed16};
+pub use laws::{Axis, Refusal, Siting};
 pub use linear::linear_plane;
 pub use reader::{open, row, seek};
 pub use rgb_rows::{rgb_row, rgb_row_answer};

@@ -1,23 +1,22 @@
 -- One answer from two row calls' answers. Definitions only.
-use Rattle.std.specs.Prelude.{Bool, false, ◌||◌, ℕ, min, eqb}
-use Rattle.laws.specs.Refusals.{Answer}
-use Rattle.std.specs.Prelude.{Ok, Err}
-use Rattle.laws.specs.Refusals.{pick_answer}
+use Rattle.std.specs.Prelude.{Bool, true, false, ◌||◌, eqb, leb, Ok, Err}
+use Rattle.laws.specs.declared.refusal.Refusal.{Refusal}
 use Rattle.laws.specs.declared.refusal.Refusal.TheVariants.{BadState, Unlike}
+use Rattle.laws.specs.Refusals.{Answer, number_of, pick_answer}
 
 -- whether an answer is 1
 abbrev pub is_state : Answer → Bool
-is_state (Ok tt) = false
-is_state (Err n) = eqb n 1
+is_state (Ok _) = false
+is_state (Err why) = eqb (number_of why) 1
 
--- the lower of a number and an answer, and of two answers, acceptance being above every number
-abbrev pub lower_than : ℕ → Answer → Answer
-lower_than n (Ok tt) = Err n
-lower_than n (Err m) = Err (min n m)
+-- the lower of a refusal and an answer, and of two answers, by their numbers, acceptance being above every number
+abbrev pub lower_than : Refusal → Answer → Answer
+lower_than why (Ok _) = Err why
+lower_than why (Err other) = pick_answer (leb (number_of why) (number_of other)) (Err why) (Err other)
 
 abbrev pub lower_of : Answer → Answer → Answer
-lower_of (Ok tt) b = b
-lower_of (Err n) b = lower_than n b
+lower_of (Ok _) b = b
+lower_of (Err why) b = lower_than why b
 
 -- 1 where either is, then 22, then the lower
 unfoldable pub settled : Answer → Answer → Bool → Answer

@@ -1,41 +1,34 @@
 -- Each return is a law of Readings; the bounds of the chart are `chart_shades`.
-use mathlib.Core.Path.{◌≡◌, sym, ◌∙◌}
-use mathlib.Core.Bool.{false}
-use Prim.Native.Nat.{◌*◌, ◌/◌, ◌≤◌, ◌<◌}
-use native.Mathlib.Omega.{arith}
-use lib.ListN.{length}
-use Rattle.colorimetry.specs.Charts.{ChartCall, chart_call, bad_chart}
+use Rattle.std.proofs.Common.{◌≡◌, ◌∙◌, ◌<◌, false, sym, refl, arith}
+use Rattle.std.proofs.lemmas.Result.{err_from_is_err_and}
+use Rattle.colorimetry.specs.Charts.{ChartCall, chart_call}
 use Rattle.colorimetry.proofs.Readings.{chart_shades, chart_refused, chart_nothing, chart_given}
 use Rattle.colorimetry.proofs.shade.chart_reading.Goals as goal
 
 pub returns-then-bad_chart : goal.returns-then-bad_chart
 returns-then-bad_chart c =
-    let call : ChartCall = let a = c.args in chart_call a.chart.now a.rectangle a.w a.h a.rgb.now in
-    chart_refused call _ c.no_reading.ensures (sym c.bad_chart.ensures ∙ c.if-bad_chart.true)
+  let a = c.args in
+  chart_refused (chart_call a.chart.now a.rectangle a.w a.h a.rgb.now) (sym c.bad_chart.ensures ∙ c.if-bad_chart.true)
+
+pub returns-in_err-p : goal.returns-in_err-p
+returns-in_err-p c =
+  let a = c.args in
+  let p = err_from_is_err_and c.from_residual.result c.from_residual.ensures.1 in
+  rw (p.1, p.2) (chart_nothing (chart_call a.chart.now a.rectangle a.w a.h a.rgb.now) _ c.in_err-p.ensures (sym c.bad_chart.ensures ∙ c.if-bad_chart.false) refl)
 
 pub returns-then-p-eq0 : goal.returns-then-p-eq0
 returns-then-p-eq0 c =
-    let call : ChartCall = let a = c.args in chart_call a.chart.now a.rectangle a.w a.h a.rgb.now in
-    let good : bad_chart (length call.chart) ≡ false = sym c.bad_chart.ensures ∙ c.if-bad_chart.false in
-    chart_nothing call _ c.patch_mean-p.result c.patch_mean-p.ensures good c.if-p-eq0.true c.no_reading-then-p-eq0.ensures
+  let a = c.args in
+  chart_nothing (chart_call a.chart.now a.rectangle a.w a.h a.rgb.now) _ c.in_ok-p.ensures (sym c.bad_chart.ensures ∙ c.if-bad_chart.false) c.if-p-eq0.true
 
 pub nearest_shade-shade-requires : goal.nearest_shade-shade-requires
-nearest_shade-shade-requires c =
-    let call : ChartCall = let a = c.args in chart_call a.chart.now a.rectangle a.w a.h a.rgb.now in
-    let good : bad_chart (length call.chart) ≡ false = sym c.bad_chart.ensures ∙ c.if-bad_chart.false in
-    let shades : (let len = length call.chart in (2 ≤ len / 3) × (len / 3 ≤ 24) × (3 * (len / 3) ≤ len)) = chart_shades (length call.chart) good in
-    let s = shades in (omega (arith, s.0), s.1, s.2)
+nearest_shade-shade-requires c = let s = chart_shades _ (sym c.bad_chart.ensures ∙ c.if-bad_chart.false) in (omega (arith, s.0), s.1, s.2)
 
 pub nearest_mix-mix-requires : goal.nearest_mix-mix-requires
-nearest_mix-mix-requires c =
-    let call : ChartCall = let a = c.args in chart_call a.chart.now a.rectangle a.w a.h a.rgb.now in
-    let good : bad_chart (length call.chart) ≡ false = sym c.bad_chart.ensures ∙ c.if-bad_chart.false in
-    let shades : (let len = length call.chart in (2 ≤ len / 3) × (len / 3 ≤ 24) × (3 * (len / 3) ≤ len)) = chart_shades (length call.chart) good in
-    let s = shades in s
+nearest_mix-mix-requires c = chart_shades _ (sym c.bad_chart.ensures ∙ c.if-bad_chart.false)
 
 pub returns : goal.returns
 returns c =
-    let call : ChartCall = let a = c.args in chart_call a.chart.now a.rectangle a.w a.h a.rgb.now in
-    let good : bad_chart (length call.chart) ≡ false = sym c.bad_chart.ensures ∙ c.if-bad_chart.false in
-    let z : 0 < c.patch_mean-p.result.pixels = omega (arith, c.if-p-eq0.false) in
-    chart_given call c.patch_mean-p.result _ _ _ _ c.patch_mean-p.ensures good z c.nearest_shade-shade.ensures c.nearest_mix-mix.ensures
+  let a = c.args in
+  let z : 0 < c.in_ok-p.p.pixels = omega (arith, c.if-p-eq0.false) in
+  chart_given (chart_call a.chart.now a.rectangle a.w a.h a.rgb.now) _ _ _ _ _ c.in_ok-p.ensures (sym c.bad_chart.ensures ∙ c.if-bad_chart.false) z c.nearest_shade-shade.ensures c.nearest_mix-mix.ensures
