@@ -1,7 +1,7 @@
 -- What an input that is read has: a layout that passes refusals 2 to 5, and three planes whose rows lie inside the input (`Taken`).
 -- None of the reading's tests applied, so each image lies inside (`image_inside`) and each ratio fits (`ratio_fits`). The step that is
 -- in no test is that Cr's rows end inside by Cb's sides: both chroma images fit the same ratio (`same_sides`) and have the same maxval.
-use mathlib.Core.Path.{◌≡◌, refl, sym, ◌∙◌}
+use mathlib.Core.Path.{ap, ◌≡◌, refl, sym, ◌∙◌}
 use mathlib.Core.Bool.{Bool, true, false, ◌&&◌, ◌||◌, not, cond}
 use mathlib.Core.List.{List, ◌++◌}
 use Prim.Native.Nat.{ℕ, ◌+◌, ◌*◌, ◌≤◌}
@@ -18,14 +18,16 @@ use Rattle.laws.proofs.Refusals.{Failed, accepted_failed, failed_accepted, faile
 use Rattle.image.specs.declared.layout.Layout.{Layout}
 use Rattle.image.specs.Tests.{div_ceil, bad_size, bad_ratio, most_of, bad_samples, bad_range, bad_chroma, bad_siting, layout_tests, tests_for}
 use Rattle.image.proofs.Layouts.{neither}
-use Rattle.netpbm.specs.declared.reading.Reading.TheVariants.{Read}
 use Rattle.netpbm.specs.Bytes.{big_of}
 use Rattle.netpbm.specs.Images.{width_of, height_of, maxval_of, rows_at, sample_bytes, row_bytes, image_end, image_sample, image_tests}
 use Rattle.netpbm.specs.Reading.{cb_at, cr_at, input_layout, no_ratio, images_tests, whole_tests, reading_tests}
-use Rattle.netpbm.specs.Inner.Reading.{pick_reading, reading_of}
+use Rattle.netpbm.specs.Inner.Reading.{read_as, pick_reading, reading_of}
 use Rattle.netpbm.specs.Inner.Taken.{Taken}
 use Rattle.netpbm.proofs.Fields.{ImageInside, image_inside, rows_behind}
 use Rattle.netpbm.proofs.Ratios.{Fits, ratio_fits}
+use Rattle.std.specs.Prelude.{Result}
+use Rattle.laws.specs.declared.refusal.Refusal.{Refusal}
+use Rattle.netpbm.specs.declared.reading.Reading.{Reading}
 
 module _ (s : List ℕ) (a : first (reading_tests s) ≡ Ok tt) where
   short_is : length s ≤ 49152
@@ -145,16 +147,20 @@ pub record ReadAccepted (s : List ℕ) (l : Layout) (y cb cr : ℕ) : Type 0 whe
   pub cb_is : cb ≡ rows_at s (cb_at s)
   pub cr_is : cr ≡ rows_at s (cr_at s)
 
-pub read_accepted : (s : List ℕ) (l : Layout) (y cb cr : ℕ) → reading_of s ≡ Read l y cb cr → ReadAccepted s l y cb cr
+pub read_accepted : (s : List ℕ) (l : Layout) (y cb cr : ℕ) → reading_of s ≡ read_as l y cb cr → ReadAccepted s l y cb cr
 unfolding reading_of
 read_accepted s l y cb cr e = go (first (reading_tests s)) refl e
   where
-    go : (a : Answer) → first (reading_tests s) ≡ a → pick_reading a (Read (input_layout s) (rows_at s 0) (rows_at s (cb_at s)) (rows_at s (cr_at s))) ≡ Read l y cb cr → ReadAccepted s l y cb cr
-    go (Ok tt) k e = record { passed = k; layout_is = cc; y_is = cc; cb_is = cc; cr_is = cc }
-    go (Turned n) k e = let z : ◌≡◌ {A = ℕ} 0 1 = cc in absurd (omega arith)
+    given : Result Reading Refusal → Reading
+    given (Ok r) = r
+    given (Err why) = record { layout = l; y = y; cb = cb; cr = cr }
+
+    go : (a : Answer) → first (reading_tests s) ≡ a → pick_reading a (read_as (input_layout s) (rows_at s 0) (rows_at s (cb_at s)) (rows_at s (cr_at s))) ≡ read_as l y cb cr → ReadAccepted s l y cb cr
+    go (Ok tt) k e = record { passed = k; layout_is = ap (λ r. (given r).layout) (sym e); y_is = ap (λ r. (given r).y) (sym e); cb_is = ap (λ r. (given r).cb) (sym e); cr_is = ap (λ r. (given r).cr) (sym e) }
+    go (Err n) k e = let z : ◌≡◌ {A = ℕ} 0 1 = cc in absurd (omega arith)
 
 -- it has all that `Taken` says
-pub taken : (s : List ℕ) (l : Layout) (y cb cr : ℕ) → reading_of s ≡ Read l y cb cr → Taken s l y cb cr
+pub taken : (s : List ℕ) (l : Layout) (y cb cr : ℕ) → reading_of s ≡ read_as l y cb cr → Taken s l y cb cr
 taken s l y cb cr e = let r = read_accepted s l y cb cr e in rw (r.layout_is, r.y_is, r.cb_is, r.cr_is) (accepted_taken s r.passed)
 
 -- the samples of the three images by the layout's own numbers and by where their rows begin: one maxval and the layout's sides serve all three

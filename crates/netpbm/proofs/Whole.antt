@@ -11,20 +11,20 @@ use lib.Dec.{ltb, eqb}
 use lib.ListN.{length}
 use borrow.Author.Tests.{le-ltb, lt-ltb, eqb-false}
 use Rattle.laws.specs.Refusals.{Answer}
-use Rattle.std.specs.Prelude.{Ok, Err}
+use Rattle.std.specs.Prelude.{Result, Ok, Err}
 use Rattle.laws.specs.Refusals.{Test, first, accepted}
-use Rattle.laws.specs.Inner.Refusals.{folded}
-use Rattle.laws.proofs.Refusals.{accepted_is, accepted_failed, failed_accepted, failed_both, refused_early, passed_early, refused_here, passed_over, first_further, folded_same}
+use Rattle.laws.specs.Inner.Refusals.{further}
+use Rattle.laws.proofs.Refusals.{accepted_is, accepted_failed, failed_accepted, failed_both, refused_early, passed_early, refused_here, passed_over, first_further, further_same}
 use Rattle.image.specs.declared.layout.Layout.{Layout}
 use Rattle.laws.specs.Numbers.{outside_of}
 use Rattle.image.specs.Tests.{bad_size}
 use Rattle.image.proofs.Layouts.{neither, within}
 use Rattle.netpbm.specs.declared.pgm.Image.{Image}
 use Rattle.netpbm.specs.declared.reading.Reading.{Reading}
-use Rattle.netpbm.specs.declared.reading.Reading.TheVariants.{Read, Refused}
+use Rattle.laws.specs.declared.refusal.Refusal.{Refusal}
 use Rattle.netpbm.specs.Images.{width_of, height_of, maxval_of, rows_at, image_end, image_tests}
 use Rattle.netpbm.specs.Reading.{cb_at, cr_at, ratio_for, input_layout, no_ratio, images_tests, whole_tests, reading_tests}
-use Rattle.netpbm.specs.Inner.Reading.{pick_reading, reading_of}
+use Rattle.netpbm.specs.Inner.Reading.{read_as, pick_reading, reading_of}
 use Rattle.netpbm.specs.Inner.HeldInput.{layout_held, answer_held}
 use Rattle.netpbm.specs.Inner.Held.{held, image_held, image_behind, pick_image}
 use Rattle.netpbm.proofs.Runs.{differ}
@@ -208,9 +208,9 @@ module _ {s : List ℕ} {y cb cr : Image} (p : Places s y cb cr) where
 
 -- ---- the whole
 
-pick_same : (a : Answer) (r q : Reading) → (a ≡ Ok tt → r ≡ q) → pick_reading a r ≡ pick_reading a q
+pick_same : (a : Answer) (r q : Result Reading Refusal) → (a ≡ Ok tt → r ≡ q) → pick_reading a r ≡ pick_reading a q
 pick_same (Ok tt) r q f = f refl
-pick_same (Turned n) r q f = refl
+pick_same (Err n) r q f = refl
 
 rows_is : (s : List ℕ) (at : ℕ) → (image_held s at).rows ≡ rows_at s at
 unfolding image_held
@@ -227,7 +227,7 @@ module _ {s : List ℕ} {y cb cr : Image} (l : length s ≤ 49152) (t : Three s 
   images_first = t.third.answers
 
   -- what is answered from what is held is the reading
-  read_is : (a : Answer) → a ≡ answer_held cr.answer (ltb cr.end (length s)) (layout_held y cb cr) → pick_reading a (Read (layout_held y cb cr) y.rows cb.rows cr.rows) ≡ reading_of s
+  read_is : (a : Answer) → a ≡ answer_held cr.answer (ltb cr.end (length s)) (layout_held y cb cr) → pick_reading a (read_as (layout_held y cb cr) y.rows cb.rows cr.rows) ≡ reading_of s
   unfolding answer_held reading_of
   read_is a e = rw answered (pick_same (first (reading_tests s)) _ _ (λ h.
       let f = failed_both (images_tests s) (whole_tests s) (accepted_failed (images_tests s ++ whole_tests s) (sym later ∙ h)) in
@@ -240,14 +240,14 @@ module _ {s : List ℕ} {y cb cr : Image} (l : length s ≤ 49152) (t : Three s 
       -- where the images are accepted, the tests behind them give the same over what is held
       answered : a ≡ first (reading_tests s)
       answered =
-          e ∙ folded_same cr.answer _ (whole_tests s) (λ k. sizes_first (places l t k))
-          ∙ sym (later ∙ first_further (images_tests s) (whole_tests s) ∙ ap (λ (b : Answer). folded b (whole_tests s)) (sym images_first))
+          e ∙ further_same cr.answer _ (whole_tests s) (λ k. sizes_first (places l t k))
+          ∙ sym (later ∙ first_further (images_tests s) (whole_tests s) ∙ ap (λ (b : Answer). further b (whole_tests s)) (sym images_first))
 
-  pub reading_is : (a : Answer) (k : Layout) → k ≡ layout_held y cb cr → a ≡ answer_held cr.answer (ltb cr.end (length s)) k → pick_reading a (Read k y.rows cb.rows cr.rows) ≡ reading_of s
+  pub reading_is : (a : Answer) (k : Layout) → k ≡ layout_held y cb cr → a ≡ answer_held cr.answer (ltb cr.end (length s)) k → pick_reading a (read_as k y.rows cb.rows cr.rows) ≡ reading_of s
   reading_is a k f e =
-      ap (λ (m : Layout). pick_reading a (Read m y.rows cb.rows cr.rows)) f ∙ read_is a (e ∙ ap (answer_held cr.answer (ltb cr.end (length s))) f)
+      ap (λ (m : Layout). pick_reading a (read_as m y.rows cb.rows cr.rows)) f ∙ read_is a (e ∙ ap (answer_held cr.answer (ltb cr.end (length s))) f)
 
 -- an input that is too long is read no further
 pub read_long : (s : List ℕ) → 49152 < length s → Err TooLarge ≡ reading_of s
 unfolding reading_of reading_tests
-read_long s l = ap (λ (a : Answer). pick_reading a (Read (input_layout s) (rows_at s 0) (rows_at s (cb_at s)) (rows_at s (cr_at s)))) (sym (refused_here _ _ _ (lt-ltb 49152 (length s) l)))
+read_long s l = ap (λ (a : Answer). pick_reading a (read_as (input_layout s) (rows_at s 0) (rows_at s (cb_at s)) (rows_at s (cr_at s)))) (sym (refused_here _ _ _ (lt-ltb 49152 (length s) l)))

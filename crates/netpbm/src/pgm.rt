@@ -5,7 +5,7 @@ ghost use Rattle.netpbm.specs.Images.{maxval_of, sample_bytes};
 ghost use Rattle.netpbm.specs.Inner.Held.{held, field_held, header_held, rows_held, other_maxval, held_tests, image_held, image_behind};
 
 use crate::scan::{blank_at, digit_at, magic_at, number_at, skip_spaces, space_at};
-use laws::{Answer, then};
+use laws::Refusal;
 
 // A number of a header: whether whitespace and digits stand where it should, the digits' value, and where they end. It is no Option, since a
 // header is read to its end before any of its numbers is tested, from where the one before it ends.
@@ -27,7 +27,7 @@ pub struct Header {
 // An image: the answer to it, its sides, its maxval, and where its rows begin and end. Where it was turned down, its numbers mean nothing.
 #[derive(Clone, Copy)]
 pub struct Image {
-    pub answer: Answer,
+    pub answer: Result<(), Refusal>,
     pub w: usize,
     pub h: usize,
     pub maxval: usize,
@@ -112,22 +112,30 @@ fn rows_missing(len: usize, rows: usize, due: usize) -> bool
 }
 
 // The first thing that is wrong with the image whose magic stands at `at` and whose header holds these numbers, where this maxval is wanted.
-fn image_answer(input: &[u8], at: usize, header: Header, wanted: usize) -> Answer
+#[tactic(auto, unfolding(crate::specs::Inner::Held::held_tests))]
+fn image_answer(
+    input: &[u8],
+    at: usize,
+    header: Header,
+    wanted: usize,
+) -> Result<(), Refusal>
     requires { (header.width.value ≤ 65536) × (header.height.value ≤ 65536) × (header.maxval.end ≤ 49154) }
     ensures { result ≡ first (held_tests input.now at header wanted) }
 {
     let width = header.width;
     let height = header.height;
     let maxval = header.maxval;
-    let answer = then(Answer::Accepted, !magic_at(input, at), 14);
-    let answer = then(answer, !width.good, 14);
-    let answer = then(answer, Image::WIDTH < width.value, 15);
-    let answer = then(answer, !height.good, 14);
-    let answer = then(answer, !maxval.good, 14);
-    let answer = then(answer, other_maxval(wanted, maxval.value), 14);
-    let answer = then(answer, !blank_at(input, maxval.end), 14);
     let missing = rows_missing(input.len(), maxval.end + 1, row_bytes(header));
-    then(answer, missing, 15)
+    laws::first([
+        (!magic_at(input, at), Refusal::BadHeader),
+        (!width.good, Refusal::BadHeader),
+        (Image::WIDTH < width.value, Refusal::TooLarge),
+        (!height.good, Refusal::BadHeader),
+        (!maxval.good, Refusal::BadHeader),
+        (other_maxval(wanted, maxval.value), Refusal::BadHeader),
+        (!blank_at(input, maxval.end), Refusal::BadHeader),
+        (missing, Refusal::TooLarge),
+    ])
 }
 
 // The image whose magic stands at `at` and whose header this is, with the answer to it. The maxval that is wanted is the first image's.
@@ -163,13 +171,13 @@ pub fn first_image(input: &[u8]) -> Image
 
 // Inner: the image that begins where another ends, held to that one's maxval. Where that other one was turned down it is given again, so that
 // the answer to the last of three images is the first refusal of all three.
+#[tactic(auto, unfolding(crate::specs::Inner::Held::image_behind))]
 pub fn image_after(input: &[u8], before: Image) -> Image
     requires input_len_bound { length input.now ≤ 49152 }
     requires end_in_bounds { accepted before.answer ≡ true → (before.end ≤ length input.now) × (before.maxval ≡ held (maxval_of input.now 0)) }
     ensures { result ≡ image_behind input.now before }
 {
-    let answer = before.answer;
-    if laws::refused(answer) {
+    if before.answer.is_err() {
         return before;
     }
     let at = before.end;

@@ -1,18 +1,20 @@
 // The whole input: three images one after another, nothing behind the last, and sides that make a picture.
 ghost use Rattle.std.specs.Prelude.{◌≡◌};
-ghost use Rattle.netpbm.specs.Inner.Reading.{pick_reading, reading_of};
+ghost use Rattle.netpbm.specs.Inner.Reading.{reading_of};
 ghost use Rattle.netpbm.specs.Inner.HeldInput.{answer_held};
 
 use crate::pgm::{first_image, image_after};
 use crate::sizes::{layout_of, no_ratio};
 use image::Layout;
-use laws::{Answer, then};
+use laws::Refusal;
 
-// What was read: the layout, and where in the input the rows of Y, Cb and Cr begin; or the number of the refusal.
-#[derive(Clone, Copy)]
-pub enum Reading {
-    Read(Layout, usize, usize, usize),
-    Refused(u8),
+// What was read: the layout, and where in the input the rows of Y, Cb and Cr begin.
+#[derive(Clone, Copy, PartialEq, Eq, Debug)]
+pub struct Reading {
+    pub layout: Layout,
+    pub y: usize,
+    pub cb: usize,
+    pub cr: usize,
 }
 
 impl Reading {
@@ -21,36 +23,38 @@ impl Reading {
 }
 
 // The answer to the whole input: the three images' own, then 14 for bytes left over, 2 for the Y image's sides and 5 for the ratios.
-fn whole_answer(images: Answer, left: bool, layout: Layout) -> Answer
+#[tactic(auto, unfolding(crate::specs::Inner::HeldInput::answer_held))]
+fn whole_answer(
+    images: Result<(), Refusal>,
+    left: bool,
+    layout: Layout,
+) -> Result<(), Refusal>
     ensures { result ≡ answer_held images left layout }
 {
-    let answer = then(images, left, 14);
-    let answer = then(answer, layout.bad_size(), 2);
-    then(answer, no_ratio(layout), 5)
-}
-
-// What was read where the answer is that it is accepted, and the refusal's number otherwise.
-fn settled(answer: Answer, layout: Layout, y: usize, cb: usize, cr: usize) -> Reading
-    ensures { result ≡ pick_reading answer (Reading.Read layout y cb cr) }
-{
-    match answer {
-        Answer::Accepted => Reading::Read(layout, y, cb, cr),
-        Answer::Refused(n) => Reading::Refused(n),
-    }
+    images?;
+    laws::first([
+        (left, Refusal::BadHeader),
+        (layout.bad_size(), Refusal::BadSize),
+        (no_ratio(layout), Refusal::BadChroma),
+    ])
 }
 
 // Inner: what the input holds. Every input is answered, and the first reason to turn one down, in document 01's order, is the one given.
-pub fn read(input: &[u8]) -> Reading
+pub fn read(input: &[u8]) -> Result<Reading, Refusal>
     ensures { result ≡ reading_of input.now }
 {
     if Reading::LONGEST < input.len() {
-        return Reading::Refused(15);
+        return Err(Refusal::TooLarge);
     }
     let y = first_image(input);
     let cb = image_after(input, y);
     let cr = image_after(input, cb);
     let layout = layout_of(y, cb, cr);
-    let images = cr.answer;
-    let answer = whole_answer(images, cr.end < input.len(), layout);
-    settled(answer, layout, y.rows, cb.rows, cr.rows)
+    whole_answer(cr.answer, cr.end < input.len(), layout)?;
+    Ok(Reading {
+        layout,
+        y: y.rows,
+        cb: cb.rows,
+        cr: cr.rows,
+    })
 }

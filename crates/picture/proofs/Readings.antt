@@ -31,38 +31,29 @@ use Rattle.kernels.specs.declared.kernel.YcbcrKernel.TheVariants.{Exact}
 use Rattle.fill.specs.declared.options.ChromaUpsampling.TheVariants.{LumaGuided}
 use Rattle.fill.specs.Tests.{fill_tests}
 use Rattle.fill.specs.Fill.{FillGiven, fill_colour, fill_scratch, pixel_rows}
-use Rattle.netpbm.specs.declared.reading.Reading.TheVariants.{Read, Refused}
 use Rattle.netpbm.specs.Images.{rows_at}
 use Rattle.netpbm.specs.Reading.{cb_at, cr_at, input_layout, reading_tests}
-use Rattle.netpbm.specs.Inner.Reading.{pick_reading, reading_of}
+use Rattle.netpbm.specs.Inner.Reading.{read_as, pick_reading, reading_of}
 use Rattle.netpbm.specs.Inner.Taken.{Taken}
 use Rattle.netpbm.proofs.Acceptance.{ReadAccepted}
-use Rattle.picture.specs.declared.Outcome.TheVariants.{Written, Refused as Down}
-use Rattle.picture.specs.declared.Outcome.{Outcome}
-use Rattle.picture.specs.Picture.{input_picture, ppm_length, scratch_after, lent_tests, picture_tests, pick_outcome, PictureGiven}
-use Rattle.picture.specs.Inner.Planes.{strides_of, planes_from, picture_from, PpmGiven}
+use Rattle.laws.specs.declared.refusal.Refusal.{Refusal}
+use Rattle.picture.specs.Picture.{Outcome, input_picture, ppm_length, scratch_after, lent_tests, picture_tests, pick_outcome, PictureGiven}
+use Rattle.picture.specs.Inner.Planes.{planes_from, picture_from, PpmGiven}
 use Rattle.image.specs.Samples.{plane_of}
 use Rattle.laws.specs.declared.refusal.Refusal.TheVariants.{BadPlane, BadPixelSize, ShortScratch, ShortOutput, NotCentred, AboveMaxval}
 
 -- a number that the reading gives is that of the first of its tests that applies
-pub turned : (s : List ℕ) (n : ℕ) → reading_of s ≡ Err n → first (reading_tests s) ≡ Turned n
+pub turned : (s : List ℕ) (why : Refusal) → reading_of s ≡ Err why → first (reading_tests s) ≡ Err why
 unfolding reading_of
-turned s n e = go (first (reading_tests s)) e
+turned s why e = go (first (reading_tests s)) e
   where
-    go : (a : Answer) → pick_reading a (Read (input_layout s) (rows_at s 0) (rows_at s (cb_at s)) (rows_at s (cr_at s))) ≡ Err n → a ≡ Turned n
+    go : (a : Answer) → pick_reading a (read_as (input_layout s) (rows_at s 0) (rows_at s (cb_at s)) (rows_at s (cr_at s))) ≡ Err why → a ≡ Err why
     go (Ok tt) e = let z : ◌≡◌ {A = ℕ} 0 1 = cc in absurd (omega arith)
-    go (Turned k) e = let z : k ≡ n = cc in ap Turned z
+    go (Err other) e = let z : other ≡ why = cc in ap Err z
 
 -- a part of a list from `at` on that is long enough goes to the list's end
 pub to_end : (s : List ℕ) (at : ℕ) → take (length s - at) (drop at s) ≡ drop at s
 to_end s at = take_all (length s - at) (drop at s) (let n = length-drop at s in omega arith)
-
--- the planes as a call is lent them, each the part of a list from its place to the end
-abbrev pub parts : List ℕ → ℕ → ℕ → ℕ → Strides → Planes
-parts s y cb cr strides = planes_of (take (length s - y) (drop y s)) (take (length s - cb) (drop cb s)) (take (length s - cr) (drop cr s)) strides
-
-pub parts_are : (s : List ℕ) (l : Layout) (y cb cr : ℕ) (strides : Strides) → strides ≡ strides_of l → parts s y cb cr strides ≡ planes_from s l y cb cr
-parts_are s l y cb cr strides e = rw (e, to_end s y, to_end s cb, to_end s cr) refl
 
 -- a list that is longer holds the same planes
 pub taken_longer : {s : List ℕ} {l : Layout} {y cb cr : ℕ} → Taken s l y cb cr → (t : List ℕ) → length s ≤ length t → length t ≤ 49152 → Taken t l y cb cr
@@ -129,17 +120,16 @@ module _ {s : List ℕ} {l : Layout} {y cb cr : ℕ} (t : Taken s l y cb cr) whe
       passed_early (layout_tests false l) _ (ap accepted t.passes)
       ∙ failed_accepted ((bad_siting l, NotCentred) ∷ (bad_planes l (planes_from s l y cb cr), BadPlane) ∷ (above_any l (planes_from s l y cb cr), AboveMaxval) ∷ (false, BadPixelSize) ∷ (ltb (length scratch) (scratch_need l), ShortScratch) ∷ (ltb (length out) (l.w * l.h * 3), ShortOutput) ∷ []) (t.centred, (planes_hold, (planes_exceed l (planes_from s l y cb cr) ∙ b, (refl, (le-ltb _ _ g, (le-ltb _ _ h, tt))))))
 
--- what fill leaves, lent those parts
+-- what fill leaves, lent those planes: it accepts
 module _ (s : List ℕ) (l : Layout) (y cb cr : ℕ) (t : Taken s l y cb cr) (b : exceeds (picture_from s l y cb cr) ≡ false) (scratch : List Float) (out : List ℕ) (g : scratch_need l ≤ length scratch) (h : l.w * l.h * 3 ≤ length out) (a : Answer) (scratch' : List Float) (out' : List ℕ) where
-  abbrev Filled : Planes → Type 0
-  Filled ps = FillGiven (record { layout = l; planes = ps; upsampling = LumaGuided; kernel = Exact; size = 3; scratch = scratch; out = out }) a scratch' out'
-
-  pub filled : (strides : Strides) → strides ≡ strides_of l → Filled (parts s y cb cr strides) → (out' ≡ pixel_rows l.w 3 (fill_colour LumaGuided Exact (picture_from s l y cb cr)) 0 l.h out) × (scratch' ≡ scratch_after (picture_from s l y cb cr) scratch)
+  pub filled : (ps : Planes) → ps ≡ planes_from s l y cb cr → FillGiven (record { layout = l; planes = ps; upsampling = LumaGuided; kernel = Exact; size = 3; scratch = scratch; out = out }) a scratch' out'
+      → (a ≡ Ok tt) × (out' ≡ pixel_rows l.w 3 (fill_colour LumaGuided Exact (picture_from s l y cb cr)) 0 l.h out) × (scratch' ≡ scratch_after (picture_from s l y cb cr) scratch)
   unfolding scratch_after fill_scratch picture_of
-  filled strides e f =
-      let q = subst Filled (parts_are s l y cb cr strides e) f in
-      let c : accepted a ≡ true = ap accepted (q.answers ∙ fill_takes t b scratch out g h) in
-      (q.gives ∙ rw c refl, q.scratches ∙ rw c refl)
+  filled ps e f =
+      let q = subst (λ (z : Planes). FillGiven (record { layout = l; planes = z; upsampling = LumaGuided; kernel = Exact; size = 3; scratch = scratch; out = out }) a scratch' out') e f in
+      let o = q.answers ∙ fill_takes t b scratch out g h in
+      let c : accepted a ≡ true = ap accepted o in
+      (o, q.gives ∙ rw c refl, q.scratches ∙ rw c refl)
 
 -- ---- the outcome
 
@@ -151,16 +141,16 @@ module _ (p : Picture) (l : Layout) (q : p.layout ≡ l) (scratch : List Float) 
   abbrev Answered : Outcome → Type 0
   Answered o = o ≡ pick_outcome (first (lent_tests p scratch out)) (ppm_length p.layout)
 
-  pub sample_above : exceeds p ≡ true → Answered (Down 17)
+  pub sample_above : exceeds p ≡ true → Answered (Err AboveMaxval)
   sample_above b = ap (λ (a : Answer). pick_outcome a (ppm_length p.layout)) (sym (later ∙ refused_here _ _ _ b))
 
-  pub scratch_short : exceeds p ≡ false → length scratch < scratch_need l → Answered (Down 9)
+  pub scratch_short : exceeds p ≡ false → length scratch < scratch_need l → Answered (Err ShortScratch)
   scratch_short b g = ap (λ (a : Answer). pick_outcome a (ppm_length p.layout)) (sym (later ∙ passed_over _ _ _ b ∙ refused_here _ _ _ (lt-ltb _ _ g)))
 
-  pub out_short : exceeds p ≡ false → scratch_need l ≤ length scratch → length out < ppm_length l → Answered (Down 10)
+  pub out_short : exceeds p ≡ false → scratch_need l ≤ length scratch → length out < ppm_length l → Answered (Err ShortOutput)
   out_short b g h = ap (λ (a : Answer). pick_outcome a (ppm_length p.layout)) (sym (later ∙ passed_over _ _ _ b ∙ passed_over _ _ _ (le-ltb _ _ g) ∙ refused_here _ _ _ (lt-ltb _ _ h)))
 
-  pub both_long : exceeds p ≡ false → scratch_need l ≤ length scratch → ppm_length l ≤ length out → Answered (Written (ppm_length l))
+  pub both_long : exceeds p ≡ false → scratch_need l ≤ length scratch → ppm_length l ≤ length out → Answered (Ok (ppm_length l))
   both_long b g h = rw (later ∙ failed_accepted ((exceeds p, AboveMaxval) ∷ (ltb (length scratch) (scratch_need l), ShortScratch) ∷ (ltb (length out) (ppm_length l), ShortOutput) ∷ []) (b, (le-ltb _ _ g, (le-ltb _ _ h, tt))), q) refl
 
 -- what is promised of the picture that an input holds is what `picture` promises of the input
@@ -171,7 +161,7 @@ input_given {s} t {p} e {scratch} {out} {o} {scratch'} {out'} g =
     record { answers = r.answers ∙ ap (λ (a : Answer). pick_outcome a (ppm_length (input_layout s))) (sym (passed_early (reading_tests s) (lent_tests (input_picture s) scratch out) (ap accepted t.passed))); gives = r.gives; scratches = r.scratches }
 
 -- where the reading gives a number, that is the outcome's
-pub read_refused : (s : List ℕ) (scratch : List Float) (out : List ℕ) (n : ℕ) → reading_of s ≡ Err n → Down n ≡ pick_outcome (first (picture_tests s scratch out)) (ppm_length (input_layout s))
+pub read_refused : (s : List ℕ) (scratch : List Float) (out : List ℕ) (why : Refusal) → reading_of s ≡ Err why → Err why ≡ pick_outcome (first (picture_tests s scratch out)) (ppm_length (input_layout s))
 unfolding picture_tests
 read_refused s scratch out n e =
     let k = turned s n e in

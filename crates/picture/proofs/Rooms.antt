@@ -22,7 +22,6 @@ use Rattle.netpbm.specs.Reading.{cb_at, cr_at, input_layout, reading_tests}
 use Rattle.netpbm.specs.Inner.Reading.{reading_of}
 use Rattle.netpbm.specs.Inner.Taken.{Taken}
 use Rattle.netpbm.proofs.Acceptance.{taken}
-use Rattle.picture.specs.declared.Outcome.TheVariants.{Written}
 use Rattle.picture.specs.Picture.{input_picture, ppm_length, lent_tests, picture_tests, pick_outcome, PictureGiven}
 use Rattle.netpbm.proofs.Digits.{header_most}
 use Rattle.picture.proofs.Readings.{layout_sound, pixels_most}
@@ -56,20 +55,20 @@ room_enough input scratch out g h = go (first (reading_tests input)) refl
         passed_early (reading_tests input) _ (ap accepted k)
         ∙ rw (le-ltb (length scratch) (scratch_need (input_layout input)) (omega (arith, scratch_most input k)), le-ltb (length out) (ppm_length (input_layout input)) (omega (arith, out_most input k))) refl
         ∙ sym (passed_early (reading_tests input) _ (ap accepted k))
-    go (Turned n) k = refused_early (reading_tests input) _ (ap accepted k) ∙ sym (refused_early (reading_tests input) _ (ap accepted k))
+    go (Err n) k = refused_early (reading_tests input) _ (ap accepted k) ∙ sym (refused_early (reading_tests input) _ (ap accepted k))
 
 -- a picture that was written fits out
-pub written_fits : {input : List ℕ} {scratch : List Float} {out : List ℕ} {n : ℕ} {scratch' : List Float} {out' : List ℕ} → PictureGiven input scratch out (Written n) scratch' out' → n ≤ length out
+pub written_fits : {input : List ℕ} {scratch : List Float} {out : List ℕ} {n : ℕ} {scratch' : List Float} {out' : List ℕ} → PictureGiven input scratch out (Ok n) scratch' out' → n ≤ length out
 unfolding picture_tests lent_tests input_picture
 written_fits {input} {scratch} {out} {n} g = go (first (picture_tests input scratch out)) refl g.answers
   where
-    go : (a : Answer) → first (picture_tests input scratch out) ≡ a → Written n ≡ pick_outcome a (ppm_length (input_layout input)) → n ≤ length out
+    go : (a : Answer) → first (picture_tests input scratch out) ≡ a → Ok n ≡ pick_outcome a (ppm_length (input_layout input)) → n ≤ length out
     go (Ok tt) k e =
         let m : n ≡ ppm_length (input_layout input) = cc in
         let f = failed_both (reading_tests input) _ (accepted_failed (picture_tests input scratch out) k) in
         let b = ltb-false (length out) (ppm_length (input_layout input)) f.1.1.1.0 in
         omega arith
-    go (Turned j) k e = let z : ◌≡◌ {A = ℕ} 0 1 = cc in absurd (omega arith)
+    go (Err j) k e = let z : ◌≡◌ {A = ℕ} 0 1 = cc in absurd (omega arith)
 
 -- the line of a refusal ends inside its bytes
 pub refusal_fits : (n : ℕ) (line : Line) → line ≡ line_of (refusal_line n) → line.len ≤ length line.bytes

@@ -17,8 +17,8 @@ use Rattle.guided_rows.specs.CatchingUp.{guided_rows}
 use Rattle.netpbm.specs.Images.{image_sample}
 use Rattle.netpbm.specs.Lines.{ppm_header}
 use Rattle.netpbm.specs.Reading.{cb_at, cr_at, input_layout, reading_tests}
-use Rattle.picture.specs.declared.Outcome.{Outcome}
-use Rattle.picture.specs.declared.Outcome.TheVariants.{Written, Refused}
+use Rattle.std.specs.Prelude.{Result, Ok, Err}
+use Rattle.laws.specs.declared.refusal.Refusal.{Refusal}
 use Rattle.laws.specs.declared.refusal.Refusal.TheVariants.{ShortScratch, ShortOutput, AboveMaxval}
 
 -- ---- the picture that the input holds
@@ -67,15 +67,19 @@ lent_tests p scratch out =
 unfoldable pub picture_tests : List ℕ → List Float → List ℕ → List Test
 picture_tests input scratch out = reading_tests input ++ lent_tests (input_picture input) scratch out
 
--- how many bytes were written where the answer is accepted, and otherwise the answer's number
+-- how many bytes were written, or why none was
+abbrev pub Outcome : Type 0
+Outcome = Result ℕ Refusal
+
+-- how many bytes were written where the answer is accepted, and otherwise the answer's reason
 abbrev pub pick_outcome : Answer → ℕ → Outcome
-pick_outcome (Ok tt) n = Written n
-pick_outcome (Turned k) n = Err k
+pick_outcome (Ok _) n = Ok n
+pick_outcome (Err why) n = Err why
 
 -- the outcome is that a picture was written
 abbrev pub is_written : Outcome → Bool
-is_written (Written n) = true
-is_written (Err k) = false
+is_written (Ok n) = true
+is_written (Err why) = false
 
 -- what `picture` promises: of its outcome, and of out and scratch after it; on refusal "every slice is unchanged"
 pub record PictureGiven (input : List ℕ) (scratch : List Float) (out : List ℕ) (outcome : Outcome) (scratch' : List Float) (out' : List ℕ) : Type 0 where

@@ -7,7 +7,7 @@
 
 ghost use Rattle.std.specs.Prelude.{◌≡◌};
 ghost use Rattle.image.specs.Limits.{exceeds};
-ghost use Rattle.netpbm.specs.Inner.Reading.{reading_of};
+ghost use Rattle.netpbm.specs.Inner.Reading.{read_as, reading_of};
 ghost use Rattle.netpbm.specs.Inner.Taken.{Taken};
 ghost use Rattle.picture.specs.Picture.{PictureGiven};
 ghost use Rattle.picture.specs.Inner.Planes.{picture_from, PpmGiven};
@@ -15,26 +15,18 @@ ghost use Rattle.picture.specs.Inner.Planes.{picture_from, PpmGiven};
 mod ppm;
 mod turned;
 
-use crate::ppm::{put_ppm, strides_of};
+use crate::ppm::{planes_from, put_ppm};
 use crate::turned::{empty, turn_planes};
 use image::Layout;
-use netpbm::Reading;
+use laws::Refusal;
 pub use netpbm::{Line, refusal_line};
-
-// How many bytes were written to the front of `out`, or the number of the refusal, on which none was.
-#[derive(Clone, Copy)]
-pub enum Outcome {
-    Written(usize),
-    Refused(u8),
-}
 
 // Refusal 17's test: whether a sample of the planes exceeds maxval.
 fn planes_above(planes: &[u8], layout: Layout, y: usize, cb: usize, cr: usize) -> bool
     requires { Taken planes.now layout y cb cr }
     ensures { result ≡ exceeds (picture_from planes.now layout y cb cr) }
 {
-    let strides = strides_of(layout);
-    image::above_planes(layout, &planes[y..], &planes[cb..], &planes[cr..], strides)
+    image::above_planes(layout, planes_from(planes, layout, y, cb, cr))
 }
 
 // Writes the picture whose planes these are to the front of `out`, where no sample exceeds maxval, and scratch and `out` are long enough.
@@ -47,25 +39,25 @@ fn written(
     cr: usize,
     s: &mut [f32],
     out: &mut [u8],
-) -> Outcome
+) -> Result<usize, Refusal>
     requires { Taken planes.now layout y cb cr }
     ensures { PpmGiven
         (picture_from planes.now layout y cb cr) s.old out.old
         result s.new out.new }
 {
     if planes_above(planes, layout, y, cb, cr) {
-        return Outcome::Refused(17);
+        return Err(Refusal::AboveMaxval);
     }
     if image::short_scratch(layout, s.len()) {
-        return Outcome::Refused(9);
+        return Err(Refusal::ShortScratch);
     }
     let header = netpbm::ppm_header(layout.w, layout.h);
     let len = header.len + layout.w * layout.h * 3;
     if out.len() < len {
-        return Outcome::Refused(10);
+        return Err(Refusal::ShortOutput);
     }
-    put_ppm(planes, layout, y, cb, cr, header, s, out);
-    Outcome::Written(len)
+    put_ppm(planes, layout, y, cb, cr, header, s, out)?;
+    Ok(len)
 }
 
 // Writes the picture that was read. Samples of one byte are read where they lie in the input, and wider ones from a copy that has their bytes
@@ -78,8 +70,8 @@ fn convert(
     cr: usize,
     s: &mut [f32],
     out: &mut [u8],
-) -> Outcome
-    requires { reading_of input.now ≡ Reading.Read layout y cb cr }
+) -> Result<usize, Refusal>
+    requires { reading_of input.now ≡ read_as layout y cb cr }
     ensures { PictureGiven
         input.now s.old out.old
         result s.new out.new }
@@ -94,13 +86,11 @@ fn convert(
 
 // Writes the picture that the input holds as a PPM to the front of `out`. It is answered by 14, 15, 2 and 5 as document 01 has the program
 // meet them, then by 17, 9 and 10; on refusal nothing is changed. What stands in scratch afterwards is what `fill` leaves there.
-pub fn picture(input: &[u8], s: &mut [f32], out: &mut [u8]) -> Outcome
+pub fn picture(input: &[u8], s: &mut [f32], out: &mut [u8]) -> Result<usize, Refusal>
     ensures { PictureGiven
         input.now s.old out.old
         result s.new out.new }
 {
-    match netpbm::read(input) {
-        Reading::Refused(n) => Outcome::Refused(n),
-        Reading::Read(layout, y, cb, cr) => convert(input, layout, y, cb, cr, s, out),
-    }
+    let r = netpbm::read(input)?;
+    convert(input, r.layout, r.y, r.cb, r.cr, s, out)
 }

@@ -1,5 +1,5 @@
 // A PPM written to the front of `out`: its header, then the pixels, three bytes each.
-ghost use Rattle.std.specs.Prelude.{◌≡◌, false, ◌*◌, ◌≤◌, length, get_or};
+ghost use Rattle.std.specs.Prelude.{Ok, ◌≡◌, false, ◌*◌, ◌≤◌, length, get_or};
 ghost use Rattle.laws.specs.Lists.{put};
 ghost use Rattle.image.specs.Limits.{exceeds};
 ghost use Rattle.image.specs.Scratch.{scratch_need};
@@ -8,11 +8,13 @@ ghost use Rattle.netpbm.specs.Inner.Taken.{Taken};
 ghost use Rattle.netpbm.specs.Lines.{ppm_header};
 ghost use Rattle.netpbm.specs.Texts.{line_of};
 ghost use Rattle.picture.specs.Picture.{ppm_length, ppm_over, scratch_after};
-ghost use Rattle.picture.specs.Inner.Planes.{strides_of, picture_from};
+ghost use Rattle.picture.specs.Inner.Planes.{planes_from, picture_from};
+ghost use Rattle.image.specs.Picture.{planes_seen};
 
 use fill::ChromaUpsampling;
-use image::{Layout, Strides};
+use image::{Layout, Plane, Planes};
 use kernels::YcbcrKernel;
+use laws::Refusal;
 use netpbm::Line;
 
 // Copies the bytes of a line to the front of `out`.
@@ -23,15 +25,30 @@ fn put_line(line: Line, out: &mut [u8])
     out[..line.len].copy_from_slice(&line.bytes[..line.len]);
 }
 
-// How far apart the rows of planes begin that stand one right behind the other.
-pub(crate) fn strides_of(layout: Layout) -> Strides
-    requires { (layout.w * layout.sample_bytes ≤ 256) × (layout.cw * layout.sample_bytes ≤ 256) }
-    ensures { result ≡ strides_of layout }
+// The three planes of a picture that was read, each from where its rows begin to the end of the bytes, one row right behind another.
+pub(crate) fn planes_from<'a>(
+    bytes: &'a [u8],
+    layout: Layout,
+    y: usize,
+    cb: usize,
+    cr: usize,
+) -> Planes<'a>
+    requires { Taken bytes.now layout y cb cr }
+    ensures { planes_seen result ≡ planes_from bytes.now layout y cb cr }
 {
-    Strides {
-        y: layout.w * layout.sample_bytes,
-        cb: layout.cw * layout.sample_bytes,
-        cr: layout.cw * layout.sample_bytes,
+    Planes {
+        y: Plane {
+            bytes: &bytes[y..],
+            stride: layout.w * layout.sample_bytes,
+        },
+        cb: Plane {
+            bytes: &bytes[cb..],
+            stride: layout.cw * layout.sample_bytes,
+        },
+        cr: Plane {
+            bytes: &bytes[cr..],
+            stride: layout.cw * layout.sample_bytes,
+        },
     }
 }
 
@@ -46,10 +63,11 @@ fn put_pixels(
     cr: usize,
     s: &mut [f32],
     out: &mut [u8],
-)
+) -> Result<(), Refusal>
     requires taken { Taken planes.now layout y cb cr }
     requires cr_value { exceeds (picture_from planes.now layout y cb cr) ≡ false }
     requires layout_in_bounds { (scratch_need layout ≤ length s.old) × (layout.w * layout.h * 3 ≤ length out.old) }
+    ensures accepts { result ≡ Ok tt }
     ensures out_after { out.new ≡ pixel_rows
         layout.w 3
         (fill_colour ChromaUpsampling.LumaGuided YcbcrKernel.Exact (picture_from planes.now layout y cb cr))
@@ -58,19 +76,15 @@ fn put_pixels(
         (picture_from planes.now layout y cb cr)
         s.old }
 {
-    let strides = strides_of(layout);
     fill::fill(
         layout,
-        &planes[y..],
-        &planes[cb..],
-        &planes[cr..],
-        strides,
+        planes_from(planes, layout, y, cb, cr),
         ChromaUpsampling::LumaGuided,
         YcbcrKernel::Exact,
         3,
         s,
         out,
-    );
+    )
 }
 
 // Writes the header, and behind it the pixels of the picture whose planes these are.
@@ -83,11 +97,12 @@ pub(crate) fn put_ppm(
     header: Line,
     s: &mut [f32],
     out: &mut [u8],
-)
+) -> Result<(), Refusal>
     requires taken { Taken planes.now layout y cb cr }
     requires cr_value { exceeds (picture_from planes.now layout y cb cr) ≡ false }
     requires header_value { header ≡ line_of (ppm_header layout.w layout.h) }
     requires layout_in_bounds { (scratch_need layout ≤ length s.old) × (ppm_length layout ≤ length out.old) }
+    ensures accepts { result ≡ Ok tt }
     ensures out_after { out.new ≡ ppm_over (picture_from planes.now layout y cb cr) out.old }
     ensures s_after { s.new ≡ scratch_after
         (picture_from planes.now layout y cb cr)
@@ -95,5 +110,5 @@ pub(crate) fn put_ppm(
 {
     let at = header.len;
     put_line(header, out);
-    put_pixels(planes, layout, y, cb, cr, s, &mut out[at..]);
+    put_pixels(planes, layout, y, cb, cr, s, &mut out[at..])
 }

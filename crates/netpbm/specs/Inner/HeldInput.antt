@@ -2,7 +2,7 @@
 use Rattle.std.specs.Prelude.{Bool, [], ◌∷◌}
 use Rattle.laws.specs.Refusals.{Answer}
 use Rattle.laws.specs.Axes.{plain}
-use Rattle.laws.specs.Inner.Refusals.{folded}
+use Rattle.laws.specs.Inner.Refusals.{further}
 use Rattle.image.specs.declared.layout.Layout.{Layout}
 use Rattle.image.specs.declared.layout.Range.TheVariants.{Full}
 use Rattle.image.specs.Tests.{bad_size}
@@ -29,4 +29,4 @@ layout_held y cb cr = record {
 
 -- the answer to the whole input: the images' own, then the tests for bytes left over, for the sides and for the ratios
 unfoldable pub answer_held : Answer → Bool → Layout → Answer
-answer_held a left l = folded a ((left, BadHeader) ∷ (bad_size l, BadSize) ∷ (no_ratio l, BadChroma) ∷ [])
+answer_held a left l = further a ((left, BadHeader) ∷ (bad_size l, BadSize) ∷ (no_ratio l, BadChroma) ∷ [])

@@ -1,16 +1,11 @@
-use mathlib.Core.Path.{refl, sym, ◌∙◌}
+-- Where the reading is refused the picture is, for the same reason.
+use Rattle.std.proofs.Common.{◌∙◌, refl, sym}
+use Rattle.std.proofs.lemmas.Result.{err_from_is_err_and}
 use Rattle.picture.proofs.Readings.{read_refused}
 use Rattle.picture.proofs.picture.Goals as goal
 
-pub convert-requires : goal.convert-requires
-convert-requires c =
-    sym c.read.ensures ∙ c.in-Read.is
-
-pub returns-in-Err : goal.returns-in-Err
-returns-in-Err c =
-    let a = c.args in
-    record { answers = read_refused a.input.now a.s.now a.out.now _ (sym c.read.ensures ∙ c.in-Err.is); gives = refl; scratches = refl }
-
-pub returns-in-Read : goal.returns-in-Read
-returns-in-Read c =
-    c.convert.ensures
+pub returns-in_err-r : goal.returns-in_err-r
+returns-in_err-r c =
+  let a = c.args in
+  let p = err_from_is_err_and c.from_residual.result c.from_residual.ensures.1 in
+  rw (p.1, p.2) (record { answers = read_refused a.input.now a.s.now a.out.now _ (sym c.read.ensures ∙ c.in_err-r.was); gives = refl; scratches = refl })

@@ -12,7 +12,7 @@ use Rattle.image.specs.Limits.{exceeds}
 use Rattle.image.specs.Scratch.{scratch_need}
 use Rattle.netpbm.specs.Lines.{ppm_header}
 use Rattle.netpbm.proofs.Digits.{header_most}
-use Rattle.picture.specs.declared.Outcome.TheVariants.{Written}
+use Rattle.std.specs.Prelude.{Ok}
 use Rattle.picture.specs.Inner.Planes.{picture_from}
 use Rattle.picture.proofs.Fronts.{line_length, ppm_length_is, picture_layout}
 use Rattle.picture.proofs.Readings.{layout_sound, pixels_most, sample_above, scratch_short, both_long, out_short}
@@ -85,7 +85,7 @@ returns c =
     let n = ppm_length_is a.layout _ c.ppm_header-header.ensures in
     let w = c.put_ppm.ensures in
     record {
-      answers = ap Written n ∙ both_long made a.layout same a.s.now a.out.now within long (rw (sym n) c.if-out-len.false);
+      answers = ap Ok n ∙ both_long made a.layout same a.s.now a.out.now within long (rw (sym n) c.if-out-len.false);
       gives = w.out_after;
       scratches = w.s_after;
     }

@@ -2,15 +2,9 @@
 use Rattle.std.specs.Prelude.{◌≡◌, cond, List, ℕ, ◌+◌, ◌-◌, ◌*◌, ◌≤◌, ◌<◌, length, get_or, drop, Float}
 use Rattle.laws.specs.Refusals.{first}
 use Rattle.image.specs.declared.layout.Layout.{Layout}
-use Rattle.image.specs.declared.strides.Strides.{Strides}
 use Rattle.image.specs.Picture.{Picture, picture_of}
 use Rattle.image.specs.Picture.{Planes}
-use Rattle.picture.specs.declared.Outcome.{Outcome}
-use Rattle.picture.specs.Picture.{lent_tests, pick_outcome, is_written, ppm_length, ppm_over, scratch_after}
-
--- how far apart rows begin that stand one right behind the other
-abbrev pub strides_of : Layout → Strides
-strides_of l = record { y = l.w * l.sample_bytes; cb = l.cw * l.sample_bytes; cr = l.cw * l.sample_bytes }
+use Rattle.picture.specs.Picture.{Outcome, lent_tests, pick_outcome, is_written, ppm_length, ppm_over, scratch_after}
 
 -- the three planes from their places on, one row right behind the other
 abbrev pub planes_from : List ℕ → Layout → ℕ → ℕ → ℕ → Planes

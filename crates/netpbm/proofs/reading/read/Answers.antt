@@ -1,4 +1,4 @@
-use mathlib.Core.Path.{◌∙◌}
+use Rattle.std.proofs.lemmas.Result.{err_from_is_err_and}
 use Rattle.netpbm.proofs.Whole.{held_fits, first_most, second_of, three_of, reading_is, read_long}
 use Rattle.netpbm.proofs.reading.read.Goals as goal
 
@@ -25,7 +25,15 @@ pub layout_of-layout-requires : goal.layout_of-layout-requires
 layout_of-layout-requires c =
     first_most _ _ c.first_image-y.ensures
 
+pub returns-in_err-whole_answer : goal.returns-in_err-whole_answer
+returns-in_err-whole_answer c =
+    let l = c.if-input-gt-LONGEST.false in
+    let p = err_from_is_err_and c.from_residual.result c.from_residual.ensures.1 in
+    let z = reading_is l (three_of _ _ _ _ l c.first_image-y.ensures c.image_after-cb.ensures c.image_after-cr.ensures) _ _ c.layout_of-layout.ensures c.whole_answer.ensures in
+    rw (p.1, p.2) (rw c.in_err-whole_answer.was at z)
+
 pub returns : goal.returns
 returns c =
     let l = c.if-input-gt-LONGEST.false in
-    c.settled.ensures ∙ reading_is l (three_of _ _ _ _ l c.first_image-y.ensures c.image_after-cb.ensures c.image_after-cr.ensures) _ _ c.layout_of-layout.ensures c.whole_answer-answer.ensures
+    let z = reading_is l (three_of _ _ _ _ l c.first_image-y.ensures c.image_after-cb.ensures c.image_after-cr.ensures) _ _ c.layout_of-layout.ensures c.whole_answer.ensures in
+    rw c.in_ok-whole_answer.was at z

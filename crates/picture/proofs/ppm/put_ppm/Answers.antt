@@ -75,4 +75,4 @@ returns c =
     let a = c.args in
     let r = room in
     let w = c.put_pixels.ensures in
-    record { out_after = ppm_is _ a.layout (picture_layout a.planes.now a.layout a.y a.cb a.cr) a.header c.requires.header_value a.out.now (omega arith) _ _ c.put_line.ensures w.out_after; s_after = w.s_after }
+    record { accepts = w.accepts; out_after = ppm_is _ a.layout (picture_layout a.planes.now a.layout a.y a.cb a.cr) a.header c.requires.header_value a.out.now (omega arith) _ _ c.put_line.ensures w.out_after; s_after = w.s_after }
