@@ -8,7 +8,7 @@ use Rattle.laws.specs.Refusals.{Answer}
 use Rattle.guided.specs.Calls.{Reply}
 use Rattle.ffi.specs.declared.types.ChromaReader.{ChromaReader}
 use Rattle.ffi.specs.declared.types.ChromaReply.{ChromaReply}
-use Rattle.colorimetry.specs.declared.blend.BlendReply.{BlendReply}
+use Rattle.colorimetry.specs.Blends.{BlendReply}
 use Rattle.ffi.specs.declared.blends.ChromaBlendReply.{ChromaBlendReply}
 use Rattle.ffi.specs.Calls.{Answered, Numbered, Replied, Checked}
 use Rattle.ffi.specs.Blends.{BlendReplied, BlendChecked}

@@ -1,15 +1,15 @@
 -- What C gets of a blend. Definitions only.
 use Rattle.std.specs.Prelude.{◌≡◌, Bool, true, false, cond}
 use Rattle.laws.specs.Refusals.{accepted}
-use Rattle.colorimetry.specs.declared.blend.BlendReply.{BlendReply}
+use Rattle.colorimetry.specs.Blends.{BlendReply}
 use Rattle.ffi.specs.declared.types.ChromaReader.{ChromaReader}
 use Rattle.ffi.specs.declared.blends.ChromaBlendReply.{ChromaBlendReply}
-use Rattle.ffi.specs.Types.{number_of, chroma_reader}
+use Rattle.ffi.specs.Types.{answer_number, chroma_reader}
 
 -- a reply in C's form: the number of its answer, and both states; a refused call hands back what it was handed
 unfoldable pub blend_reply_to : ChromaReader → ChromaReader → BlendReply → ChromaBlendReply
 blend_reply_to early late p = record {
-  refusal = number_of p.answer;
+  refusal = answer_number p.answer;
   early = cond (accepted p.answer) (chroma_reader p.early) early;
   late = cond (accepted p.answer) (chroma_reader p.late) late;
 }

@@ -1,21 +1,20 @@
 -- What the calls for C promise: the Rattle calls' own records, of the values that C's stand for. Definitions only.
 use Rattle.std.specs.Prelude.{◌≡◌, Bool, true, false, ◌||◌, ℕ, eqb, ltb}
-use Rattle.laws.specs.Refusals.{Answer}
+use Rattle.std.specs.Prelude.{Ok, Err}
+use Rattle.laws.specs.Refusals.{Answer, number_of}
 use Rattle.guided.specs.Calls.{Reply}
-use Rattle.kernels.specs.declared.pixel.Pixel.{Pixel}
-use Rattle.kernels.specs.declared.pixel.Pixel.TheVariants as P
+use Rattle.kernels.specs.Pixels.{Pixel}
 use Rattle.kernels.specs.declared.kernel.YcbcrKernel.{YcbcrKernel}
 use Rattle.kernels.specs.declared.kernel.YcbcrKernel.TheVariants.{Exact, FixedPoint16}
 use Rattle.fill.specs.declared.options.ChromaUpsampling.{ChromaUpsampling}
 use Rattle.fill.specs.declared.options.ChromaUpsampling.TheVariants.{Linear, LumaGuided}
-use Rattle.picture.specs.declared.Outcome.{Outcome}
-use Rattle.picture.specs.declared.Outcome.TheVariants.{Written, Refused}
+use Rattle.picture.specs.Picture.{Outcome}
 use Rattle.ffi.specs.declared.types.ChromaLayout.{ChromaLayout}
 use Rattle.ffi.specs.declared.types.ChromaReader.{ChromaReader}
 use Rattle.ffi.specs.declared.types.ChromaReply.{ChromaReply}
 use Rattle.ffi.specs.declared.types.ChromaPixel.{ChromaPixel}
 use Rattle.ffi.specs.declared.types.ChromaWritten.{ChromaWritten}
-use Rattle.ffi.specs.Types.{number_of, strange_layout}
+use Rattle.ffi.specs.Types.{answer_number, strange_layout}
 use Rattle.ffi.specs.Replies.{reply_to}
 
 -- ---- numbers for answers
@@ -24,7 +23,7 @@ use Rattle.ffi.specs.Replies.{reply_to}
 pub record Answered (Given : Answer → Type 0) (r : ℕ) : Type 0 where
   pub answer : Answer
   pub given : Given answer
-  pub number : r ≡ number_of answer
+  pub number : r ≡ answer_number answer
 
 -- the number of a call that is handed a layout or a switch: 255, before all else and with nothing changed (`Kept`), where one of C's numbers stands for none (`strange`); else that of the Rattle call's answer
 pub record Numbered (strangely : Bool) (Kept : Type 0) (Given : Answer → Type 0) (r : ℕ) : Type 0 where
@@ -69,22 +68,26 @@ no_such_way l upsampling kernel = (ltb 1 upsampling || ltb 1 kernel) || strange_
 
 -- ---- pixels and the picture
 
+-- a number and no colour
+abbrev pub no_colour : ℕ → ChromaPixel
+no_colour n = record { refusal = n; r = 0; g = 0; b = 0 }
+
 -- the paper's number and no colour, or 0 and the colour
 abbrev pub chroma_pixel : Pixel → ChromaPixel
-chroma_pixel (P.Rgb r g b) = record { refusal = 0; r = r; g = g; b = b }
-chroma_pixel (P.Refused n) = record { refusal = n; r = 0; g = 0; b = 0 }
+chroma_pixel (Ok p) = record { refusal = 0; r = p.r; g = p.g; b = p.b }
+chroma_pixel (Err why) = no_colour (number_of why)
 
-abbrev pub pick_pixel : Bool → Pixel → Pixel → Pixel
+abbrev pub pick_pixel : Bool → ChromaPixel → ChromaPixel → ChromaPixel
 pick_pixel true a b = a
 pick_pixel false a b = b
 
 -- the same of a pixel in a range; 255, before all else, where the range is neither 0 nor 1
 unfoldable pub chroma_pixel_in : ℕ → Pixel → ChromaPixel
-chroma_pixel_in range p = chroma_pixel (pick_pixel (ltb 1 range) (P.Refused 255) p)
+chroma_pixel_in range p = pick_pixel (ltb 1 range) (no_colour 255) (chroma_pixel p)
 
 abbrev pub chroma_written : Outcome → ChromaWritten
-chroma_written (Written n) = record { refusal = 0; len = n }
-chroma_written (Err k) = record { refusal = k; len = 0 }
+chroma_written (Ok n) = record { refusal = 0; len = n }
+chroma_written (Err why) = record { refusal = number_of why; len = 0 }
 
 -- what `chroma_picture` promises
 pub record Pictured (Given : Outcome → Type 0) (r : ChromaWritten) : Type 0 where

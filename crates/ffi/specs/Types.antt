@@ -1,7 +1,7 @@
 -- What C's structs and numbers stand for. Definitions only.
 use Rattle.std.specs.Prelude.{Bool, true, false, ◌||◌, cond, [], ◌∷◌, ℕ, eqb, ltb, get_or}
 use Rattle.std.specs.Float.{nan}
-use Rattle.laws.specs.Refusals.{Answer}
+use Rattle.laws.specs.Refusals.{Answer, number_of}
 use Rattle.std.specs.Prelude.{Ok, Err}
 use Rattle.laws.specs.declared.axes.Siting.{Siting}
 use Rattle.laws.specs.declared.axes.Siting.TheVariants.{Centred, CoSited}
@@ -23,9 +23,9 @@ abbrev pub version : ℕ
 version = 0x00_0a00
 
 -- 0 for accepted, else the papers' number
-abbrev pub number_of : Answer → ℕ
-number_of (Ok tt) = 0
-number_of (Err n) = n
+abbrev pub answer_number : Answer → ℕ
+answer_number (Ok _) = 0
+answer_number (Err why) = number_of why
 
 -- ---- layouts
 

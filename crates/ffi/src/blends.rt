@@ -2,14 +2,15 @@
 ghost use Rattle.std.specs.Prelude.{◌≡◌, ◌||◌};
 ghost use Rattle.image.specs.Picture.{planes_of};
 ghost use Rattle.rgb_rows.specs.RgbRows.{side_of};
-ghost use Rattle.colorimetry.specs.Blends.{blend_call, BlendGiven};
+ghost use Rattle.colorimetry.specs.Blends.{blend_call, blend_reply, BlendGiven};
 ghost use Rattle.ffi.specs.Types.{as_strides, as_reader, strange_reader};
 ghost use Rattle.ffi.specs.Blends.{blend_reply_to, BlendChecked};
 
 use crate::types::{
-    ChromaReader, ChromaStrides, from_reader, number_of, strange_reader, to_reader, to_strides,
+    ChromaReader, ChromaStrides, from_reader, number_of, strange_reader, to_planes, to_reader,
 };
-use colorimetry::BlendReply;
+use guided::Reader;
+use laws::Refusal;
 
 // What `chroma_blend_row` answers, with both states after it.
 #[repr(C)]
@@ -21,22 +22,25 @@ pub struct ChromaBlendReply {
 }
 
 // A reply in C's form; `early` and `late` come back, bit for bit, where the call was refused.
-fn blend_reply_to(early: ChromaReader, late: ChromaReader, reply: BlendReply) -> ChromaBlendReply
-    ensures { result ≡ blend_reply_to early late reply }
+#[tactic(auto, unfolding(crate::specs::Blends::blend_reply_to))]
+fn blend_reply_to(
+    early: ChromaReader,
+    late: ChromaReader,
+    answer: Result<(), Refusal>,
+    first: Reader,
+    second: Reader,
+) -> ChromaBlendReply
+    ensures { result ≡ blend_reply_to early late (blend_reply answer first second) }
 {
-    let answer = reply.answer;
-    let refusal = number_of(answer);
-    if laws::refused(answer) {
+    if answer.is_err() {
         return ChromaBlendReply {
-            refusal,
+            refusal: number_of(answer),
             early,
             late,
         };
     }
-    let first = reply.early;
-    let second = reply.late;
     ChromaBlendReply {
-        refusal,
+        refusal: 0,
         early: from_reader(first),
         late: from_reader(second),
     }
@@ -72,29 +76,25 @@ pub fn chroma_blend_row(
         p early_s.new late_s.new out.new)
         result }
 {
-    if laws::either(strange_reader(early), strange_reader(late)) {
+    if strange_reader(early) || strange_reader(late) {
         return ChromaBlendReply {
             refusal: 1,
             early,
             late,
         };
     }
-    let reply = colorimetry::blend_row(
-        to_reader(early),
-        early_y,
-        early_cb,
-        early_cr,
-        to_strides(early_strides),
+    let mut first = to_reader(early);
+    let mut second = to_reader(late);
+    let answer = colorimetry::blend_row(
+        &mut first,
+        to_planes(early_y, early_cb, early_cr, early_strides),
         early_s,
-        to_reader(late),
-        late_y,
-        late_cb,
-        late_cr,
-        to_strides(late_strides),
+        &mut second,
+        to_planes(late_y, late_cb, late_cr, late_strides),
         late_s,
         row,
         weight,
         out,
     );
-    blend_reply_to(early, late, reply)
+    blend_reply_to(early, late, answer, first, second)
 }

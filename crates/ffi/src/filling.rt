@@ -6,12 +6,12 @@ ghost use Rattle.ffi.specs.Types.{as_strides, as_layout};
 ghost use Rattle.ffi.specs.Calls.{Numbered, no_such_way, as_upsampling, as_kernel};
 ghost use Rattle.image.specs.Picture.{planes_of};
 
-use crate::types::{ChromaLayout, ChromaStrides, number_of, strange_layout, to_layout, to_strides};
+use crate::types::{ChromaLayout, ChromaStrides, number_of, strange_layout, to_layout, to_planes};
 use fill::ChromaUpsampling;
 use kernels::YcbcrKernel;
-use laws::either;
 
 // The chroma that C's switch stands for: 1 is guided. Another number than 0 and 1 was answered before.
+#[tactic(auto, unfolding(crate::specs::Calls::as_upsampling))]
 fn to_upsampling(n: u32) -> ChromaUpsampling
     ensures { result ≡ as_upsampling n }
 {
@@ -22,6 +22,7 @@ fn to_upsampling(n: u32) -> ChromaUpsampling
 }
 
 // Inner: the kernel that C's switch stands for: 1 is fixed. Another number than 0 and 1 was answered before.
+#[tactic(auto, unfolding(crate::specs::Calls::as_kernel))]
 pub fn to_kernel(n: u32) -> YcbcrKernel
     ensures { result ≡ as_kernel n }
 {
@@ -32,10 +33,11 @@ pub fn to_kernel(n: u32) -> YcbcrKernel
 }
 
 // Inner: whether C's switches, or the layout's sitings or range, stand for no way to fill.
+#[tactic(auto, unfolding(crate::specs::Calls::no_such_way))]
 pub fn no_such_way(layout: ChromaLayout, upsampling: u32, kernel: u32) -> bool
     ensures { result ≡ no_such_way layout upsampling kernel }
 {
-    either(either(1 < upsampling, 1 < kernel), strange_layout(layout))
+    1 < upsampling || 1 < kernel || strange_layout(layout)
 }
 
 // `fill`: chroma linear (0) or guided (1), kernel exact (0) or fixed (1); 255 for any other switch, siting or range, before all else.
@@ -64,10 +66,7 @@ pub fn chroma_fill(
     }
     number_of(fill::fill(
         to_layout(layout),
-        y,
-        cb,
-        cr,
-        to_strides(strides),
+        to_planes(y, cb, cr, strides),
         to_upsampling(upsampling),
         to_kernel(kernel),
         size,

@@ -1,11 +1,11 @@
 // The mean colour of a rectangle, for C.
 ghost use Rattle.std.specs.Prelude.{◌≡◌};
-ghost use Rattle.colorimetry.specs.Patches.{patch_call, PatchGiven};
+ghost use Rattle.colorimetry.specs.Patches.{patch_call, patch_reply, PatchGiven};
 ghost use Rattle.ffi.specs.Patches.{as_rectangle, chroma_patch, ReadPatch};
 
-use crate::types::number_of;
 use colorimetry::{Patch, Patched};
 use image::Rectangle;
+use laws::Refusal;
 
 // A rectangle, as `Rectangle` has it.
 #[repr(C)]
@@ -29,6 +29,7 @@ pub struct ChromaPatch {
 }
 
 // Inner: the rectangle that C's stands for.
+#[tactic(auto, unfolding(crate::specs::Patches::as_rectangle))]
 pub fn to_rectangle(r: ChromaRectangle) -> Rectangle
     ensures { result ≡ as_rectangle r }
 {
@@ -41,28 +42,31 @@ pub fn to_rectangle(r: ChromaRectangle) -> Rectangle
 }
 
 // A patch in C's form.
-fn from_patched(p: Patched) -> ChromaPatch
-    ensures { result ≡ chroma_patch p }
+#[tactic(auto, unfolding(crate::specs::Patches::chroma_patch))]
+fn from_patched(p: Result<Patched, Refusal>) -> ChromaPatch
+    ensures { result ≡ chroma_patch (patch_reply p) }
 {
-    let answer = p.answer;
-    let patch = p.patch;
-    let refusal = number_of(answer);
-    let pixels = p.pixels;
-    let whole = p.whole;
-    match patch {
-        Patch::Mean(r, g, b) => ChromaPatch {
-            refusal,
-            given: 1,
-            pixels,
-            mean: [r, g, b],
-            whole,
-        },
-        Patch::Nothing => ChromaPatch {
-            refusal,
+    match p {
+        Ok(p) => {
+            let (given, mean) = match p.patch {
+                Patch::Mean(r, g, b) => (1, [r, g, b]),
+                Patch::Nothing => (0, [0.0; 3]),
+            };
+            let whole = p.whole;
+            ChromaPatch {
+                refusal: 0,
+                given,
+                pixels: p.pixels,
+                mean,
+                whole,
+            }
+        }
+        Err(why) => ChromaPatch {
+            refusal: u32::from(why.number()),
             given: 0,
-            pixels,
+            pixels: 0,
             mean: [0.0; 3],
-            whole,
+            whole: [0; 3],
         },
     }
 }

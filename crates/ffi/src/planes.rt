@@ -8,6 +8,7 @@ ghost use Rattle.ffi.specs.Calls.{Numbered};
 ghost use Rattle.image.specs.Samples.{plane_of};
 
 use crate::types::{ChromaLayout, number_of, strange_layout, to_layout};
+use image::Plane;
 
 // `linear_plane`: one chroma plane by linear interpolation.
 pub fn chroma_linear_plane(
@@ -27,7 +28,11 @@ pub fn chroma_linear_plane(
     if strange_layout(layout) {
         return 255;
     }
-    number_of(linear::linear_plane(to_layout(layout), plane, stride, s, out))
+    let plane = Plane {
+        bytes: plane,
+        stride,
+    };
+    number_of(linear::linear_plane(to_layout(layout), plane, s, out))
 }
 
 // `guided_plane`: one chroma plane guided by luma.
@@ -51,7 +56,15 @@ pub fn chroma_guided_plane(
     if strange_layout(layout) {
         return 255;
     }
-    number_of(guided_plane::guided_plane(to_layout(layout), y, y_stride, plane, stride, s, out))
+    let luma = Plane {
+        bytes: y,
+        stride: y_stride,
+    };
+    let plane = Plane {
+        bytes: plane,
+        stride,
+    };
+    number_of(guided_plane::guided_plane(to_layout(layout), luma, plane, s, out))
 }
 
 // `triangular_plane`: one chroma plane by the triangular filter on whole numbers.
@@ -70,5 +83,9 @@ pub fn chroma_triangular_plane(
     if strange_layout(layout) {
         return 255;
     }
-    number_of(upsample::triangular_plane(to_layout(layout), plane, stride, out))
+    let plane = Plane {
+        bytes: plane,
+        stride,
+    };
+    number_of(upsample::triangular_plane(to_layout(layout), plane, out))
 }

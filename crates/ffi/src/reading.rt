@@ -9,7 +9,7 @@ ghost use Rattle.image.specs.Picture.{planes_of};
 use crate::replies::reply_to;
 use crate::types::{
     ChromaLayout, ChromaReader, ChromaReply, ChromaStrides, strange_layout, strange_reader,
-    to_layout, to_reader, to_strides,
+    to_layout, to_planes, to_reader,
 };
 
 // `open`: a picture's reader at row 0. The state that it is handed may hold anything. A siting or range that stands for none is 255, before all else.
@@ -34,16 +34,14 @@ pub fn chroma_open(
             reader,
         };
     }
-    let reply = reader::open(
+    let mut state = to_reader(reader);
+    let answer = reader::open(
         to_layout(layout),
-        y,
-        cb,
-        cr,
-        to_strides(strides),
+        to_planes(y, cb, cr, strides),
         s,
-        to_reader(reader),
+        &mut state,
     );
-    reply_to(reader, reply)
+    reply_to(reader, answer, state)
 }
 
 // `seek`: the reader at row y.
@@ -53,8 +51,9 @@ pub fn chroma_seek(reader: ChromaReader, y: usize) -> ChromaReply
     if strange_reader(reader) {
         return ChromaReply { refusal: 1, reader };
     }
-    let reply = reader::seek(to_reader(reader), y);
-    reply_to(reader, reply)
+    let mut state = to_reader(reader);
+    let answer = reader::seek(&mut state, y);
+    reply_to(reader, answer, state)
 }
 
 // `row`: one row of Cb and of Cr.
@@ -82,18 +81,16 @@ pub fn chroma_row(
     if strange_reader(reader) {
         return ChromaReply { refusal: 1, reader };
     }
-    let reply = reader::row(
-        to_reader(reader),
-        y,
-        cb,
-        cr,
-        to_strides(strides),
+    let mut state = to_reader(reader);
+    let answer = reader::row(
+        &mut state,
+        to_planes(y, cb, cr, strides),
         row,
         s,
         out_cb,
         out_cr,
     );
-    reply_to(reader, reply)
+    reply_to(reader, answer, state)
 }
 
 // `rgb_row`: one row as RGB, guided and exact.
@@ -119,15 +116,7 @@ pub fn chroma_rgb_row(
     if strange_reader(reader) {
         return ChromaReply { refusal: 1, reader };
     }
-    let reply = rgb_rows::rgb_row(
-        to_reader(reader),
-        y,
-        cb,
-        cr,
-        to_strides(strides),
-        row,
-        s,
-        out,
-    );
-    reply_to(reader, reply)
+    let mut state = to_reader(reader);
+    let answer = rgb_rows::rgb_row(&mut state, to_planes(y, cb, cr, strides), row, s, out);
+    reply_to(reader, answer, state)
 }

@@ -8,7 +8,7 @@ ghost use Rattle.ffi.specs.Calls.{Numbered, no_such_way, as_kernel};
 
 use crate::filling::{no_such_way, to_kernel};
 use crate::patches::{ChromaRectangle, to_rectangle};
-use crate::types::{ChromaLayout, ChromaStrides, number_of, to_layout, to_strides};
+use crate::types::{ChromaLayout, ChromaStrides, number_of, to_layout, to_planes};
 
 // `refill`: kernel exact (0) or fixed (1); 255 for any other switch or siting, before all else. Fourteen parameters: those of `refill`.
 pub fn chroma_refill(
@@ -42,14 +42,8 @@ pub fn chroma_refill(
     }
     number_of(fill::refill(
         to_layout(layout),
-        old_y,
-        old_cb,
-        old_cr,
-        to_strides(old_strides),
-        y,
-        cb,
-        cr,
-        to_strides(strides),
+        to_planes(old_y, old_cb, old_cr, old_strides),
+        to_planes(y, cb, cr, strides),
         to_rectangle(cells),
         to_kernel(kernel),
         size,

@@ -1,11 +1,12 @@
 // What crosses the boundary to C, and its translation: structs with C's layout, whose numbers stand for the Rattle calls' bools and
 // enums.
 ghost use Rattle.std.specs.Prelude.{◌≡◌};
-ghost use Rattle.ffi.specs.Types.{as_strides, as_axis, as_range, chroma_range, as_layout, strange_layout, as_phase, chroma_phase, as_reader, chroma_reader, strange_phases, strange_reader, number_of};
+ghost use Rattle.image.specs.Picture.{planes_seen, planes_of};
+ghost use Rattle.ffi.specs.Types.{as_strides, as_axis, as_range, chroma_range, as_layout, strange_layout, as_phase, chroma_phase, as_reader, chroma_reader, strange_phases, strange_reader, answer_number};
 
 use guided::{Geometry, Reader};
-use image::{Layout, Range, Strides};
-use laws::{Answer, Axis, Siting, either};
+use image::{Layout, Plane, Planes, Range};
+use laws::{Axis, Refusal, Siting};
 use taps::Phase;
 
 // A picture's numbers, as `Layout` has them: rh pixels to num_across cells, and rv to num_down. A siting is 0 for centred and 1 for co-sited,
@@ -91,6 +92,7 @@ pub struct ChromaWritten {
 }
 
 // The axis that C's siting and numerator stand for. Another siting than 0 and 1 was answered before.
+#[tactic(auto, unfolding(crate::specs::Types::as_axis))]
 fn to_axis(siting: u32, num: usize) -> Axis
     ensures { result ≡ as_axis siting num }
 {
@@ -107,6 +109,7 @@ fn to_axis(siting: u32, num: usize) -> Axis
 }
 
 // Inner: the range that C's number stands for. Another number than 0 and 1 was answered before.
+#[tactic(auto, unfolding(crate::specs::Types::as_range))]
 pub fn to_range(n: u32) -> Range
     ensures { result ≡ as_range n }
 {
@@ -117,6 +120,7 @@ pub fn to_range(n: u32) -> Range
 }
 
 // A range in C's form.
+#[tactic(auto, unfolding(crate::specs::Types::chroma_range))]
 fn from_range(range: Range) -> u32
     ensures { result ≡ chroma_range range }
 {
@@ -127,13 +131,15 @@ fn from_range(range: Range) -> u32
 }
 
 // Inner: whether a siting or the range is neither 0 nor 1, so that the layout stands for none.
+#[tactic(auto, unfolding(crate::specs::Types::strange_layout))]
 pub fn strange_layout(l: ChromaLayout) -> bool
     ensures { result ≡ strange_layout l }
 {
-    either(either(1 < l.siting_across, 1 < l.siting_down), 1 < l.range)
+    1 < l.siting_across || 1 < l.siting_down || 1 < l.range
 }
 
 // Inner: the layout that C's stands for.
+#[tactic(auto, unfolding(crate::specs::Types::as_layout))]
 pub fn to_layout(l: ChromaLayout) -> Layout
     ensures { result ≡ as_layout l }
 {
@@ -152,18 +158,34 @@ pub fn to_layout(l: ChromaLayout) -> Layout
     }
 }
 
-// Inner: the strides that C's stand for.
-pub fn to_strides(strides: ChromaStrides) -> Strides
-    ensures { result ≡ as_strides strides }
+// Inner: the planes that C lends as three slices and their strides.
+#[tactic(auto, unfolding(crate::specs::Types::as_strides))]
+pub fn to_planes<'a>(
+    y: &'a [u8],
+    cb: &'a [u8],
+    cr: &'a [u8],
+    strides: ChromaStrides,
+) -> Planes<'a>
+    ensures { planes_seen result ≡ planes_of y.now cb.now cr.now (as_strides strides) }
 {
-    Strides {
-        y: strides.y,
-        cb: strides.cb,
-        cr: strides.cr,
+    Planes {
+        y: Plane {
+            bytes: y,
+            stride: strides.y,
+        },
+        cb: Plane {
+            bytes: cb,
+            stride: strides.cb,
+        },
+        cr: Plane {
+            bytes: cr,
+            stride: strides.cr,
+        },
     }
 }
 
 // The phase that C's stands for. Only 1 is left: where a call looks at the state, another number than 0 and 1 was answered before.
+#[tactic(auto, unfolding(crate::specs::Types::as_phase))]
 fn to_phase(p: ChromaPhase) -> Phase
     ensures { result ≡ as_phase p }
 {
@@ -174,6 +196,7 @@ fn to_phase(p: ChromaPhase) -> Phase
 }
 
 // A phase in C's form.
+#[tactic(auto, unfolding(crate::specs::Types::chroma_phase))]
 fn from_phase(p: Phase) -> ChromaPhase
     ensures { result ≡ chroma_phase p }
 {
@@ -184,24 +207,24 @@ fn from_phase(p: Phase) -> ChromaPhase
 }
 
 // Whether a phase's `left` is neither 0 nor 1.
+#[tactic(auto, unfolding(crate::specs::Types::strange_phases))]
 fn strange_phases(reader: ChromaReader) -> bool
     ensures { result ≡ strange_phases reader }
 {
     let p = reader.phases;
-    either(
-        either(1 < p[0].left, 1 < p[1].left),
-        either(1 < p[2].left, 1 < p[3].left),
-    )
+    1 < p[0].left || 1 < p[1].left || 1 < p[2].left || 1 < p[3].left
 }
 
 // Inner: whether a phase's `left` or the range is neither 0 nor 1, so that the state stands for none.
+#[tactic(auto, unfolding(crate::specs::Types::strange_reader))]
 pub fn strange_reader(reader: ChromaReader) -> bool
     ensures { result ≡ strange_reader reader }
 {
-    either(strange_phases(reader), 1 < reader.range)
+    strange_phases(reader) || 1 < reader.range
 }
 
 // Inner: the state that C's stands for.
+#[tactic(auto, unfolding(crate::specs::Types::as_reader))]
 pub fn to_reader(r: ChromaReader) -> Reader
     ensures { result ≡ as_reader r }
 {
@@ -233,6 +256,7 @@ pub fn to_reader(r: ChromaReader) -> Reader
 }
 
 // Inner: a state in C's form.
+#[tactic(auto, unfolding(crate::specs::Types::chroma_reader))]
 pub fn from_reader(r: Reader) -> ChromaReader
     ensures { result ≡ chroma_reader r }
 {
@@ -263,11 +287,11 @@ pub fn from_reader(r: Reader) -> ChromaReader
 }
 
 // Inner: an answer's number, 0 for accepted.
-pub fn number_of(answer: Answer) -> u32
-    ensures { result ≡ number_of answer }
+pub fn number_of(answer: Result<(), Refusal>) -> u32
+    ensures { result ≡ answer_number answer }
 {
     match answer {
-        Answer::Accepted => 0,
-        Answer::Refused(n) => n as u32,
+        Ok(()) => 0,
+        Err(why) => u32::from(why.number()),
     }
 }

@@ -4,12 +4,11 @@ use Prim.Native.Nat.{ℕ, ◌≤◌}
 use native.Mathlib.Omega.{arith}
 use lib.ListN.{length}
 use lib.Ieee.{Float}
-use Rattle.picture.specs.declared.Outcome.{Outcome}
-use Rattle.picture.specs.declared.Outcome.TheVariants.{Written, Refused}
-use Rattle.picture.specs.Picture.{PictureGiven}
+use Rattle.std.specs.Prelude.{Ok, Err}
+use Rattle.picture.specs.Picture.{Outcome, PictureGiven}
 use Rattle.picture.proofs.Rooms.{written_fits}
 use Rattle.ycbcrtoppm.specs.Inner.Lengths.{written_length}
 
 pub outcome_fits : {input : List ℕ} {scratch : List Float} {out : List ℕ} (outcome : Outcome) {scratch' : List Float} {out' : List ℕ} → PictureGiven input scratch out outcome scratch' out' → written_length outcome ≤ length out
-outcome_fits (Written n) g = written_fits g
-outcome_fits (Err k) g = omega arith
+outcome_fits (Ok n) g = written_fits g
+outcome_fits (Err why) g = omega arith

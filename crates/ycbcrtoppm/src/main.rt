@@ -6,7 +6,7 @@
 ghost use Rattle.std.specs.Prelude.{◌+◌, ◌≤◌, length, IfOk};
 ghost use Rattle.ycbcrtoppm.specs.Inner.Lengths.{written_length};
 
-use picture::Outcome;
+use laws::Refusal;
 use std::io;
 use std::io::{Eprint, Print, Read, Write};
 
@@ -23,13 +23,17 @@ const SCRATCH: usize = 5_120;
 const OUT: usize = 147_472;
 
 // Writes the picture that stands at the front of `out`, or the refusal's line, to standard output.
-fn write_outcome(rt: &impl Print, outcome: Outcome, out: &[u8]) -> io::Result<()>
+fn write_outcome(
+    rt: &impl Print,
+    outcome: Result<usize, Refusal>,
+    out: &[u8],
+) -> io::Result<()>
     requires { written_length outcome ≤ length out.now }
 {
     match outcome {
-        Outcome::Written(n) => rt.write_all(&out[..n]),
-        Outcome::Refused(n) => {
-            let line = picture::refusal_line(n);
+        Ok(n) => rt.write_all(&out[..n]),
+        Err(why) => {
+            let line = picture::refusal_line(why.number());
             let len = line.len;
             let bytes = line.bytes;
             rt.write_all(&bytes[..len])

@@ -6,7 +6,7 @@ use Rattle.ycbcrtoppm.proofs.write_outcome.Goals as goal
 
 pub slice_bounds-write_all-end : goal.slice_bounds-write_all-end
 slice_bounds-write_all-end g c =
-    sym (length-take-le _ _ (rw c.in-Written.is at c.requires))
+    sym (length-take-le _ _ (rw c.in-Ok.is at c.requires))
 
 pub slice_bounds-bytes-end : goal.slice_bounds-bytes-end
 slice_bounds-bytes-end g c =

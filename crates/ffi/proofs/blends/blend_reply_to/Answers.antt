@@ -1,15 +1,14 @@
-use mathlib.Core.Path.{refl, sym, ◌∙◌}
-use borrow.Author.Tests.{not-true, not-false}
-use Rattle.laws.specs.Refusals.{accepted}
+use Rattle.std.proofs.Common.{◌≡◌, ◌∙◌, Ok, Err, Bool, true, false, is_err, refl, sym}
+use Rattle.laws.specs.Refusals.{Answer}
+use Rattle.colorimetry.specs.Blends.{blend_reply}
+use Rattle.ffi.specs.Types.{chroma_reader}
 use Rattle.ffi.specs.Blends.{blend_reply_to}
 use Rattle.ffi.proofs.blends.blend_reply_to.Goals as goal
 
-pub returns-then-refused : goal.returns-then-refused
-unfolding blend_reply_to
-returns-then-refused c =
-    rw (c.number_of-refusal.ensures, not-true (accepted c.args.reply.answer) (sym c.refused.ensures ∙ c.if-refused.true)) refl
+accepted : (a : Answer) → is_err a ≡ false → a ≡ Ok tt
+accepted (Ok tt) e = refl
+accepted (Err why) e = let z : ◌≡◌ {A = Bool} true false = e in cc
 
 pub returns : goal.returns
 unfolding blend_reply_to
-returns c =
-    rw (c.from_reader-2.ensures, c.from_reader.ensures, c.number_of-refusal.ensures, not-false (accepted c.args.reply.answer) (sym c.refused.ensures ∙ c.if-refused.false)) refl
+returns c = rw (accepted _ (sym c.is_err.ensures.value ∙ c.if-is_err.false), c.from_reader.ensures, c.from_reader-2.ensures) refl

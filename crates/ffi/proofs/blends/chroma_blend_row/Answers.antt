@@ -1,18 +1,20 @@
 -- Where one of C's states stands for none nothing was changed; else the Rattle call's own record is handed on, its arguments rewritten to what
 -- C's stand for.
-use mathlib.Core.Path.{◌≡◌, refl, sym, ◌∙◌}
-use mathlib.Core.Bool.{◌||◌}
+use Rattle.std.proofs.Common.{◌≡◌, ◌∙◌, ◌||◌, Bool, true, false, refl, sym}
+use Rattle.ffi.specs.declared.types.ChromaReader.{ChromaReader}
 use Rattle.ffi.specs.Types.{strange_reader}
+use Rattle.colorimetry.specs.Blends.{blend_reply}
 use Rattle.ffi.proofs.Strange.{blend_strange, blend_plain}
 use Rattle.ffi.proofs.blends.chroma_blend_row.Goals as goal
 
-pub returns-then-either : goal.returns-then-either
-returns-then-either c =
-    let told : (let a = c.args in (strange_reader a.early || strange_reader a.late) ≡ c.either.result) = rw (c.either.ensures, c.strange_reader-2.ensures, c.strange_reader.ensures) refl in
-    blend_strange (told ∙ c.if-either.true) (refl, refl, refl)
+neither : (a b : Bool) → a ≡ false → b ≡ false → (a || b) ≡ false
+neither a b e f = rw (e, f) refl
 
 pub returns : goal.returns
 returns c =
-    let told : (let a = c.args in (strange_reader a.early || strange_reader a.late) ≡ c.either.result) = rw (c.either.ensures, c.strange_reader-2.ensures, c.strange_reader.ensures) refl in
-    blend_plain (told ∙ c.if-either.false)
-    (record { reply = c.blend_row-reply.result; given = rw (sym c.to_reader.ensures, sym c.to_strides.ensures, sym c.to_reader-2.ensures, sym c.to_strides-2.ensures) c.blend_row-reply.ensures; is = c.blend_reply_to.ensures })
+  let e : (strange_reader c.args.early || strange_reader c.args.late) ≡ false = neither _ _ (sym c.strange_reader.ensures ∙ c.if-strange_reader.false) (sym c.strange_reader-else-strange_reader.ensures ∙ c.if-strange_reader-2.false) in
+  blend_plain e (record {
+    reply = blend_reply c.blend_row-answer.result c.blend_row-answer.new.early c.blend_row-answer.new.late;
+    given = rw (sym c.to_reader-first.ensures, sym c.to_planes.ensures, sym c.to_reader-second.ensures, sym c.to_planes-2.ensures) c.blend_row-answer.ensures;
+    is = c.blend_reply_to.ensures;
+  })

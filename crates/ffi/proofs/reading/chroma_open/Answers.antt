@@ -1,5 +1,6 @@
 use mathlib.Core.Path.{sym, ◌∙◌}
 use Rattle.ffi.proofs.Strange.{checked_strange, checked_plain}
+use Rattle.guided.specs.Calls.{reply}
 use Rattle.ffi.proofs.reading.chroma_open.Goals as goal
 
 pub returns-then-strange_layout : goal.returns-then-strange_layout
@@ -10,4 +11,4 @@ returns-then-strange_layout c =
 pub returns : goal.returns
 returns c =
     let e = sym c.strange_layout.ensures ∙ c.if-strange_layout.false in
-    checked_plain e (record { reply = c.open-reply.result; given = rw (sym c.to_layout.ensures, sym c.to_strides.ensures, sym c.to_reader.ensures) c.open-reply.ensures; is = c.reply_to.ensures })
+    checked_plain e (record { reply = reply c.open-answer.result c.open-answer.new.reader; given = rw (sym c.to_layout.ensures, sym c.to_planes.ensures, sym c.to_reader-state.ensures) c.open-answer.ensures; is = c.reply_to.ensures })

@@ -1,5 +1,6 @@
 use mathlib.Core.Path.{sym, ◌∙◌}
 use Rattle.ffi.proofs.Strange.{checked_strange, checked_plain}
+use Rattle.guided.specs.Calls.{reply}
 use Rattle.ffi.proofs.reading.chroma_seek.Goals as goal
 
 pub returns-then-strange_reader : goal.returns-then-strange_reader
@@ -10,4 +11,4 @@ returns-then-strange_reader c =
 pub returns : goal.returns
 returns c =
     let e = sym c.strange_reader.ensures ∙ c.if-strange_reader.false in
-    checked_plain e (record { reply = c.seek-reply.result; given = rw (sym c.to_reader.ensures) c.seek-reply.ensures; is = c.reply_to.ensures })
+    checked_plain e (record { reply = reply c.seek-answer.result c.seek-answer.new.reader; given = rw (sym c.to_reader-state.ensures) c.seek-answer.ensures; is = c.reply_to.ensures })

@@ -12,4 +12,4 @@ returns-then-no_such_way c =
 pub returns : goal.returns
 returns c =
     let e = sym c.no_such_way.ensures ∙ c.if-no_such_way.false in
-    numbered_plain e (record { answer = c.refill.result; given = rw (sym c.to_layout.ensures, sym c.to_strides.ensures, sym c.to_strides-2.ensures, sym c.to_rectangle.ensures, sym c.to_kernel.ensures) c.refill.ensures; number = c.number_of.ensures })
+    numbered_plain e (record { answer = c.refill.result; given = rw (sym c.to_layout.ensures, sym c.to_planes.ensures, sym c.to_planes-2.ensures, sym c.to_rectangle.ensures, sym c.to_kernel.ensures) c.refill.ensures; number = c.number_of.ensures })
