@@ -68,6 +68,23 @@ at_listed f (suc n) i (suc k) h = at_listed f n (suc i) k (le_of_suc-le-suc h) �
 pub entry_listed : (f : ℕ → ℤ) (c : ℕ) → c < 256 → entry_of f c ≡ f c
 entry_listed f c h = at_listed f 256 0 c h ∙ ap f (zero-add c)
 
+-- the four tables, as an entry is read
+pub red_rule : (c : ℕ) → c < 256 → to_z w32 (of_z w32 (entry_of fixed_red c)) ≡ fixed_red c
+unfolding fixed_red floor_div
+red_rule c h = entry_is fixed_red (listed fixed_red 256 0) (pos 0) tt c h
+
+pub blue_rule : (c : ℕ) → c < 256 → to_z w32 (of_z w32 (entry_of fixed_blue c)) ≡ fixed_blue c
+unfolding fixed_blue floor_div
+blue_rule c h = entry_is fixed_blue (listed fixed_blue 256 0) (pos 0) tt c h
+
+pub green_cb_rule : (c : ℕ) → c < 256 → to_z w32 (of_z w32 (entry_of fixed_green_cb c)) ≡ fixed_green_cb c
+unfolding fixed_green_cb
+green_cb_rule c h = entry_is fixed_green_cb (listed fixed_green_cb 256 0) (pos 0) tt c h
+
+pub green_cr_rule : (c : ℕ) → c < 256 → to_z w32 (of_z w32 (entry_of fixed_green_cr c)) ≡ fixed_green_cr c
+unfolding fixed_green_cr
+green_cr_rule c h = entry_is fixed_green_cr (listed fixed_green_cr 256 0) (pos 0) tt c h
+
 -- ---- an entry raised by k
 
 -- an entry x, raised by k in 32 bits, is the natural number a: what the sum, the cast and the caller ask
@@ -118,14 +135,14 @@ green_cb_part c h = green_cb_diff 5770496 2883584 c (5770496 - 22554 * c) (omega
 pub green_cr_part : (c : ℕ) → c < 256 → Diff (fixed_green_cr c) (11987200 - 46802 * c) 5963776
 green_cr_part c h = green_cr_diff 11987200 5963776 c (11987200 - 46802 * c) (omega arith) (omega arith) refl
 
-pub red_lifts : (c : ℕ) → c < 256 → Lifts (entry_of fixed_red c) 180 (raised_fixed 91881 180 c)
-red_lifts c h = lifts (entry_listed fixed_red c h) 180 (raised_fixed 91881 180 c) (red_diff c) (omega arith) (lit< tt)
+pub red_lifts : {x : ℤ} (c : ℕ) → c < 256 → x ≡ fixed_red c → Lifts x 180 (raised_fixed 91881 180 c)
+red_lifts c h e = lifts e 180 (raised_fixed 91881 180 c) (red_diff c) (omega arith) (lit< tt)
 
-pub blue_lifts : (c : ℕ) → c < 256 → Lifts (entry_of fixed_blue c) 227 (raised_fixed 116130 227 c)
-blue_lifts c h = lifts (entry_listed fixed_blue c h) 227 (raised_fixed 116130 227 c) (blue_diff c) (omega arith) (lit< tt)
+pub blue_lifts : {x : ℤ} (c : ℕ) → c < 256 → x ≡ fixed_blue c → Lifts x 227 (raised_fixed 116130 227 c)
+blue_lifts c h e = lifts e 227 (raised_fixed 116130 227 c) (blue_diff c) (omega arith) (lit< tt)
 
-pub green_cb_lifts : (c : ℕ) → c < 256 → Lifts (entry_of fixed_green_cb c) 2883584 (5770496 - 22554 * c)
-green_cb_lifts c h = lifts (entry_listed fixed_green_cb c h) 2883584 (5770496 - 22554 * c) (green_cb_part c h) (omega arith) (lit< tt)
+pub green_cb_lifts : {x : ℤ} (c : ℕ) → c < 256 → x ≡ fixed_green_cb c → Lifts x 2883584 (5770496 - 22554 * c)
+green_cb_lifts c h e = lifts e 2883584 (5770496 - 22554 * c) (green_cb_part c h) (omega arith) (lit< tt)
 
-pub green_cr_lifts : (c : ℕ) → c < 256 → Lifts (entry_of fixed_green_cr c) 5963776 (11987200 - 46802 * c)
-green_cr_lifts c h = lifts (entry_listed fixed_green_cr c h) 5963776 (11987200 - 46802 * c) (green_cr_part c h) (omega arith) (lit< tt)
+pub green_cr_lifts : {x : ℤ} (c : ℕ) → c < 256 → x ≡ fixed_green_cr c → Lifts x 5963776 (11987200 - 46802 * c)
+green_cr_lifts c h e = lifts e 5963776 (11987200 - 46802 * c) (green_cr_part c h) (omega arith) (lit< tt)

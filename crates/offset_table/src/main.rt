@@ -12,10 +12,7 @@ use std::io::Print;
 
 // Writes a blank and an entry with its sign, from the entry raised by a bias.
 fn print_entry(rt: &impl Print, raised: u32, bias: u32) -> io::Result<()> {
-    if raised < bias {
-        return print!(rt; " -{}", bias - raised);
-    }
-    print!(rt; " {}", raised - bias)
+    print!(rt; " {}", i64::from(raised) - i64::from(bias))
 }
 
 // Writes green's two parts and the end of the line.

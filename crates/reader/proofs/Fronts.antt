@@ -1,8 +1,8 @@
 -- A row that is copied to the front of an output is the row's cells put there.
 use mathlib.Core.Path.{◌≡◌, sym, ◌∙◌}
-use mathlib.Core.Logic.{◌⊎◌, inl, inr}
+use mathlib.Core.Logic.{inl, inr}
 use mathlib.Core.List.{List, ◌++◌}
-use Prim.Native.Nat.{ℕ, ◌+◌, ◌-◌, ◌≤◌, ◌<◌}
+use Prim.Native.Nat.{ℕ, ◌+◌, ◌-◌, ◌≤◌}
 use native.Mathlib.Omega.{arith}
 use lib.ListN.{length, get_or, take, drop, length-append}
 use Rattle.std.proofs.lemmas.List.{ext_get_or, get_or_append_left, get_or-append_right, get_or-take, get_or-drop, length-take-le, length-drop}
@@ -20,8 +20,8 @@ module _ {A : Type 0} (d : A) (s out : List A) (at n : ℕ) (h : at + n ≤ leng
       (rw (length-append, taken, length-drop, length_put) (omega arith))
       (λ i w. elim (cases_lt i n) [
         | inl q ↦
-          let z : 0 + i ≡ i = omega arith in
-          get_or_append_left (take n (drop at s)) (drop n out) d i (rw taken q) ∙ get_or-take n (drop at s) i d q ∙ get_or-drop at s i d ∙ sym (rw z at (put_inside out 0 n (λ j. get_or s (at + j) d) i d q (omega arith)))
+            let z : 0 + i ≡ i = omega arith in
+            get_or_append_left (take n (drop at s)) (drop n out) d i (rw taken q) ∙ get_or-take n (drop at s) i d q ∙ get_or-drop at s i d ∙ sym (rw z at (put_inside out 0 n (λ j. get_or s (at + j) d) i d q (omega arith)))
         | inr q ↦
             let e : n + (i - n) ≡ i = omega arith in
             get_or-append_right (take n (drop at s)) (drop n out) n i d taken q ∙ get_or-drop n out (i - n) d ∙ rw e (sym (put_after out 0 n (λ j. get_or s (at + j) d) i d (omega arith)))

@@ -453,8 +453,8 @@ fn replay(
             Ok(pair)
         }
         b'm' => {
-            let early_space = laws::least(test_support::long(early, 19), s.len());
-            let late_space = laws::least(space, t.len());
+            let early_space = test_support::long(early, 19).min(s.len());
+            let late_space = space.min(t.len());
             mixed(
                 rt,
                 text,
@@ -466,8 +466,8 @@ fn replay(
             )
         }
         _ => {
-            let early_space = laws::least(space, s.len());
-            let late_space = laws::least(space, t.len());
+            let early_space = space.min(s.len());
+            let late_space = space.min(t.len());
             alone(
                 rt,
                 text,

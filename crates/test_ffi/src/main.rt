@@ -374,7 +374,7 @@ fn replayed(
 ) -> io::Result<ChromaReader> {
     let done = written(rt, text, spelling, handed(text, reader), s)?;
     let change = test_support::word(text, 21);
-    if laws::both(0 < change, change < 16) {
+    if 0 < change && change < 16 {
         return Ok(reader);
     }
     Ok(done.reader)
@@ -388,7 +388,7 @@ fn replay(
     reader: ChromaReader,
     s: &mut [f32],
 ) -> io::Result<ChromaReader> {
-    let space = laws::least(test_support::long(text, 19), s.len());
+    let space = test_support::long(text, 19).min(s.len());
     replayed(rt, text, spelling, reader, &mut s[..space])
 }
 

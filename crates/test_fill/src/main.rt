@@ -67,18 +67,18 @@ fn fixed(rt: &impl Print, text: &[u8]) -> io::Result<()> {
 
 // How a fill's chroma is reconstructed, which its line's kind says: `l` is linear, `g` guided.
 fn upsampling(text: &[u8]) -> ChromaUpsampling {
-    if test_support::kind(text) == b'l' {
-        return ChromaUpsampling::Linear;
+    match test_support::kind(text) {
+        b'l' => ChromaUpsampling::Linear,
+        _ => ChromaUpsampling::LumaGuided,
     }
-    ChromaUpsampling::LumaGuided
 }
 
 // Inner: the kernel that a fill's line names, 0 for the exact one.
 pub fn kernel(text: &[u8]) -> YcbcrKernel {
-    if test_support::word(text, 19) == 0 {
-        return YcbcrKernel::Exact;
+    match test_support::word(text, 19) {
+        0 => YcbcrKernel::Exact,
+        _ => YcbcrKernel::FixedPoint16,
     }
-    YcbcrKernel::FixedPoint16
 }
 
 // Makes the call of a fill and writes its line. The sum is of all of `out`, and of the scratch that the call may not touch.
@@ -115,7 +115,7 @@ fn fill_lent(
 fn fill_marked(rt: &impl Print, text: &[u8], y: &[u8], cb: &[u8], cr: &[u8]) -> io::Result<()> {
     let mut s = marked();
     let mut out = unwritten();
-    let space = laws::least(test_support::long(text, 21), 600_000);
+    let space = test_support::long(text, 21).min(600_000);
     let room = test_support::word(text, 23);
     fill_lent(rt, text, y, cb, cr, &mut s[..space], &mut out[..room])
 }

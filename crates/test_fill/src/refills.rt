@@ -19,23 +19,17 @@ fn plain() -> [f32; 65_536] {
 
 // Whether a place is one of the n from `from` on.
 fn among(from: usize, n: usize, at: usize) -> bool {
-    if at < from {
-        return false;
-    }
-    at - from < n
+    from <= at && at - from < n
 }
 
 // Whether column i of row j of a chroma plane is one of the rectangle's cells.
 fn changed(change: &[u8], i: usize, j: usize) -> bool {
-    laws::both(
-        among(size(change, 0), size(change, 2), i),
-        among(size(change, 1), size(change, 3), j),
-    )
+    among(size(change, 0), size(change, 2), i) && among(size(change, 1), size(change, 3), j)
 }
 
 // Whether a line's rectangle has no cell.
 fn no_cell(change: &[u8]) -> bool {
-    laws::either(word(change, 2) == 0, word(change, 3) == 0)
+    word(change, 2) == 0 || word(change, 3) == 0
 }
 
 // Side k of plane `of`: columns for 0, rows for 1. Luma's stand at the line's beginning, chroma's four words behind them.
@@ -65,13 +59,11 @@ fn sample_byte(text: &[u8], change: &[u8], new: &[u8], k: usize, j: usize, x: us
     requires { (k < 3) × (j < 65536) × (x < 65536) }
 {
     let b = byte(new, j * word(text, 9 + k) + x);
-    if k == 0 {
-        return b;
+    if k != 0 && changed(change, column(text, x), j) {
+        over(b, word(change, 14))
+    } else {
+        b
     }
-    if changed(change, column(text, x), j) {
-        return over(b, word(change, 14));
-    }
-    b
 }
 
 // Byte i of plane k before the change but for the one that `other` names: a sample's, or 9.
@@ -82,15 +74,13 @@ fn plain_byte(text: &[u8], change: &[u8], new: &[u8], k: usize, i: usize) -> u8
     if stride == 0 {
         return 9;
     }
-    let j = laws::least(i / stride, 65_535);
-    let x = laws::least(i % stride, 65_535);
-    if side(text, k, 1) <= j {
-        return 9;
+    let j = (i / stride).min(65_535);
+    let x = (i % stride).min(65_535);
+    if j < side(text, k, 1) && column(text, x) < side(text, k, 0) {
+        sample_byte(text, change, new, k, j, x)
+    } else {
+        9
     }
-    if side(text, k, 0) <= column(text, x) {
-        return 9;
-    }
-    sample_byte(text, change, new, k, j, x)
 }
 
 // Byte i of plane k before the change.
@@ -98,7 +88,7 @@ fn old_byte(text: &[u8], change: &[u8], new: &[u8], k: usize, i: usize) -> u8
     requires { (k < 3) × (i < 65536) }
 {
     let b = plain_byte(text, change, new, k, i);
-    if laws::both(word(change, 10) == k + 1, word(change, 11) == i) {
+    if word(change, 10) == k + 1 && word(change, 11) == i {
         return over(b, word(change, 12));
     }
     b
@@ -224,7 +214,7 @@ fn refill_marked(
 ) -> io::Result<()> {
     let mut s = crate::marked();
     let mut out = held(text, change, old_y, old_cb, old_cr);
-    let space = laws::least(test_support::long(text, 21), 600_000);
+    let space = test_support::long(text, 21).min(600_000);
     let room = word(text, 23);
     refill_lent(
         rt,

@@ -27,15 +27,7 @@ fn rectangle(text: &[u8]) -> Rectangle {
 
 // The bits of a mean. A not-a-number has none that are known, and gives those that no number has.
 fn bits(x: f64) -> u64 {
-    if x == x {
-        return f64::to_bits(x);
-    }
-    18_446_744_073_709_551_615
-}
-
-// Writes a blank and the bits of a mean.
-fn write_mean(rt: &impl Print, x: f64) -> io::Result<()> {
-    print!(rt; " {:016x}", bits(x))
+    if x.is_nan() { u64::MAX } else { x.to_bits() }
 }
 
 // Writes a blank and a number.
@@ -43,21 +35,22 @@ fn write_number(rt: &impl Print, n: usize) -> io::Result<()> {
     print!(rt; " {n}")
 }
 
+// Writes the bits of the three means.
+fn write_mean(rt: &impl Print, mean: [f64; 3]) -> io::Result<()> {
+    let [r, g, b] = mean;
+    print!(rt; " {:016x} {:016x} {:016x}", bits(r), bits(g), bits(b))
+}
+
 // Writes the three whole-number means.
 fn write_whole(rt: &impl Print, whole: [u8; 3]) -> io::Result<()> {
-    write_number(rt, whole[0] as usize)?;
-    write_number(rt, whole[1] as usize)?;
-    write_number(rt, whole[2] as usize)
+    let [r, g, b] = whole;
+    print!(rt; " {r} {g} {b}")
 }
 
 // Writes the means, or that there are none.
 fn write_patch(rt: &impl Print, patch: Patch) -> io::Result<()> {
     match patch {
-        Patch::Mean(r, g, b) => {
-            write_mean(rt, r)?;
-            write_mean(rt, g)?;
-            write_mean(rt, b)
-        }
+        Patch::Mean(r, g, b) => write_mean(rt, [r, g, b]),
         Patch::Nothing => print!(rt; " nothing"),
     }
 }
@@ -98,15 +91,9 @@ fn c_rectangle(text: &[u8]) -> ChromaRectangle {
 
 // Writes the line of a patch in C's form, what is 0 beside nothing too.
 fn write_c_patch(rt: &impl Print, p: ChromaPatch) -> io::Result<()> {
-    let mean = p.mean;
-    let whole = p.whole;
-    print!(rt; "{}", p.refusal)?;
-    write_number(rt, p.pixels)?;
-    write_number(rt, p.given as usize)?;
-    write_mean(rt, mean[0])?;
-    write_mean(rt, mean[1])?;
-    write_mean(rt, mean[2])?;
-    write_whole(rt, whole)?;
+    print!(rt; "{} {} {}", p.refusal, p.pixels, p.given)?;
+    write_mean(rt, p.mean)?;
+    write_whole(rt, p.whole)?;
     println!(rt)
 }
 
@@ -124,10 +111,7 @@ fn c_patch(rt: &impl Print, text: &[u8], rgb: &[u8]) -> io::Result<()> {
 // Writes the nearest shade and how far it is, or that there is none.
 fn write_nearest(rt: &impl Print, nearest: Nearest, off: u32) -> io::Result<()> {
     match nearest {
-        Nearest::Shade(i) => {
-            write_number(rt, i)?;
-            write_number(rt, off as usize)
-        }
+        Nearest::Shade(i) => print!(rt; " {i} {off}"),
         Nearest::Nothing => print!(rt; " nothing"),
     }
 }
@@ -135,11 +119,7 @@ fn write_nearest(rt: &impl Print, nearest: Nearest, off: u32) -> io::Result<()> 
 // Writes the nearest mix and how far it is, or that there is none.
 fn write_between(rt: &impl Print, between: Between, off: u32) -> io::Result<()> {
     match between {
-        Between::Mix(i, k) => {
-            write_number(rt, i)?;
-            write_number(rt, k)?;
-            write_number(rt, off as usize)
-        }
+        Between::Mix(i, k) => print!(rt; " {i} {k} {off}"),
         Between::Nothing => print!(rt; " nothing"),
     }
 }
@@ -172,17 +152,10 @@ fn reading(rt: &impl Print, text: &[u8], chart: &[u8], rgb: &[u8]) -> io::Result
 
 // Writes the line of a reading in C's form, what is 0 beside nothing too.
 fn write_c_reading(rt: &impl Print, r: ChromaChartReading) -> io::Result<()> {
-    let whole = r.whole;
-    let between_off = r.between_off as usize;
-    print!(rt; "{}", r.refusal)?;
-    write_number(rt, r.pixels)?;
-    write_number(rt, r.given as usize)?;
-    write_number(rt, r.nearest)?;
-    write_number(rt, r.nearest_off as usize)?;
-    write_number(rt, r.pair)?;
-    write_number(rt, r.weight)?;
-    write_number(rt, between_off)?;
-    write_whole(rt, whole)?;
+    print!(rt; "{} {} {}", r.refusal, r.pixels, r.given)?;
+    print!(rt; " {} {}", r.nearest, r.nearest_off)?;
+    print!(rt; " {} {} {}", r.pair, r.weight, r.between_off)?;
+    write_whole(rt, r.whole)?;
     println!(rt)
 }
 

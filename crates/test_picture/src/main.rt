@@ -38,7 +38,7 @@ fn copied(source: &[u8], from: usize, to: usize, room: &mut [u8]) -> usize
 fn grown(count: usize, seed: usize, shape: usize, room: &mut [u8]) -> usize
     ensures { result ≤ length room.new }
 {
-    let n = laws::least(count, room.len());
+    let n = count.min(room.len());
     test_support::grow(&mut room[..n], seed, shape);
     n
 }
@@ -49,13 +49,9 @@ fn spelled(text: &[u8], room: &mut [u8]) -> usize
 {
     let a = test_support::word(text, 0);
     let b = test_support::word(text, 1);
-    let bytes = [
-        (a / 256) as u8,
-        (a % 256) as u8,
-        (b / 256) as u8,
-        (b % 256) as u8,
-    ];
-    copied(&bytes, 0, (test_support::byte(text, 0) % 16) as usize, room)
+    let bytes = ((a * 65_536 + b) as u32).to_be_bytes();
+    let count = usize::from(test_support::byte(text, 0) % 16);
+    copied(&bytes, 0, count, room)
 }
 
 // Puts the piece of the input that a line speaks of to the front of a room; gives how many bytes it has. It is a part of the base, grown
@@ -119,8 +115,8 @@ fn called(rt: &impl Print, input: &[u8], s: &mut [f32], out: &mut [u8]) -> io::R
 // Makes the call of an input whose last line this is, with scratch and `out` as long as the line says, or as long as there is.
 fn call(rt: &impl Print, text: &[u8], input: &[u8], s: &mut [f32]) -> io::Result<()> {
     let mut out = unwritten();
-    let space = laws::least(test_support::word(text, 0), s.len());
-    let room = laws::least(test_support::long(text, 1), 147_472);
+    let space = test_support::word(text, 0).min(s.len());
+    let room = test_support::long(text, 1).min(147_472);
     called(rt, input, &mut s[..space], &mut out[..room])
 }
 

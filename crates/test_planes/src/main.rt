@@ -106,7 +106,7 @@ fn write_call(
 // Makes a line's call with scratch and `out` that no call has touched, as long as the line says.
 fn replay(rt: &impl Print, text: &[u8]) -> io::Result<()> {
     let plane_len = test_support::word(text, 10);
-    let space = laws::least(test_support::long(text, 11), 200_000);
+    let space = test_support::long(text, 11).min(200_000);
     let room = test_support::word(text, 13);
     let plane = drawn(text, plane_len, test_support::word(text, 14));
     let mut s = marked();

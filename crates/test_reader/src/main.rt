@@ -208,7 +208,7 @@ fn called(text: &[u8], spelling: &[u8], given: Reader, s: &mut [f32]) -> Done {
 // How many floats at the front of scratch an accepted row call may touch: 32·cw + 8·w, where neither is past 8,192.
 fn row_need(reader: Reader) -> usize {
     let g = reader.geometry;
-    32 * laws::least(g.cw, 8_192) + 8 * laws::least(g.w, 8_192)
+    32 * g.cw.min(8_192) + 8 * g.w.min(8_192)
 }
 
 // Writes a call's line. The sum is of its outputs, of the reader that it gave, and of whether it changed scratch that it may not touch.
@@ -249,7 +249,7 @@ fn replayed(
 ) -> io::Result<Reader> {
     let done = written(rt, text, spelling, handed(text, reader), s)?;
     let change = test_support::word(text, 24);
-    if laws::both(0 < change, change < 16) {
+    if 0 < change && change < 16 {
         return Ok(reader);
     }
     Ok(done.reader)
@@ -263,7 +263,7 @@ fn replay(
     reader: Reader,
     s: &mut [f32],
 ) -> io::Result<Reader> {
-    let space = laws::least(test_support::long(text, 19), s.len());
+    let space = test_support::long(text, 19).min(s.len());
     replayed(rt, text, spelling, reader, &mut s[..space])
 }
 

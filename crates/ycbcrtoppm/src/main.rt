@@ -3,7 +3,7 @@
 // All that it decides is `picture::picture`'s; this reads, lends the memory and writes.
 #![tactic(auto)]
 
-ghost use Rattle.std.specs.Prelude.{◌+◌, ◌≤◌, length, IfOk};
+ghost use Rattle.std.specs.Prelude.{◌≤◌, length, IfOk};
 ghost use Rattle.ycbcrtoppm.specs.Inner.Lengths.{written_length};
 
 use laws::Refusal;
@@ -41,21 +41,14 @@ fn write_outcome(
     }
 }
 
-// One read into `buf`, from index `from` on: how many bytes were read. None are the input's end.
-fn read_more<R: Read>(input: &mut R, buf: &mut [u8], from: usize) -> io::Result<usize>
-    requires { from ≤ length buf.old }
-    ensures { IfOk result (λ n. from + n ≤ length buf.new) }
-{
-    input.read(&mut buf[from..])
-}
-
-// Reads the input to its end, or as much of it as `buf` has room for, or until a read fails.
+// Reads the input to its end, which a read of no bytes is, or as much of it as `buf` has room for, or until a read fails. std's `read_exact`
+// would do, but says nothing of an input that is shorter.
 fn read_all<R: Read>(input: &mut R, buf: &mut [u8]) -> io::Result<usize>
     ensures { IfOk result (λ n. n ≤ length buf.new) }
 {
     let mut len = 0;
     while len < buf.len() {
-        let more = read_more(input, buf, len)?;
+        let more = input.read(&mut buf[len..])?;
         if more == 0 {
             break;
         }
@@ -69,14 +62,11 @@ fn fail(rt: &impl Eprint, what: &str, error: io::Error) -> io::Result<()> {
     let mut text = [0u8; 256];
     let mut room = &mut text[..];
     write!(room, "{error}")?;
-    let why = match str::from_utf8(&text) {
-        Ok(words) => words.trim_end_matches('\0'),
-        Err(_) => "",
-    };
-    match why.split_once(" (os error ") {
-        Some((words, _)) => eprintln!(rt; "{what}: {words}"),
-        None => eprintln!(rt; "{what}: {why}"),
-    }
+    let why = str::from_utf8(&text).unwrap_or("").trim_end_matches('\0');
+    let words = why
+        .split_once(" (os error ")
+        .map_or(why, |(words, _)| words);
+    eprintln!(rt; "{what}: {words}")
 }
 
 // Writes what comes of an input, or says on standard error why that couldn't be written.
