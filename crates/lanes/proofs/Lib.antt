@@ -1,2 +1,3 @@
 -- Laws of blocks, which callers cite.
 pub mod Filled
+pub mod Overwritten

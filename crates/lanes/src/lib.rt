@@ -22,14 +22,12 @@ impl Lanes {
     pub const PIXELS: usize = 16;
 }
 
-// Inner: stores a block of values in s, from `at` on.
-pub fn put_block(s: &mut [f32], at: usize, block: [f32; Lanes::PIXELS])
-    requires { at + Lanes.PIXELS ≤ length s.old }
-    ensures { s.new ≡ put s.old at Lanes.PIXELS (λ k. get_or block k nan) }
+// Inner: stores a block of values in s, from `at` on. A block has any length, a constant where it is called, so that it becomes wide stores.
+pub fn put_block<const N: usize>(s: &mut [f32], at: usize, block: [f32; N])
+    requires { at + N ≤ length s.old }
+    ensures { s.new ≡ put s.old at N (λ k. get_or block.entry k nan) }
 {
-    for k in 0..Lanes::PIXELS {
-        s[at + k] = block[k];
-    }
+    s[at..at + N].copy_from_slice(&block);
 }
 
 // Inner: stores half a block, a value for each of its cells, in s from `at` on.
@@ -37,9 +35,7 @@ pub fn put_eight(s: &mut [f32], at: usize, block: [f32; Lanes::CELLS])
     requires { at + 8 ≤ length s.old }
     ensures { s.new ≡ put s.old at 8 (λ k. get_or block k nan) }
 {
-    for k in 0..Lanes::CELLS {
-        s[at + k] = block[k];
-    }
+    put_block(s, at, block);
 }
 
 // Inner: stores a block of bytes as floats in s, from `at` on.
@@ -48,6 +44,6 @@ pub fn put_bytes(s: &mut [f32], at: usize, block: [u8; Lanes::PIXELS])
     ensures { s.new ≡ put s.old at 16 (λ k. f32 (get_or block k 0)) }
 {
     for i in 0..Lanes::PIXELS {
-        s[at + i] = block[i] as f32;
+        s[at + i] = f32::from(block[i]);
     }
 }

@@ -1,4 +1,3 @@
-use mathlib.Core.Path.{refl}
 use native.Mathlib.Omega.{arith}
 use Rattle.laws.proofs.Lists.{run_end, run_more, run_none}
 use Rattle.lanes.proofs.put_bytes.Goals as goal
@@ -9,7 +8,7 @@ loop-i-init c =
 
 pub loop-i-preserved : goal.loop-i-preserved
 loop-i-preserved c =
-    (omega arith, run_more c.loop-i.invariant.1 _ refl)
+    (omega arith, run_more c.loop-i.invariant.1 _ c.from.ensures)
 
 pub shape_of-s : goal.shape_of-s
 shape_of-s c =
