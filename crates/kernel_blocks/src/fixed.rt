@@ -14,6 +14,7 @@ ghost use Rattle.kernel_blocks.specs.Inner.Stores.{block_pixel};
 use crate::limits::limit_byte;
 use crate::stores::Block;
 use kernels::Table;
+use std::array::from_fn;
 
 // A sample of one byte as an index. The contract keeps that it is a byte.
 fn index(c: u8) -> usize
@@ -23,15 +24,12 @@ fn index(c: u8) -> usize
 }
 
 // The entries of table n at sixteen whole samples of chroma.
+#[tactic(auto, using(crate::proofs::FixedRows::small_back))]
 fn entries(t: &[[i32; 256]], n: usize, chroma: [u8; Block::LEN]) -> [i32; Block::LEN]
     requires { (n < length t.now) × ((v : ℕ) → v < 256 → Small (table_entry t.now n v)) }
     ensures { ((k : ℕ) → k < Block.LEN → (get_or chroma k 0 < 256) × (get_or result k (pos 0) ≡ table_entry t.now n (get_or chroma k 0))) }
 {
-    let mut v = [0i32; Block::LEN];
-    for i in 0..Block::LEN {
-        v[i] = t[n][index(chroma[i])];
-    }
-    v
+    from_fn(|i| t[n][index(chroma[i])])
 }
 
 // Luma and an offset, limited to 0..=255.
@@ -51,18 +49,16 @@ fn shifted(cb_part: i32, cr_part: i32) -> i32
 }
 
 // The red or the blue row of a block, from the offsets of its pixels.
+#[tactic(auto, using(crate::proofs::FixedRows::small_back))]
 fn offset_row(y: [u16; Block::LEN], offset: [i32; Block::LEN]) -> [u8; Block::LEN]
     requires { ((k : ℕ) → k < Block.LEN → Small (get_or offset k (pos 0))) }
     ensures { ((k : ℕ) → k < Block.LEN → get_or result k 0 ≡ limit 255 (pos (get_or y k 0) +ℤ get_or offset k (pos 0))) }
 {
-    let mut row = [0u8; Block::LEN];
-    for i in 0..Block::LEN {
-        row[i] = plus(y[i], offset[i]);
-    }
-    row
+    from_fn(|i| plus(y[i], offset[i]))
 }
 
 // The green row of a block, from the parts of its pixels' offsets.
+#[tactic(auto, using(crate::proofs::FixedRows::small_back))]
 fn green_row(
     y: [u16; Block::LEN],
     cb_part: [i32; Block::LEN],
@@ -72,11 +68,7 @@ fn green_row(
     ensures { ((k : ℕ) → k < Block.LEN → get_or result k 0 ≡ limit 255
         (pos (get_or y k 0) +ℤ floor_div (get_or cb_part k (pos 0) +ℤ get_or cr_part k (pos 0)) 65536)) }
 {
-    let mut row = [0u8; Block::LEN];
-    for i in 0..Block::LEN {
-        row[i] = plus(y[i], shifted(cb_part[i], cr_part[i]));
-    }
-    row
+    from_fn(|i| plus(y[i], shifted(cb_part[i], cr_part[i])))
 }
 
 // The red row of a block.

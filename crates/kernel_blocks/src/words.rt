@@ -6,6 +6,7 @@ ghost use Rattle.kernel_blocks.specs.Inner.Words.{Word};
 ghost use Rattle.kernels.specs.Inner.Kernels.{rgb};
 
 use crate::stores::Block;
+use std::array::from_fn;
 
 // Four bytes as a word, the first the lowest.
 fn word(a: u8, b: u8, c: u8, d: u8) -> u32
@@ -26,17 +27,13 @@ fn fourth(dst: &[u8], p: usize, low: u32) -> u32
 }
 
 // The words of a block's pixels, with the fourth bytes that dst holds.
+#[tactic(auto, using(crate::proofs::Packed::joined))]
 fn words(dst: &[u8], at: usize, low: u32, rows: [[u8; Block::LEN]; 3]) -> [u32; Block::LEN]
     requires { (low ≡ 16777215) × (at + Block.LEN * 4 ≤ length dst.now) }
     ensures { ((k : ℕ) → k < Block.LEN
         → Word (get_or result k 0) (block_pixel rows k) (get_or dst.now (at + k * 4 + 3) 0)) }
 {
-    let mut w = [0u32; Block::LEN];
-    for i in 0..Block::LEN {
-        let colour = word(rows[0][i], rows[1][i], rows[2][i], 0);
-        w[i] = colour + fourth(dst, at + i * 4, low);
-    }
-    w
+    from_fn(|i| word(rows[0][i], rows[1][i], rows[2][i], 0) + fourth(dst, at + i * 4, low))
 }
 
 // Stores the four bytes of a word from p on, the lowest first.

@@ -11,9 +11,8 @@ tone_near-requires c =
 
 pub returns-then-doubt-eq0 : goal.returns-then-doubt-eq0
 returns-then-doubt-eq0 c =
-    λ n h.
     let p = c.requires in
-    c.limit_sum.ensures ∙ rw c.tone_near.ensures.0 (tone_byte p.1 p.0 h (lowered_held c.lower.ensures) (p.3 c.if-doubt-eq0.true))
+    record { is = λ n h. c.limit_sum.ensures ∙ rw c.tone_near.ensures.0 (tone_byte p.1 p.0 h (lowered_held c.lower.ensures) (p.3 c.if-doubt-eq0.true)) }
 
 pub studio_chroma-requires : goal.studio_chroma-requires
 studio_chroma-requires c =
@@ -21,4 +20,4 @@ studio_chroma-requires c =
 
 pub returns : goal.returns
 returns c =
-    λ n h. let a = c.args in c.studio_chroma.ensures ∙ ap (studio_chroma a.m a.l) (c.in_256ths.ensures.1 n h)
+    let a = c.args in record { is = λ n h. c.studio_chroma.ensures ∙ ap (studio_chroma a.m a.l) (c.in_256ths.ensures.1 n h) }
