@@ -5,6 +5,7 @@
 // `fixed_blocks`), and otherwise pixel by pixel (`pixels`); both give the same bytes, those of `ranged_row` in specs/Inner/Colours.
 #![tactic(auto)]
 
+mod blocks;
 mod exact_blocks;
 mod fixed_blocks;
 mod pixels;

@@ -88,12 +88,10 @@ pub fn plain_row(
         kernel layout (plane_of plane.now stride) row s.now at size out.old }
 {
     let w = layout.w;
-    let mut x = 0;
-    while x < w {
+    for x in 0..w {
         let y = luma_at(layout, plane, stride, row, x);
         let p = plain_pixel(kernel, y, s[x], s[w + x], layout.maxval);
         kernel_blocks::put_pixel(out, at + x * size, p.r, p.g, p.b);
-        x += 1;
     }
 }
 
@@ -114,11 +112,9 @@ pub fn studio_plain_row(
         layout (plane_of plane.now stride) row s.now at size out.old }
 {
     let w = layout.w;
-    let mut x = 0;
-    while x < w {
+    for x in 0..w {
         let y = luma_at(layout, plane, stride, row, x);
         let rgb = studio_pixel(y, s[x], s[w + x]);
         kernel_blocks::put_pixel(out, at + x * size, rgb.r, rgb.g, rgb.b);
-        x += 1;
     }
 }

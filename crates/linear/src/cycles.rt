@@ -33,11 +33,9 @@ fn cycle_step(turn: Cycle, s: &mut [f32], src: usize, r: usize, dst: usize)
     requires { (r ≤ 4) × (dst + r ≤ src) × ((k : ℕ) → k < r → src + (get_or turn.cells k 0 + 1) < length s.old) }
     ensures { s.new ≡ cycle_run turn src r dst s.old }
 {
-    let mut k = 0;
-    while k < r {
+    for k in 0..r {
         let i = turn.cells[k];
         s[dst + k] = lerp(s[src + i], s[src + (i + 1)], turn.parts[k]);
-        k += 1;
     }
 }
 
@@ -58,10 +56,8 @@ fn each_cycle(
     requires n_bound { (dst + from + r * n ≤ src) × (src + cw ≤ length s.old) }
     ensures { s.new ≡ across_run axis src cw r dst from (r * n) s.old }
 {
-    let mut i = 0;
-    while i < n {
+    for i in 0..n {
         cycle_step(turn, s, src + axis.num * i, r, dst + from + r * i);
-        i += 1;
     }
 }
 

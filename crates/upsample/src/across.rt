@@ -71,13 +71,11 @@ fn inner_pairs(
         (λ x. across_row bias cw (sums sample_bytes plane.now near far) (2 + x)) }
 {
     let n = cw - 2;
-    let mut k = 0;
-    while k < n {
+    for k in 0..n {
         let before = cell_sum(plane, sample_bytes, near, far, k);
         let middle = cell_sum(plane, sample_bytes, near, far, k + 1);
         let after = cell_sum(plane, sample_bytes, near, far, k + 2);
         put_pair(out, at + 2 * k, before, middle, after, bias);
-        k += 1;
     }
 }
 
@@ -99,13 +97,11 @@ fn inner_bytes(
         (λ x. across_row bias cw (sums 1 plane.now near far) (2 + x)) }
 {
     let n = cw - 2;
-    let mut k = 0;
-    while k < n {
+    for k in 0..n {
         let before = byte_sum(plane, near, far, k);
         let middle = byte_sum(plane, near, far, k + 1);
         let after = byte_sum(plane, near, far, k + 2);
         put_pair_u16(out, at + 2 * k, before, middle, after, bias);
-        k += 1;
     }
 }
 

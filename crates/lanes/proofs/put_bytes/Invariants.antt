@@ -6,7 +6,4 @@ use Rattle.laws.proofs.Lists.{Run}
 use Rattle.lanes.proofs.put_bytes.Given as goal
 
 abbrev pub invariant-loop-i : goal.invariant-loop-i
-invariant-loop-i l = (l.i ≤ 16) × Run l.initial.s l.s l.at l.i (λ k. f32 (get_or l.block k 0))
-
-abbrev pub decreases-loop-i : goal.decreases-loop-i
-decreases-loop-i l = 16 - l.i
+invariant-loop-i l = Run l.initial.s l.s l.at l.i (λ k. f32 (get_or l.block k 0))

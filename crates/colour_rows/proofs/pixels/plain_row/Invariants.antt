@@ -7,7 +7,4 @@ use Rattle.image.specs.Samples.{plane_of}
 use Rattle.colour_rows.proofs.pixels.plain_row.Given as goal
 
 abbrev pub invariant-loop-x : goal.invariant-loop-x
-invariant-loop-x l = (l.x ≤ l.layout.w) × Stored l.initial.out l.out l.at l.size l.x (row_colour l.kernel l.layout (plane_of l.plane l.stride) l.row l.s)
-
-abbrev pub decreases-loop-x : goal.decreases-loop-x
-decreases-loop-x l = l.layout.w - l.x
+invariant-loop-x l = Stored l.initial.out l.out l.at l.size l.x (row_colour l.kernel l.layout (plane_of l.plane l.stride) l.row l.s)

@@ -7,7 +7,4 @@ use Rattle.kernel_blocks.specs.Inner.Stores.{block_pixel}
 use Rattle.kernel_blocks.proofs.stores.put_block.Given as goal
 
 abbrev pub invariant-loop-i : goal.invariant-loop-i
-invariant-loop-i l = (l.i ≤ 16) × (l.p ≡ l.at + l.i * l.size) × (l.dst ≡ pixels l.initial.dst l.at l.size (block_pixel l.rows) l.i)
-
-abbrev pub decreases-loop-i : goal.decreases-loop-i
-decreases-loop-i l = 16 - l.i
+invariant-loop-i l = (l.p ≡ l.at + l.i * l.size) × (l.dst ≡ pixels l.initial.dst l.at l.size (block_pixel l.rows) l.i)

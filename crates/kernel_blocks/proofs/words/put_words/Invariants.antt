@@ -7,7 +7,4 @@ use Rattle.kernel_blocks.proofs.Packed.{AsPixels}
 use Rattle.kernel_blocks.proofs.words.put_words.Given as goal
 
 abbrev pub invariant-loop-i : goal.invariant-loop-i
-invariant-loop-i l = (l.i ≤ 16) × (length l.dst ≡ length l.initial.dst) × AsPixels l.initial.dst l.dst l.at l.w l.i
-
-abbrev pub decreases-loop-i : goal.decreases-loop-i
-decreases-loop-i l = 16 - l.i
+invariant-loop-i l = (length l.dst ≡ length l.initial.dst) × AsPixels l.initial.dst l.dst l.at l.w l.i

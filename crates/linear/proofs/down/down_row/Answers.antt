@@ -7,7 +7,7 @@ use Rattle.linear.proofs.down.down_row.Goals as goal
 
 pub loop-i-init : goal.loop-i-init
 loop-i-init c =
-    (omega arith, run_none _ _ _)
+    run_none _ _ _
 
 pub overflow_mul-i : goal.overflow_mul-i
 overflow_mul-i c =
@@ -44,9 +44,9 @@ loop-i-preserved c =
     let near = c.sample-near.ensures in
     let far = c.sample-far.ensures in
     let value = c.lerp.ensures in
-    (omega arith, run_more c.loop-i.invariant.1 _ (cc))
+    run_more c.loop-i.invariant _ (cc)
 
 pub returns : goal.returns
 unfolding down_run
 returns c =
-    run_end c.loop-i.invariant.1 _ (omega arith) (omega arith)
+    run_end c.loop-i.invariant _ (omega arith) (omega arith)

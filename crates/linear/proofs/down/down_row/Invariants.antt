@@ -6,7 +6,4 @@ use Rattle.laws.proofs.Lists.{Run}
 use Rattle.linear.proofs.down.down_row.Given as goal
 
 abbrev pub invariant-loop-i : goal.invariant-loop-i
-invariant-loop-i l = (l.i ≤ l.n) × Run l.initial.s l.s l.dst l.i (down_at l.plane l.sample_bytes l.a l.b l.f)
-
-abbrev pub decreases-loop-i : goal.decreases-loop-i
-decreases-loop-i l = l.n - l.i
+invariant-loop-i l = Run l.initial.s l.s l.dst l.i (down_at l.plane l.sample_bytes l.a l.b l.f)

@@ -7,7 +7,4 @@ use Rattle.laws.proofs.Lists.{Run}
 use Rattle.linear.proofs.rounded.store_row.Given as goal
 
 abbrev pub invariant-loop-i : goal.invariant-loop-i
-invariant-loop-i l = (l.i ≤ l.n) × Run l.initial.out l.out l.at l.i (λ k. round_clamped l.maxval (cell_at l.s l.src k))
-
-abbrev pub decreases-loop-i : goal.decreases-loop-i
-decreases-loop-i l = l.n - l.i
+invariant-loop-i l = Run l.initial.out l.out l.at l.i (λ k. round_clamped l.maxval (cell_at l.s l.src k))

@@ -6,7 +6,4 @@ use Rattle.linear.specs.Inner.AcrossRows.{parts_in, between_at}
 use Rattle.linear.proofs.twos.twos_block.Given as goal
 
 abbrev pub invariant-loop-k : goal.invariant-loop-k
-invariant-loop-k l = (l.k ≤ 8) × Run l.initial.v l.v 0 (2 * l.k) (λ m. between_at (parts_in l.parts) 2 l.s l.src (2 * l.i + m))
-
-abbrev pub decreases-loop-k : goal.decreases-loop-k
-decreases-loop-k l = 8 - l.k
+invariant-loop-k l = Run l.initial.v l.v 0 (2 * l.k) (λ m. between_at (parts_in l.parts) 2 l.s l.src (2 * l.i + m))

@@ -10,7 +10,7 @@ use Rattle.upsample.proofs.across.inner_bytes.Goals as goal
 
 pub loop-k-init : goal.loop-k-init
 loop-k-init c =
-    (omega arith, run_none _ _ _)
+    run_none _ _ _
 
 pub byte_sum-before-requires : goal.byte_sum-before-requires
 byte_sum-before-requires c =
@@ -28,17 +28,14 @@ pub loop-k-preserved : goal.loop-k-preserved
 loop-k-preserved c =
     let a = c.args in
     let v = sums 1 a.plane.now a.near a.far in
-    let k = c.loop-k.k in (
-      omega arith,
-      run_two c.loop-k.invariant.1 _ (a.at + 2 * k) (2 * (k + 1)) _ _ c.put_pair_u16.ensures refl (omega arith)
-          (omega (arith, pair_left a.cw v a.bias k (k + 1) (2 + 2 * k) (omega arith) (omega arith), c.byte_sum-before.ensures.0, c.byte_sum-middle.ensures.0))
-          (omega (arith, pair_right a.cw v a.bias (k + 1) (k + 2) (2 + (2 * k + 1)) (omega arith) (omega arith), c.byte_sum-middle.ensures.0, c.byte_sum-after.ensures.0)),
-    )
+    let k = c.loop-k.k in run_two c.loop-k.invariant _ (a.at + 2 * k) (2 * (k + 1)) _ _ c.put_pair_u16.ensures refl (omega arith)
+    (omega (arith, pair_left a.cw v a.bias k (k + 1) (2 + 2 * k) (omega arith) (omega arith), c.byte_sum-before.ensures.0, c.byte_sum-middle.ensures.0))
+    (omega (arith, pair_right a.cw v a.bias (k + 1) (k + 2) (2 + (2 * k + 1)) (omega arith) (omega arith), c.byte_sum-middle.ensures.0, c.byte_sum-after.ensures.0))
 
 pub shape_of-out : goal.shape_of-out
 shape_of-out c =
-    c.loop-k.invariant.1.len
+    c.loop-k.invariant.len
 
 pub returns : goal.returns
 returns c =
-    run_end c.loop-k.invariant.1 _ (omega arith) (omega arith)
+    run_end c.loop-k.invariant _ (omega arith) (omega arith)

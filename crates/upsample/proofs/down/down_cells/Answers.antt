@@ -7,7 +7,7 @@ use Rattle.upsample.proofs.down.down_cells.Goals as goal
 
 pub loop-x-init : goal.loop-x-init
 loop-x-init c =
-    (omega arith, run_none _ _ _)
+    run_none _ _ _
 
 pub cell-requires : goal.cell-requires
 cell-requires c =
@@ -20,12 +20,12 @@ cell-requires-in-loop-x c =
 pub loop-x-preserved : goal.loop-x-preserved
 unfolding down_row
 loop-x-preserved c =
-    (omega arith, run_more c.loop-x.invariant.1 _ (rw (sym c.cell.ensures.0, sym c.cell-in-loop-x.ensures.0) c.one_axis.ensures))
+    run_more c.loop-x.invariant _ (rw (sym c.cell.ensures.0, sym c.cell-in-loop-x.ensures.0) c.one_axis.ensures)
 
 pub shape_of-out : goal.shape_of-out
 shape_of-out c =
-    c.loop-x.invariant.1.len
+    c.loop-x.invariant.len
 
 pub returns : goal.returns
 returns c =
-    run_end c.loop-x.invariant.1 _ (omega arith) (omega arith)
+    run_end c.loop-x.invariant _ (omega arith) (omega arith)
