@@ -23,6 +23,6 @@ pub fn down_row(
     for i in 0..n {
         let near = image::sample(plane, sample_bytes, a + i * sample_bytes);
         let far = image::sample(plane, sample_bytes, b + i * sample_bytes);
-        s[dst + i] = lerp(near as f32, far as f32, f);
+        s[dst + i] = lerp(f32::from(near), f32::from(far), f);
     }
 }

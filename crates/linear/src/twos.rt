@@ -38,7 +38,7 @@ pub fn across_twos(s: &mut [f32], src: usize, parts: [f32; 4], n: usize, dst: us
 {
     let mut done = 0;
     while done < n {
-        let i = laws::least(done, n - Lanes::CELLS);
+        let i = done.min(n - Lanes::CELLS);
         let v = twos_block(s, src, parts, i);
         put_block(s, dst + 2 * i, v);
         done = i + Lanes::CELLS;

@@ -11,16 +11,16 @@ use laws::Answer;
 fn ratios_are(layout: Layout, rh: usize, rv: usize) -> bool
     ensures { result ≡ ratios layout rh rv }
 {
-    laws::both(layout.rh == rh, layout.rv == rv)
+    layout.rh == rh && layout.rv == rv
 }
 
 // Refusal 6's test: ratios other than (2,1), (1,2) and (2,2), or two cells or fewer across at rh 2.
+#[tactic(auto, unfolding(crate::specs::Triangular::bad_triangular))]
 fn bad_triangular(layout: Layout) -> bool
     ensures { result ≡ bad_triangular layout }
 {
-    let other = laws::either(ratios_are(layout, 1, 2), ratios_are(layout, 2, 2));
-    let known = laws::either(ratios_are(layout, 2, 1), other);
-    laws::either(!known, laws::both(layout.rh == 2, layout.cw <= 2))
+    let known = ratios_are(layout, 2, 1) || ratios_are(layout, 1, 2) || ratios_are(layout, 2, 2);
+    !known || layout.rh == 2 && layout.cw <= 2
 }
 
 // Inner: the first of refusals 2, 3, 4, 18, 5, 6, 16, 7, 17 and 10 that applies, which is the order of the table. `room` is the length of the output.

@@ -27,7 +27,7 @@ fn down_cells(
         out[at + x] = one_axis(
             cell(plane, sample_bytes, near, x),
             cell(plane, sample_bytes, far, x),
-            bias as u32,
+            u32::from(bias),
         );
     }
 }

@@ -13,40 +13,40 @@ loop-done-init c =
 
 pub twos_block-v-requires : goal.twos_block-v-requires
 twos_block-v-requires c =
-    let place : (let i = c.least-i.result in (i ≤ c.loop-done.done) × (c.loop-done.done < i + 8) × (i + 8 ≤ c.args.n)) = let e = c.least-i.ensures in (omega arith, omega arith, omega arith) in
+    let place : (let i = c.min-i.result in (i ≤ c.loop-done.done) × (c.loop-done.done < i + 8) × (i + 8 ≤ c.args.n)) = let e = c.min-i.ensures in (omega arith, omega arith, omega arith) in
     let h = place in let l = c.loop-done.invariant.1.len in omega arith
 
 pub overflow_mul-i : goal.overflow_mul-i
 overflow_mul-i c =
-    let place : (let i = c.least-i.result in (i ≤ c.loop-done.done) × (c.loop-done.done < i + 8) × (i + 8 ≤ c.args.n)) = let e = c.least-i.ensures in (omega arith, omega arith, omega arith) in
+    let place : (let i = c.min-i.result in (i ≤ c.loop-done.done) × (c.loop-done.done < i + 8) × (i + 8 ≤ c.args.n)) = let e = c.min-i.ensures in (omega arith, omega arith, omega arith) in
     let h = place in omega arith
 
 pub overflow_add-dst : goal.overflow_add-dst
 overflow_add-dst c =
-    let place : (let i = c.least-i.result in (i ≤ c.loop-done.done) × (c.loop-done.done < i + 8) × (i + 8 ≤ c.args.n)) = let e = c.least-i.ensures in (omega arith, omega arith, omega arith) in
+    let place : (let i = c.min-i.result in (i ≤ c.loop-done.done) × (c.loop-done.done < i + 8) × (i + 8 ≤ c.args.n)) = let e = c.min-i.ensures in (omega arith, omega arith, omega arith) in
     let h = place in omega arith
 
 pub put_block-requires : goal.put_block-requires
 put_block-requires c =
-    let place : (let i = c.least-i.result in (i ≤ c.loop-done.done) × (c.loop-done.done < i + 8) × (i + 8 ≤ c.args.n)) = let e = c.least-i.ensures in (omega arith, omega arith, omega arith) in
+    let place : (let i = c.min-i.result in (i ≤ c.loop-done.done) × (c.loop-done.done < i + 8) × (i + 8 ≤ c.args.n)) = let e = c.min-i.ensures in (omega arith, omega arith, omega arith) in
     let h = place in let l = c.loop-done.invariant.1.len in omega arith
 
 pub overflow_add-done : goal.overflow_add-done
 overflow_add-done c =
-    let place : (let i = c.least-i.result in (i ≤ c.loop-done.done) × (c.loop-done.done < i + 8) × (i + 8 ≤ c.args.n)) = let e = c.least-i.ensures in (omega arith, omega arith, omega arith) in
+    let place : (let i = c.min-i.result in (i ≤ c.loop-done.done) × (c.loop-done.done < i + 8) × (i + 8 ≤ c.args.n)) = let e = c.min-i.ensures in (omega arith, omega arith, omega arith) in
     let h = place in omega arith
 
 pub loop-done-smaller : goal.loop-done-smaller
 loop-done-smaller c =
-    let place : (let i = c.least-i.result in (i ≤ c.loop-done.done) × (c.loop-done.done < i + 8) × (i + 8 ≤ c.args.n)) = let e = c.least-i.ensures in (omega arith, omega arith, omega arith) in
+    let place : (let i = c.min-i.result in (i ≤ c.loop-done.done) × (c.loop-done.done < i + 8) × (i + 8 ≤ c.args.n)) = let e = c.min-i.ensures in (omega arith, omega arith, omega arith) in
     let h = place in omega arith
 
 pub loop-done-preserved : goal.loop-done-preserved
 loop-done-preserved c =
-    let place : (let i = c.least-i.result in (i ≤ c.loop-done.done) × (c.loop-done.done < i + 8) × (i + 8 ≤ c.args.n)) = let e = c.least-i.ensures in (omega arith, omega arith, omega arith) in
+    let place : (let i = c.min-i.result in (i ≤ c.loop-done.done) × (c.loop-done.done < i + 8) × (i + 8 ≤ c.args.n)) = let e = c.min-i.ensures in (omega arith, omega arith, omega arith) in
     let h = place in
     let a = c.args in
-    let i = c.least-i.result in
+    let i = c.min-i.result in
     let r = c.loop-done.invariant.1 in
     let z = run_over r _ (2 * i) 16 nan (c.put_block.ensures ∙ put_same _ _ 16 _ _ (λ k q. c.twos_block-v.ensures k q ∙ between_same (parts_in a.parts) 2 c.loop-done.s a.s.now a.src (2 * i + k) (λ m. run_after r (a.src + m) nan (omega arith)))) (omega arith) (omega arith) (omega arith) in
     (h.2, run_at z (2 * (i + 8)) (omega arith))

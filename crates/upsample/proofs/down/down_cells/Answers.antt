@@ -20,7 +20,7 @@ cell-requires-in-loop-x c =
 pub loop-x-preserved : goal.loop-x-preserved
 unfolding down_row
 loop-x-preserved c =
-    run_more c.loop-x.invariant _ (rw (sym c.cell.ensures.0, sym c.cell-in-loop-x.ensures.0) c.one_axis.ensures)
+    run_more c.loop-x.invariant _ (rw (sym c.cell.ensures.0, sym c.cell-in-loop-x.ensures.0, sym c.from.ensures) c.one_axis.ensures)
 
 pub shape_of-out : goal.shape_of-out
 shape_of-out c =
