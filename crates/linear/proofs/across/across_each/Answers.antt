@@ -15,18 +15,6 @@ pub loop-i-init : goal.loop-i-init
 loop-i-init c =
     run_at (run_none _ _ _) _ (omega arith)
 
-pub overflow_mul-r : goal.overflow_mul-r
-overflow_mul-r c =
-    let a = c.args in omega (arith, turn a.r c.loop-i.i a.n (omega arith))
-
-pub overflow_add-dst : goal.overflow_add-dst
-overflow_add-dst c =
-    let a = c.args in omega (arith, turn a.r c.loop-i.i a.n (omega arith))
-
-pub put_between-requires : goal.put_between-requires
-put_between-requires c =
-    let a = c.args in omega (arith, turn a.r c.loop-i.i a.n (omega arith))
-
 pub loop-i-preserved : goal.loop-i-preserved
 loop-i-preserved c =
     let a = c.args in
@@ -36,10 +24,6 @@ loop-i-preserved c =
     let left = run_after w (a.src + i) nan (omega arith) in
     let right = run_after w (a.src + i + 1) nan (omega arith) in
     run_run w _ (a.dst + a.r * i) (a.r * (i + 1)) a.r (c.put_between.ensures ∙ put_same _ _ _ _ _ (between_more (parts_in a.parts) a.r a.s.now c.loop-i.s a.src i left right)) refl (omega arith)
-
-pub shape_of-s : goal.shape_of-s
-shape_of-s c =
-    c.loop-i.invariant.len
 
 pub returns : goal.returns
 unfolding between_run

@@ -1,4 +1,4 @@
-use mathlib.Core.Path.{◌≡◌, refl, ◌∙◌}
+use mathlib.Core.Path.{refl, ◌∙◌}
 use Prim.Native.Nat.{◌+◌}
 use lib.Ieee.{nan}
 use Rattle.linear.specs.Inner.AcrossRows.{across_run}
@@ -9,10 +9,6 @@ use Rattle.linear.proofs.across.across_taps.Goals as goal
 pub loop-i-init : goal.loop-i-init
 loop-i-init c =
     run_none _ _ _
-
-pub tap_at-t-requires : goal.tap_at-t-requires
-tap_at-t-requires c =
-    (omega arith, omega arith, omega arith, omega arith, omega arith, λ (e : c.args.axis.num ≡ c.args.r). (let h = c.requires.num_le_r.5 e in omega arith))
 
 pub loop-i-preserved : goal.loop-i-preserved
 loop-i-preserved c =
@@ -25,10 +21,6 @@ loop-i-preserved c =
     let e = t.ensures.is in
     let v = c.lerp.ensures in
     run_more w _ (v ∙ rw (p, q, e) refl)
-
-pub shape_of-s : goal.shape_of-s
-shape_of-s c =
-    c.loop-i.invariant.len
 
 pub returns : goal.returns
 unfolding across_run

@@ -1,5 +1,4 @@
-use native.Mathlib.Omega.{arith}
-use Rattle.laws.proofs.Lists.{run_none, run_more, run_end}
+use Rattle.laws.proofs.Lists.{run_none, run_more}
 use Rattle.linear.proofs.across.put_between.Goals as goal
 
 pub loop-k-init : goal.loop-k-init
@@ -9,11 +8,3 @@ loop-k-init c =
 pub loop-k-preserved : goal.loop-k-preserved
 loop-k-preserved c =
     run_more c.loop-k.invariant _ c.lerp.ensures
-
-pub shape_of-s : goal.shape_of-s
-shape_of-s c =
-    c.loop-k.invariant.len
-
-pub returns : goal.returns
-returns c =
-    run_end c.loop-k.invariant _ (omega arith) (omega arith)

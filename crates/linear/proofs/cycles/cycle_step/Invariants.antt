@@ -1,5 +1,4 @@
 -- A loop that writes a run (`Run` of laws), a value a turn. The cells lie behind what is written, and by `run_after` are read as they were.
-use Prim.Native.Nat.{◌-◌, ◌≤◌}
 use Rattle.laws.proofs.Lists.{Run}
 use Rattle.linear.specs.Inner.AcrossRows.{cycle_at}
 use Rattle.linear.proofs.cycles.cycle_step.Given as goal

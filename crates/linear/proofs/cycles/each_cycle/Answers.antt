@@ -15,46 +15,6 @@ pub loop-i-init : goal.loop-i-init
 loop-i-init c =
     run_at (run_none _ _ _) _ (omega arith)
 
-pub overflow_mul-axis : goal.overflow_mul-axis
-overflow_mul-axis c =
-    let a = c.args in
-    let l = c.loop-i in
-    let x = next a.axis.num l.i a.n (omega arith) in
-    let y = next a.r l.i a.n (omega arith) in
-    omega arith
-
-pub overflow_add-src : goal.overflow_add-src
-overflow_add-src c =
-    let a = c.args in
-    let l = c.loop-i in
-    let x = next a.axis.num l.i a.n (omega arith) in
-    let y = next a.r l.i a.n (omega arith) in
-    omega arith
-
-pub overflow_add-dst : goal.overflow_add-dst
-overflow_add-dst c =
-    let a = c.args in
-    let l = c.loop-i in
-    let x = next a.axis.num l.i a.n (omega arith) in
-    let y = next a.r l.i a.n (omega arith) in
-    omega arith
-
-pub overflow_mul-r : goal.overflow_mul-r
-overflow_mul-r c =
-    let a = c.args in
-    let l = c.loop-i in
-    let x = next a.axis.num l.i a.n (omega arith) in
-    let y = next a.r l.i a.n (omega arith) in
-    omega arith
-
-pub overflow_add-dst-in-loop-i : goal.overflow_add-dst-in-loop-i
-overflow_add-dst-in-loop-i c =
-    let a = c.args in
-    let l = c.loop-i in
-    let x = next a.axis.num l.i a.n (omega arith) in
-    let y = next a.r l.i a.n (omega arith) in
-    omega arith
-
 pub cycle_step-requires : goal.cycle_step-requires
 cycle_step-requires c =
     let a = c.args in
@@ -84,10 +44,6 @@ loop-i-preserved c =
     (turned_from a.axis a.r a.cw a.from a.n k l.i p.lt_num.3 p.lt_num.0 p.lt_num.1 p.lt_num.2 p.lt_num.4 h (omega arith))
     p.lt_num.5 h (λ x. run_after w (a.src + x) nan (omega arith))))
     refl (omega arith)
-
-pub shape_of-s : goal.shape_of-s
-shape_of-s c =
-    c.loop-i.invariant.len
 
 pub returns : goal.returns
 unfolding across_run

@@ -1,6 +1,5 @@
 -- A loop that writes a run (`Run` of laws), each value a lerp of two samples. Sample i lies within its row by `row_fits`: i < n gives
 -- (i + 1) * bytes <= n * bytes, the one product that omega doesn't find; with it every read and every address is linear arithmetic.
-use Prim.Native.Nat.{◌-◌, ◌≤◌}
 use Rattle.linear.specs.Inner.Down.{down_at}
 use Rattle.laws.proofs.Lists.{Run}
 use Rattle.linear.proofs.down.down_row.Given as goal

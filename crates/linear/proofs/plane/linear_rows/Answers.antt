@@ -19,17 +19,6 @@ pub loop-y-init : goal.loop-y-init
 loop-y-init c =
     (rows_none _ _ _, scratch_none _ _ _)
 
-pub linear_row-requires : goal.linear_row-requires
-linear_row-requires c =
-    let ready : Ready c.args.layout (plane_of c.args.plane.now c.args.stride) (length c.loop-y.s) = let r = c.requires.ready in record { shaped = r.shaped; plane = r.plane; scratch = rw c.loop-y.invariant.1.len r.scratch } in
-    record { ready = ready; y_lt_h = (omega arith, omega arith) }
-
-pub overflow_mul-y : goal.overflow_mul-y
-overflow_mul-y c =
-    let inside : c.loop-y.y * c.args.layout.w + c.args.layout.w ≤ length c.loop-y.out = let a = c.args in
-    omega (arith, row_fits c.loop-y.y a.layout.h a.layout.w (omega arith), mul_comm a.layout.w a.layout.h, c.loop-y.invariant.0.len) in
-    let h = inside in omega arith
-
 pub store_row-requires : goal.store_row-requires
 unfolding scratch_need
 store_row-requires c =
@@ -58,14 +47,6 @@ loop-y-preserved c =
           ∙ stored_is a.layout p l.y (l.y * a.layout.w) l.s l.out room),
       scratch_more l.invariant.1 _ row.ensures,
     )
-
-pub shape_of-s : goal.shape_of-s
-shape_of-s c =
-    c.loop-y.invariant.1.len
-
-pub shape_of-out : goal.shape_of-out
-shape_of-out c =
-    c.loop-y.invariant.0.len
 
 pub returns : goal.returns
 unfolding linear_plane

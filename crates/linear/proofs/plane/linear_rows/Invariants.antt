@@ -1,6 +1,5 @@
 -- Two invariants go round the loop: the rows of out that are written (`Rows` of laws) and scratch after as many rows (`Scratched`).
 -- A turn's hard step is `stored_is`: what `store_row` rounds out of scratch is the row that `linear_row` has just left there.
-use Prim.Native.Nat.{◌-◌, ◌≤◌}
 use Rattle.laws.proofs.Lists.{Rows}
 use Rattle.image.specs.Samples.{sample_at, plane_of}
 use Rattle.fround.specs.Rounding.{round_clamped}

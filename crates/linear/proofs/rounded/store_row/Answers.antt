@@ -18,10 +18,6 @@ loop-i-preserved c =
     let e : min a.maxval 4194304 ≡ a.maxval = omega arith in
     run_more l.invariant _ (c.round_clamped_by_grid.ensures.is ∙ ap (λ (k : ℕ). round_clamped k (cell_at a.s.now a.src l.i)) e)
 
-pub shape_of-out : goal.shape_of-out
-shape_of-out c =
-    c.loop-i.invariant.len
-
 pub returns : goal.returns
 unfolding store_run
 returns c =

@@ -11,36 +11,6 @@ pub loop-done-init : goal.loop-done-init
 loop-done-init c =
     (omega arith, run_none _ _ _)
 
-pub twos_block-v-requires : goal.twos_block-v-requires
-twos_block-v-requires c =
-    let place : (let i = c.min-i.result in (i ≤ c.loop-done.done) × (c.loop-done.done < i + 8) × (i + 8 ≤ c.args.n)) = let e = c.min-i.ensures in (omega arith, omega arith, omega arith) in
-    let h = place in let l = c.loop-done.invariant.1.len in omega arith
-
-pub overflow_mul-i : goal.overflow_mul-i
-overflow_mul-i c =
-    let place : (let i = c.min-i.result in (i ≤ c.loop-done.done) × (c.loop-done.done < i + 8) × (i + 8 ≤ c.args.n)) = let e = c.min-i.ensures in (omega arith, omega arith, omega arith) in
-    let h = place in omega arith
-
-pub overflow_add-dst : goal.overflow_add-dst
-overflow_add-dst c =
-    let place : (let i = c.min-i.result in (i ≤ c.loop-done.done) × (c.loop-done.done < i + 8) × (i + 8 ≤ c.args.n)) = let e = c.min-i.ensures in (omega arith, omega arith, omega arith) in
-    let h = place in omega arith
-
-pub put_block-requires : goal.put_block-requires
-put_block-requires c =
-    let place : (let i = c.min-i.result in (i ≤ c.loop-done.done) × (c.loop-done.done < i + 8) × (i + 8 ≤ c.args.n)) = let e = c.min-i.ensures in (omega arith, omega arith, omega arith) in
-    let h = place in let l = c.loop-done.invariant.1.len in omega arith
-
-pub overflow_add-done : goal.overflow_add-done
-overflow_add-done c =
-    let place : (let i = c.min-i.result in (i ≤ c.loop-done.done) × (c.loop-done.done < i + 8) × (i + 8 ≤ c.args.n)) = let e = c.min-i.ensures in (omega arith, omega arith, omega arith) in
-    let h = place in omega arith
-
-pub loop-done-smaller : goal.loop-done-smaller
-loop-done-smaller c =
-    let place : (let i = c.min-i.result in (i ≤ c.loop-done.done) × (c.loop-done.done < i + 8) × (i + 8 ≤ c.args.n)) = let e = c.min-i.ensures in (omega arith, omega arith, omega arith) in
-    let h = place in omega arith
-
 pub loop-done-preserved : goal.loop-done-preserved
 loop-done-preserved c =
     let place : (let i = c.min-i.result in (i ≤ c.loop-done.done) × (c.loop-done.done < i + 8) × (i + 8 ≤ c.args.n)) = let e = c.min-i.ensures in (omega arith, omega arith, omega arith) in
@@ -50,10 +20,6 @@ loop-done-preserved c =
     let r = c.loop-done.invariant.1 in
     let z = run_over r _ (2 * i) 16 nan (c.put_block.ensures ∙ put_same _ _ 16 _ _ (λ k q. c.twos_block-v.ensures k q ∙ between_same (parts_in a.parts) 2 c.loop-done.s a.s.now a.src (2 * i + k) (λ m. run_after r (a.src + m) nan (omega arith)))) (omega arith) (omega arith) (omega arith) in
     (h.2, run_at z (2 * (i + 8)) (omega arith))
-
-pub shape_of-s : goal.shape_of-s
-shape_of-s c =
-    c.loop-done.invariant.1.len
 
 pub returns : goal.returns
 unfolding between_run

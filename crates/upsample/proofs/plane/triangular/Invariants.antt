@@ -1,4 +1,3 @@
-use Prim.Native.Nat.{◌-◌, ◌≤◌}
 use Rattle.laws.proofs.Lists.{Rows}
 use Rattle.image.specs.Samples.{sample_at, plane_of}
 use Rattle.upsample.specs.Triangular.{triangular_sample}
