@@ -20,11 +20,10 @@ use std::array::from_fn;
 fn index(c: u8) -> usize
     ensures { (result ≡ c) × (result < 256) }
 {
-    c as usize
+    usize::from(c)
 }
 
 // The entries of table n at sixteen whole samples of chroma.
-#[tactic(auto, using(crate::proofs::FixedRows::small_back))]
 fn entries(t: &[[i32; 256]], n: usize, chroma: [u8; Block::LEN]) -> [i32; Block::LEN]
     requires { (n < length t.now) × ((v : ℕ) → v < 256 → Small (table_entry t.now n v)) }
     ensures { ((k : ℕ) → k < Block.LEN → (get_or chroma k 0 < 256) × (get_or result k (pos 0) ≡ table_entry t.now n (get_or chroma k 0))) }
@@ -37,7 +36,7 @@ fn plus(y: u16, offset: i32) -> u8
     requires { Small offset }
     ensures { result ≡ limit 255 (pos y +ℤ offset) }
 {
-    limit_byte(y as i32 + offset)
+    limit_byte(i32::from(y) + offset)
 }
 
 // Green's offset from its two parts, which are summed before the shift.
@@ -49,7 +48,6 @@ fn shifted(cb_part: i32, cr_part: i32) -> i32
 }
 
 // The red or the blue row of a block, from the offsets of its pixels.
-#[tactic(auto, using(crate::proofs::FixedRows::small_back))]
 fn offset_row(y: [u16; Block::LEN], offset: [i32; Block::LEN]) -> [u8; Block::LEN]
     requires { ((k : ℕ) → k < Block.LEN → Small (get_or offset k (pos 0))) }
     ensures { ((k : ℕ) → k < Block.LEN → get_or result k 0 ≡ limit 255 (pos (get_or y k 0) +ℤ get_or offset k (pos 0))) }
@@ -58,7 +56,6 @@ fn offset_row(y: [u16; Block::LEN], offset: [i32; Block::LEN]) -> [u8; Block::LE
 }
 
 // The green row of a block, from the parts of its pixels' offsets.
-#[tactic(auto, using(crate::proofs::FixedRows::small_back))]
 fn green_row(
     y: [u16; Block::LEN],
     cb_part: [i32; Block::LEN],

@@ -48,7 +48,7 @@ pub fn luma_part(l: u32, shift: f32) -> f32
     requires { l ≤ 511 }
     ensures { result ≡ luma_part shift l }
 {
-    Studio::LUMA * (l as u16 as f32) - shift
+    Studio::LUMA * f32::from(l as u16) - shift
 }
 
 // What red or blue adds to luma, rounded to a whole level and plus the grid's bits. `part` is luma's, and k * x is chroma's.
@@ -76,7 +76,7 @@ pub fn tone_by(k: f32, m: u32, l: u32, less: f32, x: f32, doubt: u32) -> u8
     if doubt == 0 {
         return limit_sum(lower(l), tone_near(k, less, x));
     }
-    studio_chroma(m as u64, l as u64, in_256ths(x) as u64)
+    studio_chroma(u64::from(m), u64::from(l), u64::from(in_256ths(x)))
 }
 
 // What green adds to luma, rounded to a whole level and plus the grid's bits.
@@ -105,5 +105,9 @@ pub fn fall_by(l: u32, less: f32, cb: f32, cr: f32, doubt: u32) -> u8
     if doubt == 0 {
         return limit_sum(lower(l), fall_near(less, cb, cr));
     }
-    studio_green(l as u64, in_256ths(cb) as u64, in_256ths(cr) as u64)
+    studio_green(
+        u64::from(l),
+        u64::from(in_256ths(cb)),
+        u64::from(in_256ths(cr)),
+    )
 }

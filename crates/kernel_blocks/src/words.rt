@@ -27,7 +27,6 @@ fn fourth(dst: &[u8], p: usize, low: u32) -> u32
 }
 
 // The words of a block's pixels, with the fourth bytes that dst holds.
-#[tactic(auto, using(crate::proofs::Packed::joined))]
 fn words(dst: &[u8], at: usize, low: u32, rows: [[u8; Block::LEN]; 3]) -> [u32; Block::LEN]
     requires { (low ≡ 16777215) × (at + Block.LEN * 4 ≤ length dst.now) }
     ensures { ((k : ℕ) → k < Block.LEN

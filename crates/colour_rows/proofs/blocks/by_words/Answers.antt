@@ -2,7 +2,7 @@
 use mathlib.Core.Path.{◌≡◌}
 use Prim.Native.Nat.{◌+◌, ◌*◌, ◌<◌, min}
 use native.Mathlib.Omega.{arith}
-use Rattle.kernel_blocks.proofs.Stored.{stored_none, stored_end, block_stored}
+use Rattle.kernel_blocks.proofs.Stored.{stored_none, block_stored}
 use Rattle.colour_rows.proofs.blocks.by_words.Goals as goal
 
 pub loop-i-init : goal.loop-i-init

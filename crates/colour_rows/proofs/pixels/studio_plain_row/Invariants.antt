@@ -1,6 +1,5 @@
 -- A loop that stores pixels (`Stored` of kernel_blocks), one a turn by `stored_more`; `in_studio_read` says that its samples are the row's.
 -- That pixel x fits the output is `row_fits`, the one product that omega doesn't find.
-use Prim.Native.Nat.{◌-◌, ◌≤◌}
 use Rattle.colour_rows.specs.Inner.Colours.{studio_colour}
 use Rattle.kernel_blocks.proofs.Stored.{Stored}
 use Rattle.image.specs.Samples.{plane_of}

@@ -1,14 +1,11 @@
 use mathlib.Core.Path.{◌∙◌}
 use native.Mathlib.Omega.{arith}
-use Rattle.image.specs.Samples.{place, sample_at}
+use Rattle.image.specs.Samples.{sample_at}
 use Rattle.colour_rows.proofs.RowSamples.{sample_room}
 use Rattle.colour_rows.proofs.samples.luma_at.Goals as goal
 
 pub overflow_mul-row : goal.overflow_mul-row
 overflow_mul-row c = omega (arith, sample_room c.requires.0 c.args.x c.requires.1)
-
-pub overflow_mul-x : goal.overflow_mul-x
-overflow_mul-x c = omega (arith, sample_room c.requires.0 c.args.x c.requires.1)
 
 pub overflow_add-row : goal.overflow_add-row
 overflow_add-row c = omega (arith, sample_room c.requires.0 c.args.x c.requires.1)

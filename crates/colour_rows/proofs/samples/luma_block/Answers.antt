@@ -25,9 +25,6 @@ returns-then-layout-eq1 c =
 pub overflow_mul-row-2 : goal.overflow_mul-row-2
 overflow_mul-row-2 c = omega (arith, row_room c.requires.0 2 (two_of c.requires.0 c.if-layout-eq1.false))
 
-pub overflow_mul-x : goal.overflow_mul-x
-overflow_mul-x c = omega (arith, row_room c.requires.0 2 (two_of c.requires.0 c.if-layout-eq1.false))
-
 pub overflow_add-row-2 : goal.overflow_add-row-2
 overflow_add-row-2 c = omega (arith, row_room c.requires.0 2 (two_of c.requires.0 c.if-layout-eq1.false))
 

@@ -1,7 +1,7 @@
 -- The loop's invariant: p is where pixel i begins, and dst is `pixels` of the first i.
 -- `pixels_more` is a turn. The one step that isn't linear is that pixel i ends within dst, (i + 1) * size being at most 16 * size.
 use mathlib.Core.Path.{◌≡◌}
-use Prim.Native.Nat.{◌+◌, ◌-◌, ◌*◌, ◌≤◌}
+use Prim.Native.Nat.{◌+◌, ◌*◌}
 use Rattle.kernel_blocks.specs.Stores.{pixels}
 use Rattle.kernel_blocks.specs.Inner.Stores.{block_pixel}
 use Rattle.kernel_blocks.proofs.stores.put_block.Given as goal

@@ -1,7 +1,6 @@
 use Rattle.kernel_blocks.proofs.Lumas.{lowered_held}
-use mathlib.Core.Path.{ap, ◌∙◌}
+use mathlib.Core.Path.{◌∙◌}
 use native.Mathlib.Omega.{arith}
-use Rattle.kernels.specs.Inner.Forms.{studio_chroma}
 use Rattle.kernel_blocks.proofs.Shades.{tone_byte, tone_small, parted_less}
 use Rattle.kernel_blocks.proofs.studio.tone_by.Goals as goal
 
@@ -16,8 +15,4 @@ returns-then-doubt-eq0 c =
 
 pub studio_chroma-requires : goal.studio_chroma-requires
 studio_chroma-requires c =
-    let p = c.requires in let l = p.1.most in (tone_small p.0, omega arith, c.in_256ths.ensures.0)
-
-pub returns : goal.returns
-returns c =
-    let a = c.args in record { is = λ n h. c.studio_chroma.ensures ∙ ap (studio_chroma a.m a.l) (c.in_256ths.ensures.1 n h) }
+    let p = c.requires in let l = p.1.most in let t = tone_small p.0 in let i = c.in_256ths.ensures.0 in (omega arith, omega arith, omega arith)

@@ -4,7 +4,7 @@ use lib.Ieee.{nan}
 use Rattle.std.proofs.Common.{rules}
 use Rattle.lanes.proofs.Made.{made}
 use Rattle.kernel_blocks.specs.Inner.Studio.{FallByte}
-use Rattle.kernel_blocks.proofs.Shades.{parted_less, parted_more, fall_sure}
+use Rattle.kernel_blocks.proofs.Shades.{parted_less, parted_more}
 use Rattle.kernel_blocks.proofs.studio_blocks.fall_row.Goals as goal
 
 pub fall_doubts-d-requires : goal.fall_doubts-d-requires

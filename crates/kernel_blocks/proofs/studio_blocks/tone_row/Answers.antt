@@ -4,7 +4,7 @@ use lib.Ieee.{nan}
 use Rattle.std.proofs.Common.{rules}
 use Rattle.lanes.proofs.Made.{made}
 use Rattle.kernel_blocks.specs.Inner.Studio.{ToneByte}
-use Rattle.kernel_blocks.proofs.Shades.{parted_less, parted_more, tone_sure}
+use Rattle.kernel_blocks.proofs.Shades.{parted_less, parted_more}
 use Rattle.kernel_blocks.proofs.studio_blocks.tone_row.Goals as goal
 
 pub tone_doubts-d-requires : goal.tone_doubts-d-requires
