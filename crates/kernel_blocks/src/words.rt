@@ -12,7 +12,7 @@ use std::array::from_fn;
 fn word(a: u8, b: u8, c: u8, d: u8) -> u32
     ensures { Word result (rgb a b c) d }
 {
-    (a as u32) + 256 * (b as u32) + 65_536 * (c as u32) + 16_777_216 * (d as u32)
+    u32::from_le_bytes([a, b, c, d])
 }
 
 // The word at p with its three colour bytes cleared.
@@ -43,10 +43,8 @@ fn put_word(dst: &mut [u8], p: usize, w: u32)
         (p + 3)
         (w / 16777216) }
 {
-    dst[p] = (w % 256) as u8;
-    dst[p + 1] = (w / 256 % 256) as u8;
-    dst[p + 2] = (w / 65_536 % 256) as u8;
-    dst[p + 3] = (w / 16_777_216) as u8;
+    let bytes = w.to_le_bytes();
+    dst[p..p + 4].copy_from_slice(&bytes);
 }
 
 // Inner: stores the pixels of a block from `at` on, four bytes each, by words; `low` is 2^24 - 1, as its caller computed it.
