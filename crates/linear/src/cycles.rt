@@ -4,7 +4,8 @@ ghost use Rattle.std.specs.Prelude.{◌≡◌, ℕ, ◌+◌, ◌*◌, ◌≤◌,
 ghost use Rattle.linear.specs.Inner.AcrossRows.{across_run, cycle_run, Cycled, first_of};
 
 use laws::Axis;
-use taps::{lerp, tap_at};
+use std::array::from_fn;
+use taps::{Tap, lerp, tap_at};
 
 // The near cells and the fractions of one turn's outputs. An array has four places, and what stands past the ratio is no output's.
 #[derive(Clone, Copy)]
@@ -18,13 +19,10 @@ pub fn cycle_of(axis: Axis, r: usize, cw: usize, from: usize) -> Cycle
     requires { (axis.num < r) × (r ≤ 4) × (0 < cw) × (from ≤ 1) }
     ensures { Cycled axis r cw from result }
 {
-    let t0 = tap_at(axis, r, cw, from);
-    let t1 = tap_at(axis, r, cw, from + 1);
-    let t2 = tap_at(axis, r, cw, from + 2);
-    let t3 = tap_at(axis, r, cw, from + 3);
+    let taps: [Tap; 4] = from_fn(|k| tap_at(axis, r, cw, from + k));
     Cycle {
-        cells: [t0.i0, t1.i0, t2.i0, t3.i0],
-        parts: [t0.f, t1.f, t2.f, t3.f],
+        cells: from_fn(|k| taps[k].i0),
+        parts: from_fn(|k| taps[k].f),
     }
 }
 
