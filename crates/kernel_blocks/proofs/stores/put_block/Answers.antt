@@ -1,16 +1,11 @@
 use mathlib.Core.Path.{◌∙◌}
-use native.Mathlib.Omega.{arith}
 use Rattle.kernel_blocks.specs.Inner.Stores.{block_pixel}
 use Rattle.kernel_blocks.proofs.Puts.{pixels_none, pixels_more}
 use Rattle.kernel_blocks.proofs.stores.put_block.Goals as goal
 
 pub loop-i-init : goal.loop-i-init
-loop-i-init c =
-    (omega arith, pixels_none _ _ _ _)
+loop-i-init c = pixels_none _ _ _ _
 
 pub loop-i-preserved : goal.loop-i-preserved
 loop-i-preserved c =
-    let a = c.args in (
-      omega arith,
-      c.put_pixel.ensures ∙ rw (c.loop-i.invariant.0, c.loop-i.invariant.1) (pixels_more a.dst.now a.at a.size (block_pixel a.rows) c.loop-i.i),
-    )
+    let a = c.args in c.put_pixel.ensures ∙ rw c.loop-i.invariant (pixels_more a.dst.now a.at a.size (block_pixel a.rows) c.loop-i.i)
