@@ -95,7 +95,8 @@ pub fn plain_row(
     }
 }
 
-// Inner: a row of studio range pixel by pixel. A loop of its own, so that full range has no test in its loop.
+// Inner: a row of studio range pixel by pixel. A loop of its own, so that full range has no test in its loop. The pixel isn't handed to one
+// loop as a closure, as the blocks are: what the closure would have to promise is longer than the loop.
 pub fn studio_plain_row(
     layout: Layout,
     size: usize,

@@ -30,14 +30,14 @@ impl Rounding {
     pub const FIELD: u32 = 8_388_608;
 }
 
-// Inner: the smaller of two numbers by comparison; b where either is not a number.
+// Inner: the smaller of two numbers by comparison; b where either is not a number, where `f32::min` gives the one that is a number.
 pub fn fmin(a: f32, b: f32) -> f32
     ensures { result ≡ fmin a b }
 {
     if a < b { a } else { b }
 }
 
-// Inner: the larger of two numbers by comparison; b where either is not a number.
+// Inner: the larger of two numbers by comparison; b where either is not a number, where `f32::max` gives the one that is a number.
 pub fn fmax(a: f32, b: f32) -> f32
     ensures { result ≡ fmax a b }
 {

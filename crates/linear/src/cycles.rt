@@ -38,7 +38,8 @@ fn cycle_step(turn: Cycle, s: &mut [f32], src: usize, r: usize, dst: usize)
 }
 
 // n turns from output `from` on, which is the first that isn't below the first cell. It is called with a literal ratio, so that the compiler
-// makes a loop for each.
+// makes a loop for each. A turn whose cells are all its first would be a pair of `across_each`; that loop stays, since it reads a pair's two
+// cells once for all outputs between them, and here each output names cells of its own.
 fn each_cycle(
     axis: Axis,
     turn: Cycle,

@@ -80,7 +80,8 @@ fn inner_pairs(
 }
 
 // The outputs of the cells between the first and the last of a row, for samples of one byte. In 16 bits the compiler computes twice as many
-// at once as in 32.
+// at once as in 32. It stays beside `inner_pairs`: a trait of the two widths would say again what each width's sum and pair promise, and be
+// longer than the loop that it saves.
 fn inner_bytes(
     plane: &[u8],
     near: usize,
