@@ -1,5 +1,4 @@
-// A row by blocks of sixteen pixels of the exact kernel. The last block ends with the row: it overlaps the block before it and stores again
-// what that stored.
+// A row by blocks of sixteen pixels of the exact kernel.
 ghost use Rattle.std.specs.Prelude.{◌≡◌, ℕ, ◌+◌, ◌*◌, ◌≤◌, ◌<◌, length, get_or};
 ghost use Rattle.image.specs.Scratch.{cell_at};
 ghost use Rattle.kernel_blocks.specs.Inner.Stores.{block_pixel};

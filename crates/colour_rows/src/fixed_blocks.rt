@@ -1,5 +1,4 @@
-// A row by blocks of sixteen pixels of the fixed kernel, whose tables are lent. The loops are those of `exact_blocks` over another block:
-// were the kernel chosen inside them, the exact one would pay for the registers that reading tables takes (a tenth of a linear fill).
+// A row by blocks of sixteen pixels of the fixed kernel, whose tables are lent.
 ghost use Rattle.std.specs.Prelude.{◌≡◌, ℕ, ◌+◌, ◌*◌, ◌≤◌, ◌<◌, length, get_or};
 ghost use Rattle.image.specs.Scratch.{cell_at};
 ghost use Rattle.kernel_blocks.specs.Inner.Stores.{block_pixel};

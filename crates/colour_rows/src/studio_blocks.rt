@@ -1,5 +1,4 @@
-// A row by blocks of sixteen pixels of the exact kernel in studio range. The loops are those of `exact_blocks` over another block, so that
-// full range has no test in its own.
+// A row by blocks of sixteen pixels of the exact kernel in studio range.
 ghost use Rattle.std.specs.Prelude.{◌≡◌, ℕ, ◌+◌, ◌*◌, ◌≤◌, ◌<◌, length, get_or};
 ghost use Rattle.image.specs.Scratch.{cell_at};
 ghost use Rattle.kernel_blocks.specs.Inner.Stores.{block_pixel};
