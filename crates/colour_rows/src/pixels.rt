@@ -51,7 +51,7 @@ fn fixed_pixel(y: u32, cb: f32, cr: f32) -> Rgb
     requires { y ≤ 65535 }
     ensures { (d : ℕ) → colour_of result ≡ colour_by FixedPoint16 d y cb cr }
 {
-    kernels::ycbcr_to_rgb8_fixed(y, whole_chroma(cb) as u32, whole_chroma(cr) as u32)
+    kernels::ycbcr_to_rgb8_fixed(y, u32::from(whole_chroma(cb)), u32::from(whole_chroma(cr)))
 }
 
 // A pixel by either kernel at any maxval, in full range.
