@@ -1,3 +1,4 @@
+pub mod Blocks
 pub mod Gathered
 pub mod Lent
 pub mod Colours

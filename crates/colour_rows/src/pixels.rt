@@ -51,7 +51,7 @@ fn fixed_pixel(y: u32, cb: f32, cr: f32) -> Rgb
     requires { y ≤ 65535 }
     ensures { (d : ℕ) → colour_of result ≡ colour_by FixedPoint16 d y cb cr }
 {
-    kernels::ycbcr_to_rgb8_fixed(y, whole_chroma(cb) as u32, whole_chroma(cr) as u32)
+    kernels::ycbcr_to_rgb8_fixed(y, u32::from(whole_chroma(cb)), u32::from(whole_chroma(cr)))
 }
 
 // A pixel by either kernel at any maxval, in full range.
@@ -88,16 +88,15 @@ pub fn plain_row(
         kernel layout (plane_of plane.now stride) row s.now at size out.old }
 {
     let w = layout.w;
-    let mut x = 0;
-    while x < w {
+    for x in 0..w {
         let y = luma_at(layout, plane, stride, row, x);
         let p = plain_pixel(kernel, y, s[x], s[w + x], layout.maxval);
         kernel_blocks::put_pixel(out, at + x * size, p.r, p.g, p.b);
-        x += 1;
     }
 }
 
-// Inner: a row of studio range pixel by pixel. A loop of its own, so that full range has no test in its loop.
+// Inner: a row of studio range pixel by pixel. A loop of its own, so that full range has no test in its loop. The pixel isn't handed to one
+// loop as a closure, as the blocks are: what the closure would have to promise is longer than the loop.
 pub fn studio_plain_row(
     layout: Layout,
     size: usize,
@@ -114,11 +113,9 @@ pub fn studio_plain_row(
         layout (plane_of plane.now stride) row s.now at size out.old }
 {
     let w = layout.w;
-    let mut x = 0;
-    while x < w {
+    for x in 0..w {
         let y = luma_at(layout, plane, stride, row, x);
         let rgb = studio_pixel(y, s[x], s[w + x]);
         kernel_blocks::put_pixel(out, at + x * size, rgb.r, rgb.g, rgb.b);
-        x += 1;
     }
 }

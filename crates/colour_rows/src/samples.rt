@@ -11,12 +11,13 @@ ghost use Rattle.colour_rows.specs.Inner.Gathered.{LumaRow, Listed};
 
 use image::Layout;
 use kernel_blocks::Block;
+use std::array::from_fn;
 
 // A sample as a number of 32 bits. Its contract keeps the bound that the kernels ask for.
 fn wide(x: u16) -> u32
     ensures { (result ≡ x) × (result ≤ 65535) }
 {
-    x as u32
+    u32::from(x)
 }
 
 // Inner: luma of column x of a row.
@@ -42,26 +43,15 @@ pub fn whole_chroma(v: f32) -> u8
     fround::round_clamped_by_grid(v, 255) as u8
 }
 
-// The sixteen samples of one byte from byte `at` on. The size is a constant in the loop, so that they compile to loads of many.
-fn one_byte_block(plane: &[u8], at: usize) -> [u16; Block::LEN]
-    requires { at + Block.LEN ≤ length plane.now }
-    ensures { Listed Block.LEN result (λ k. sample_of 1 plane.now (at + k)) }
+// The sixteen samples from byte `at` on. Their size is a constant in the loop, so that they compile to loads of many. It is a loop, since the
+// check infers no contract for a closure inside a function with a const parameter.
+fn sample_block<const BYTES: usize>(plane: &[u8], at: usize) -> [u16; Block::LEN]
+    requires { (1 ≤ BYTES) × (BYTES ≤ 2) × (at + Block.LEN * BYTES ≤ length plane.now) }
+    ensures { Listed Block.LEN result (λ k. sample_of BYTES plane.now (at + k * BYTES)) }
 {
     let mut v = [0u16; Block::LEN];
     for k in 0..Block::LEN {
-        v[k] = image::sample(plane, 1, at + k);
-    }
-    v
-}
-
-// The sixteen samples of two bytes from byte `at` on. The size is a constant in the loop, so that they compile to loads of many.
-fn two_byte_block(plane: &[u8], at: usize) -> [u16; Block::LEN]
-    requires { at + Block.LEN * 2 ≤ length plane.now }
-    ensures { Listed Block.LEN result (λ k. sample_of 2 plane.now (at + k * 2)) }
-{
-    let mut v = [0u16; Block::LEN];
-    for k in 0..Block::LEN {
-        v[k] = image::sample(plane, 2, at + k * 2);
+        v[k] = image::sample(plane, BYTES, at + k * BYTES);
     }
     v
 }
@@ -78,20 +68,16 @@ pub fn luma_block(
     ensures { Listed Block.LEN result (λ k. sample_at layout.sample_bytes (plane_of plane.now stride) row (x + k)) }
 {
     if layout.sample_bytes == 1 {
-        return one_byte_block(plane, row * stride + x);
+        return sample_block::<1>(plane, row * stride + x);
     }
-    two_byte_block(plane, row * stride + x * 2)
+    sample_block::<2>(plane, row * stride + x * 2)
 }
 
 // Inner: sixteen samples of luma as numbers of 32 bits, which the exact kernel computes with.
 pub fn wide_block(y: [u16; Block::LEN]) -> [u32; Block::LEN]
     ensures { ((k : ℕ) → k < Block.LEN → (get_or result k 0 ≡ get_or y k 0) × (get_or result k 0 ≤ 65535)) }
 {
-    let mut v = [0u32; Block::LEN];
-    for k in 0..Block::LEN {
-        v[k] = wide(y[k]);
-    }
-    v
+    from_fn(|k| wide(y[k]))
 }
 
 // Inner: chroma of the sixteen columns from x on of the finished row at src, in 256ths less 32,768 = 128 * 256, as floats for the exact
@@ -101,11 +87,7 @@ pub fn chroma_block(s: &[f32], src: usize, x: usize) -> [f32; Block::LEN]
     ensures { ((k : ℕ) → k < Block.LEN
         → Centred (get_or result k nan) (round_clamped 65536 (cell_at s.now src (x + k) ⊗ f32 256))) }
 {
-    let mut v = [0.0f32; Block::LEN];
-    for k in 0..Block::LEN {
-        v[k] = fround::centred_256ths(s[src + (x + k)]);
-    }
-    v
+    from_fn(|k| fround::centred_256ths(s[src + (x + k)]))
 }
 
 // Inner: chroma of the sixteen columns from x on of the finished row at src, as whole numbers for the fixed kernel's block.
@@ -113,9 +95,5 @@ pub fn whole_chroma_block(s: &[f32], src: usize, x: usize) -> [u8; Block::LEN]
     requires { src + (x + Block.LEN) ≤ length s.now }
     ensures { Listed Block.LEN result (λ k. round_clamped 255 (cell_at s.now src (x + k))) }
 {
-    let mut v = [0u8; Block::LEN];
-    for k in 0..Block::LEN {
-        v[k] = whole_chroma(s[src + (x + k)]);
-    }
-    v
+    from_fn(|k| whole_chroma(s[src + (x + k)]))
 }

@@ -1,13 +1,14 @@
-// A row by blocks of sixteen pixels of the exact kernel in studio range. The loops are those of `exact_blocks` over another block, so that
-// full range has no test in its own.
+// A row by blocks of sixteen pixels of the exact kernel in studio range.
 ghost use Rattle.std.specs.Prelude.{◌≡◌, ℕ, ◌+◌, ◌*◌, ◌≤◌, ◌<◌, length, get_or};
 ghost use Rattle.image.specs.Scratch.{cell_at};
 ghost use Rattle.kernel_blocks.specs.Inner.Stores.{block_pixel};
 ghost use Rattle.colour_rows.specs.Colours.{studio_by};
 ghost use Rattle.colour_rows.specs.Inner.Colours.{studio_colour, studio_row};
+ghost use Rattle.colour_rows.specs.Inner.Blocks.{PixelsFrom};
 ghost use Rattle.colour_rows.specs.Inner.Lent.{RowLent};
 ghost use Rattle.image.specs.Samples.{plane_of};
 
+use crate::blocks::row_by_blocks;
 use crate::samples::{chroma_block, luma_block, wide_block};
 use image::Layout;
 use kernel_blocks::Block;
@@ -34,65 +35,13 @@ fn studio_at(
 ) -> [[u8; Block::LEN]; 3]
     requires row_lent { RowLent layout (plane_of plane.now stride) row (length s.now) }
     requires block_inside { x + Block.LEN ≤ layout.w }
-    ensures { ((k : ℕ) → k < Block.LEN → block_pixel result k ≡ studio_colour
-        layout (plane_of plane.now stride) row s.now (x + k)) }
+    ensures { PixelsFrom Block.LEN result x (studio_colour layout (plane_of plane.now stride) row s.now) }
 {
     let y = luma_block(layout, plane, stride, row, x);
     studio_pixels(y, s, layout.w, x)
 }
 
-// A row with three bytes a pixel. The size is a constant in the loop, so that the stores of a block are plain ones.
-fn studio3(
-    layout: Layout,
-    plane: &[u8],
-    stride: usize,
-    row: usize,
-    s: &[f32],
-    out: &mut [u8],
-    at: usize,
-)
-    requires row_lent { RowLent layout (plane_of plane.now stride) row (length s.now) }
-    requires blocks_lent { (Block.LEN ≤ layout.w) × (at + layout.w * 3 ≤ length out.old) }
-    ensures { out.new ≡ studio_row
-        layout (plane_of plane.now stride) row s.now at 3 out.old }
-{
-    let mut done = 0;
-    while done < layout.w {
-        let x = laws::least(done, layout.w - Block::LEN);
-        let rows = studio_at(layout, plane, stride, row, s, x);
-        kernel_blocks::put_block(out, at + x * 3, 3, rows);
-        done = x + Block::LEN;
-    }
-}
-
-// A row with four bytes a pixel, stored as words of 32 bits. `low` has the bits of the three colour bytes, 16,777,215 = 2^24 - 1; the
-// fourth byte keeps what it held.
-fn studio4(
-    layout: Layout,
-    plane: &[u8],
-    stride: usize,
-    row: usize,
-    s: &[f32],
-    out: &mut [u8],
-    at: usize,
-    low: u32,
-)
-    requires row_lent { RowLent layout (plane_of plane.now stride) row (length s.now) }
-    requires blocks_lent { (Block.LEN ≤ layout.w) × (at + layout.w * 4 ≤ length out.old) × (low ≡ 16777215) }
-    ensures { out.new ≡ studio_row
-        layout (plane_of plane.now stride) row s.now at 4 out.old }
-{
-    let mut done = 0;
-    while done < layout.w {
-        let x = laws::least(done, layout.w - Block::LEN);
-        let rows = studio_at(layout, plane, stride, row, s, x);
-        kernel_blocks::put_words(out, at + x * 4, low, rows);
-        done = x + Block::LEN;
-    }
-}
-
-// Inner: a row by blocks, the pixel size chosen outside the loop. The mask `low` of four bytes a pixel is 4 * 2^22 - 1 = 2^24 - 1. It is
-// computed from the size, since a mask that the compiler knows would make it read the fourth bytes one by one.
+// Inner: a row by blocks.
 pub fn studio_block_row(
     layout: Layout,
     size: usize,
@@ -108,10 +57,14 @@ pub fn studio_block_row(
     ensures { out.new ≡ studio_row
         layout (plane_of plane.now stride) row s.now at size out.old }
 {
-    if size == 3 {
-        studio3(layout, plane, stride, row, s, out, at);
-        return;
-    }
-    let low = size as u32 * 4_194_304 - 1;
-    studio4(layout, plane, stride, row, s, out, at, low);
+    row_by_blocks(
+        |x| -> [[u8; Block::LEN]; 3]
+            requires { RowLent layout (plane_of plane.now stride) row (length s.now) × (x + Block.LEN ≤ layout.w) }
+            ensures { PixelsFrom Block.LEN result x (studio_colour layout (plane_of plane.entry.now stride) row s.entry.now) }
+        { studio_at(layout, plane, stride, row, s, x) },
+        layout.w,
+        size,
+        out,
+        at,
+    );
 }

@@ -114,12 +114,10 @@ fn rows_by(
         a (b - a) s.old }
 {
     let rows = b - a;
-    let mut n = 0;
-    while n < rows {
+    for n in 0..rows {
         fill_row(
             layout, y, cb, cr, strides, upsampling, kernel, size, a, n, s, out, tables,
         );
-        n += 1;
     }
 }
 

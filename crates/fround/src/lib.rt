@@ -30,14 +30,14 @@ impl Rounding {
     pub const FIELD: u32 = 8_388_608;
 }
 
-// Inner: the smaller of two numbers by comparison; b where either is not a number.
+// Inner: the smaller of two numbers by comparison; b where either is not a number, where `f32::min` gives the one that is a number.
 pub fn fmin(a: f32, b: f32) -> f32
     ensures { result ≡ fmin a b }
 {
     if a < b { a } else { b }
 }
 
-// Inner: the larger of two numbers by comparison; b where either is not a number.
+// Inner: the larger of two numbers by comparison; b where either is not a number, where `f32::max` gives the one that is a number.
 pub fn fmax(a: f32, b: f32) -> f32
     ensures { result ≡ fmax a b }
 {
@@ -55,13 +55,6 @@ pub fn same_float(x: f32, y: f32) -> bool
         return false;
     }
     y != y
-}
-
-// The smaller of two limits, as a function: the roundings then have no branches that meet, which the prover would have to join.
-fn least(a: u32, b: u32) -> u32
-    ensures { result ≡ min a b }
-{
-    if a < b { a } else { b }
 }
 
 // x limited to 0..=max; 0 where x is not a number, since the comparison with 0.0 then fails.
@@ -86,7 +79,7 @@ fn on_grid(c: f32) -> f32
 pub fn round_clamped_by_grid(x: f32, max: u32) -> u32
     ensures { Rounded (min max Rounding.LIMIT) x result }
 {
-    let c = clamp(x, least(max, Rounding::LIMIT));
+    let c = clamp(x, max.min(Rounding::LIMIT));
     let t = on_grid(c);
     let n = f32::to_bits(t) % Rounding::FIELD;
     if c - (t - Rounding::GRID) == 0.5 {
@@ -104,7 +97,7 @@ pub fn round_clamped_by_grid(x: f32, max: u32) -> u32
 pub fn round_clamped_by_bits(x: f32, max: u32) -> u32
     ensures { Rounded (min max Rounding.WIDE) x result }
 {
-    let b = f32::to_bits(clamp(x, least(max, Rounding::WIDE)));
+    let b = f32::to_bits(clamp(x, max.min(Rounding::WIDE)));
     let e = b / Rounding::FIELD;
     if e < 126 {
         0

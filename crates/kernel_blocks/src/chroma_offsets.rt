@@ -70,8 +70,8 @@ fn green_whole(cb: u32, cr: u32) -> u32
     requires { (cb ≤ 65536) × (cr ≤ 65536) }
     ensures { Biased (green_offset (centred cb) (centred cr)) Bias.GREEN result }
 {
-    let both = (cb + cr) as u64;
-    let n = 2_956_108_189 * both + 3_178_275_799 * (cr as u64) + 90_403_456_700;
+    let both = u64::from(cb + cr);
+    let n = 2_956_108_189 * both + 3_178_275_799 * u64::from(cr) + 90_403_456_700;
     272 - (n >> 41) as u32
 }
 

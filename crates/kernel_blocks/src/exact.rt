@@ -3,11 +3,13 @@ ghost use Rattle.std.specs.Prelude.{◌≡◌, ℕ, ◌<◌, ◌≤◌, pos, get
 ghost use Rattle.std.specs.Float.{nan};
 ghost use Rattle.kernels.specs.Inner.Forms.{plus_chroma};
 ghost use Rattle.kernel_blocks.specs.Inner.Floating.{Centred, Chroma, Multiplier, IsMultiplier, Lowered, Luma, Sure};
-ghost use Rattle.kernel_blocks.specs.Inner.Blocks.{BlockOf, InLimits, Pixels, Greens};
+ghost use Rattle.kernel_blocks.specs.Inner.Blocks.{BlockOf, InLimits, Pixels, Greens, ChromaByte, GreenByte};
 
 use crate::chroma_offsets::{Grid, chroma_offset, green_by_doubt, green_doubt};
+use crate::doubts::any_doubt;
 use crate::limits::limit_sum;
 use crate::stores::Block;
+use std::array::from_fn;
 
 // What red and blue multiply chroma by, and what sends their halves up: 3/1024 for blue. Red has no halves, and -0 changes nothing.
 #[derive(Clone, Copy)]
@@ -36,11 +38,15 @@ fn lowered(y: [u32; Block::LEN]) -> [i32; Block::LEN]
     requires { ((k : ℕ) → k < Block.LEN → get_or y k 0 ≤ 65535) }
     ensures { ((k : ℕ) → k < Block.LEN → Lowered (get_or result k (pos 0)) (get_or y k 0)) }
 {
-    let mut row = [0i32; Block::LEN];
-    for i in 0..Block::LEN {
-        row[i] = lower(y[i]);
-    }
-    row
+    from_fn(|i| lower(y[i]))
+}
+
+// Red or blue of a pixel by its multiplier k; y is the lowered luma, and x the chroma that it takes.
+fn chroma_byte(k: f32, tie: f32, y: i32, x: f32) -> u8
+    requires { IsMultiplier k tie × Luma y × Chroma x }
+    ensures { ChromaByte k tie y x result }
+{
+    limit_sum(y, chroma_offset(k, tie, x))
 }
 
 // The red or the blue row of a block, by its multiplier k; x is the chroma that it takes.
@@ -52,23 +58,23 @@ fn chroma_row(k: f32, tie: f32, y: [i32; Block::LEN], x: [f32; Block::LEN]) -> [
         → Centred (get_or x i nan) c
         → get_or result i 0 ≡ plus_chroma m l c) }
 {
-    let mut row = [0u8; Block::LEN];
-    for i in 0..Block::LEN {
-        row[i] = limit_sum(y[i], chroma_offset(k, tie, x[i]));
-    }
-    row
+    from_fn(|i| chroma_byte(k, tie, y[i], x[i]))
 }
 
-// 0 where green is sure at every pixel of a block. The pixels' doubts are joined without a branch, sixteen at a time.
+// 0 where green is sure at every pixel of a block.
 fn doubt(cb: [f32; Block::LEN], cr: [f32; Block::LEN]) -> u32
     requires { ((i : ℕ) → i < Block.LEN → Chroma (get_or cb i nan) × Chroma (get_or cr i nan)) }
     ensures { (result ≡ 0 → (i : ℕ) → i < Block.LEN → Sure (get_or cb i nan) (get_or cr i nan)) }
 {
-    let mut d = 0u32;
-    for i in 0..Block::LEN {
-        d = d | green_doubt(cb[i], cr[i]);
-    }
-    d
+    any_doubt(|i| green_doubt(cb[i], cr[i]))
+}
+
+// Green of a pixel, whose lowered luma is y, in the form that a block's doubt decides.
+fn green_byte(y: i32, cb: f32, cr: f32, doubt: u32) -> u8
+    requires { Luma y × Chroma cb × Chroma cr × (doubt ≡ 0 → Sure cb cr) }
+    ensures { GreenByte y cb cr result }
+{
+    limit_sum(y, green_by_doubt(cb, cr, doubt))
 }
 
 // The green row of a block, whose doubt decides the form of all sixteen.
@@ -77,11 +83,7 @@ fn green_row(y: [i32; Block::LEN], cb: [f32; Block::LEN], cr: [f32; Block::LEN])
     ensures { Greens Block.LEN result y cb cr }
 {
     let d = doubt(cb, cr);
-    let mut row = [0u8; Block::LEN];
-    for i in 0..Block::LEN {
-        row[i] = limit_sum(y[i], green_by_doubt(cb[i], cr[i], d));
-    }
-    row
+    from_fn(|i| green_byte(y[i], cb[i], cr[i], d))
 }
 
 // Inner: the red, the green and the blue row of sixteen pixels; chroma in 256ths, less its centre.

@@ -14,12 +14,13 @@ ghost use Rattle.kernel_blocks.specs.Inner.Stores.{block_pixel};
 use crate::limits::limit_byte;
 use crate::stores::Block;
 use kernels::Table;
+use std::array::from_fn;
 
 // A sample of one byte as an index. The contract keeps that it is a byte.
 fn index(c: u8) -> usize
     ensures { (result ≡ c) × (result < 256) }
 {
-    c as usize
+    usize::from(c)
 }
 
 // The entries of table n at sixteen whole samples of chroma.
@@ -27,11 +28,7 @@ fn entries(t: &[[i32; 256]], n: usize, chroma: [u8; Block::LEN]) -> [i32; Block:
     requires { (n < length t.now) × ((v : ℕ) → v < 256 → Small (table_entry t.now n v)) }
     ensures { ((k : ℕ) → k < Block.LEN → (get_or chroma k 0 < 256) × (get_or result k (pos 0) ≡ table_entry t.now n (get_or chroma k 0))) }
 {
-    let mut v = [0i32; Block::LEN];
-    for i in 0..Block::LEN {
-        v[i] = t[n][index(chroma[i])];
-    }
-    v
+    from_fn(|i| t[n][index(chroma[i])])
 }
 
 // Luma and an offset, limited to 0..=255.
@@ -39,7 +36,7 @@ fn plus(y: u16, offset: i32) -> u8
     requires { Small offset }
     ensures { result ≡ limit 255 (pos y +ℤ offset) }
 {
-    limit_byte(y as i32 + offset)
+    limit_byte(i32::from(y) + offset)
 }
 
 // Green's offset from its two parts, which are summed before the shift.
@@ -55,11 +52,7 @@ fn offset_row(y: [u16; Block::LEN], offset: [i32; Block::LEN]) -> [u8; Block::LE
     requires { ((k : ℕ) → k < Block.LEN → Small (get_or offset k (pos 0))) }
     ensures { ((k : ℕ) → k < Block.LEN → get_or result k 0 ≡ limit 255 (pos (get_or y k 0) +ℤ get_or offset k (pos 0))) }
 {
-    let mut row = [0u8; Block::LEN];
-    for i in 0..Block::LEN {
-        row[i] = plus(y[i], offset[i]);
-    }
-    row
+    from_fn(|i| plus(y[i], offset[i]))
 }
 
 // The green row of a block, from the parts of its pixels' offsets.
@@ -72,11 +65,7 @@ fn green_row(
     ensures { ((k : ℕ) → k < Block.LEN → get_or result k 0 ≡ limit 255
         (pos (get_or y k 0) +ℤ floor_div (get_or cb_part k (pos 0) +ℤ get_or cr_part k (pos 0)) 65536)) }
 {
-    let mut row = [0u8; Block::LEN];
-    for i in 0..Block::LEN {
-        row[i] = plus(y[i], shifted(cb_part[i], cr_part[i]));
-    }
-    row
+    from_fn(|i| plus(y[i], shifted(cb_part[i], cr_part[i])))
 }
 
 // The red row of a block.

@@ -6,6 +6,7 @@
 #![tactic(auto)]
 
 mod chroma_offsets;
+mod doubts;
 mod exact;
 mod fixed;
 mod limits;

@@ -27,9 +27,7 @@ pub fn put_block(dst: &mut [u8], at: usize, size: usize, rows: [[u8; Block::LEN]
     requires { (3 ≤ size) × (at + Block.LEN * size ≤ length dst.old) }
     ensures { dst.new ≡ pixels dst.old at size (block_pixel rows) Block.LEN }
 {
-    let mut p = at;
     for i in 0..Block::LEN {
-        put_pixel(dst, p, rows[0][i], rows[1][i], rows[2][i]);
-        p += size;
+        put_pixel(dst, at + i * size, rows[0][i], rows[1][i], rows[2][i]);
     }
 }

@@ -5,7 +5,7 @@ ghost use Rattle.std.specs.Prelude.{◌≡◌, ℕ, ◌≤◌, min};
 ghost use Rattle.kernels.specs.T871.{studio255};
 ghost use Rattle.kernels.specs.Inner.Forms.{studio_chroma};
 ghost use Rattle.kernel_blocks.specs.Inner.Floating.{Chroma, Centred};
-ghost use Rattle.kernel_blocks.specs.Inner.Studio.{luma_part, less_shift, Part, Parted, Tone, Toned, tone_bits, fall_bits, ToneSure, FallSure};
+ghost use Rattle.kernel_blocks.specs.Inner.Studio.{luma_part, less_shift, Part, Parted, Tone, Toned, tone_bits, fall_bits, ToneSure, FallSure, ToneByte, FallByte};
 
 use crate::chroma_offsets::{Grid, in_256ths};
 use crate::exact::lower;
@@ -48,7 +48,7 @@ pub fn luma_part(l: u32, shift: f32) -> f32
     requires { l ≤ 511 }
     ensures { result ≡ luma_part shift l }
 {
-    Studio::LUMA * (l as u16 as f32) - shift
+    Studio::LUMA * f32::from(l as u16) - shift
 }
 
 // What red or blue adds to luma, rounded to a whole level and plus the grid's bits. `part` is luma's, and k * x is chroma's.
@@ -71,12 +71,12 @@ pub fn tone_doubt(k: f32, less: f32, more: f32, x: f32) -> u32
 // sixteen, so that one form serves all of it. m is the multiplier k's thousandths in full range.
 pub fn tone_by(k: f32, m: u32, l: u32, less: f32, x: f32, doubt: u32) -> u8
     requires { Tone k m × Part less_shift less l × Chroma x × (doubt ≡ 0 → ToneSure k x l) }
-    ensures { (c : ℕ) → Centred x c → result ≡ studio_chroma m l c }
+    ensures { ToneByte m l x result }
 {
     if doubt == 0 {
         return limit_sum(lower(l), tone_near(k, less, x));
     }
-    studio_chroma(m as u64, l as u64, in_256ths(x) as u64)
+    studio_chroma(u64::from(m), u64::from(l), u64::from(in_256ths(x)))
 }
 
 // What green adds to luma, rounded to a whole level and plus the grid's bits.
@@ -100,10 +100,14 @@ pub fn fall_doubt(less: f32, more: f32, cb: f32, cr: f32) -> u32
 // Inner: green of a pixel, by the float where its row is not in doubt.
 pub fn fall_by(l: u32, less: f32, cb: f32, cr: f32, doubt: u32) -> u8
     requires { Part less_shift less l × Chroma cb × Chroma cr × (doubt ≡ 0 → FallSure cb cr l) }
-    ensures { (b r : ℕ) → Centred cb b → Centred cr r → result ≡ (studio255 l b r).green }
+    ensures { FallByte l cb cr result }
 {
     if doubt == 0 {
         return limit_sum(lower(l), fall_near(less, cb, cr));
     }
-    studio_green(l as u64, in_256ths(cb) as u64, in_256ths(cr) as u64)
+    studio_green(
+        u64::from(l),
+        u64::from(in_256ths(cb)),
+        u64::from(in_256ths(cr)),
+    )
 }

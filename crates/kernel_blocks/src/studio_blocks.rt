@@ -7,19 +7,17 @@ ghost use Rattle.kernel_blocks.specs.Inner.Floating.{Centred, Chroma};
 ghost use Rattle.kernel_blocks.specs.Inner.Blocks.{InLimits};
 ghost use Rattle.kernel_blocks.specs.Inner.Studio.{luma_part, Parted, Parts, Tone, Toned, tone_bits, fall_bits, StudioBlock};
 
+use crate::doubts::any_doubt;
 use crate::stores::Block;
 use crate::studio::{Studio, fall_by, fall_doubt, limit_luma, luma_part, tone_by, tone_doubt};
 use kernels::Multiplier;
+use std::array::from_fn;
 
 // The luma of a block, limited to 511.
 fn limited(y: [u32; Block::LEN]) -> [u32; Block::LEN]
     ensures { ((k : ℕ) → k < Block.LEN → get_or result k 0 ≡ min (get_or y k 0) 511) }
 {
-    let mut row = [0u32; Block::LEN];
-    for i in 0..Block::LEN {
-        row[i] = limit_luma(y[i]);
-    }
-    row
+    from_fn(|i| limit_luma(y[i]))
 }
 
 // What each luma of a block adds to itself by one of the two shifts. All three rows use it.
@@ -27,11 +25,7 @@ fn parts(l: [u32; Block::LEN], shift: f32) -> [f32; Block::LEN]
     requires { ((k : ℕ) → k < Block.LEN → get_or l k 0 ≤ 511) }
     ensures { ((k : ℕ) → k < Block.LEN → get_or result k nan ≡ luma_part shift (get_or l k 0)) }
 {
-    let mut row = [0.0f32; Block::LEN];
-    for i in 0..Block::LEN {
-        row[i] = luma_part(l[i], shift);
-    }
-    row
+    from_fn(|i| luma_part(l[i], shift))
 }
 
 // 0 where red or blue is sure at every pixel of a block.
@@ -44,11 +38,7 @@ fn tone_doubts(
     requires { Toned k × ((i : ℕ) → i < Block.LEN → Parted (get_or less i nan) × Parted (get_or more i nan) × Chroma (get_or x i nan)) }
     ensures { (result ≡ 0 → (i : ℕ) → i < Block.LEN → tone_bits k (get_or less i nan) (get_or x i nan) ≡ tone_bits k (get_or more i nan) (get_or x i nan)) }
 {
-    let mut d = 0u32;
-    for i in 0..Block::LEN {
-        d = d | tone_doubt(k, less[i], more[i], x[i]);
-    }
-    d
+    any_doubt(|i| tone_doubt(k, less[i], more[i], x[i]))
 }
 
 // The red or the blue row of a block, whose doubt decides the form of all sixteen.
@@ -64,11 +54,7 @@ fn tone_row(
     ensures { ((i : ℕ) → i < Block.LEN → (c : ℕ) → Centred (get_or x i nan) c → get_or result i 0 ≡ studio_chroma m (get_or l i 0) c) }
 {
     let d = tone_doubts(k, less, more, x);
-    let mut row = [0u8; Block::LEN];
-    for i in 0..Block::LEN {
-        row[i] = tone_by(k, m, l[i], less[i], x[i], d);
-    }
-    row
+    from_fn(|i| tone_by(k, m, l[i], less[i], x[i], d))
 }
 
 // 0 where green is sure at every pixel of a block.
@@ -81,11 +67,7 @@ fn fall_doubts(
     requires { ((i : ℕ) → i < Block.LEN → Parted (get_or less i nan) × Parted (get_or more i nan) × Chroma (get_or cb i nan) × Chroma (get_or cr i nan)) }
     ensures { (result ≡ 0 → (i : ℕ) → i < Block.LEN → fall_bits (get_or less i nan) (get_or cb i nan) (get_or cr i nan) ≡ fall_bits (get_or more i nan) (get_or cb i nan) (get_or cr i nan)) }
 {
-    let mut d = 0u32;
-    for i in 0..Block::LEN {
-        d = d | fall_doubt(less[i], more[i], cb[i], cr[i]);
-    }
-    d
+    any_doubt(|i| fall_doubt(less[i], more[i], cb[i], cr[i]))
 }
 
 // The green row of a block, whose doubt decides the form of all sixteen.
@@ -100,11 +82,7 @@ fn fall_row(
     ensures { ((i : ℕ) → i < Block.LEN → (b r : ℕ) → Centred (get_or cb i nan) b → Centred (get_or cr i nan) r → get_or result i 0 ≡ (studio255 (get_or l i 0) b r).green) }
 {
     let d = fall_doubts(less, more, cb, cr);
-    let mut row = [0u8; Block::LEN];
-    for i in 0..Block::LEN {
-        row[i] = fall_by(l[i], less[i], cb[i], cr[i], d);
-    }
-    row
+    from_fn(|i| fall_by(l[i], less[i], cb[i], cr[i], d))
 }
 
 // Inner: the red, the green and the blue row of sixteen pixels in studio range; chroma in 256ths, less its centre.

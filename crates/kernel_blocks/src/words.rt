@@ -6,12 +6,13 @@ ghost use Rattle.kernel_blocks.specs.Inner.Words.{Word};
 ghost use Rattle.kernels.specs.Inner.Kernels.{rgb};
 
 use crate::stores::Block;
+use std::array::from_fn;
 
 // Four bytes as a word, the first the lowest.
 fn word(a: u8, b: u8, c: u8, d: u8) -> u32
     ensures { Word result (rgb a b c) d }
 {
-    (a as u32) + 256 * (b as u32) + 65_536 * (c as u32) + 16_777_216 * (d as u32)
+    u32::from_le_bytes([a, b, c, d])
 }
 
 // The word at p with its three colour bytes cleared.
@@ -31,12 +32,7 @@ fn words(dst: &[u8], at: usize, low: u32, rows: [[u8; Block::LEN]; 3]) -> [u32; 
     ensures { ((k : ℕ) → k < Block.LEN
         → Word (get_or result k 0) (block_pixel rows k) (get_or dst.now (at + k * 4 + 3) 0)) }
 {
-    let mut w = [0u32; Block::LEN];
-    for i in 0..Block::LEN {
-        let colour = word(rows[0][i], rows[1][i], rows[2][i], 0);
-        w[i] = colour + fourth(dst, at + i * 4, low);
-    }
-    w
+    from_fn(|i| word(rows[0][i], rows[1][i], rows[2][i], 0) + fourth(dst, at + i * 4, low))
 }
 
 // Stores the four bytes of a word from p on, the lowest first.
@@ -47,10 +43,8 @@ fn put_word(dst: &mut [u8], p: usize, w: u32)
         (p + 3)
         (w / 16777216) }
 {
-    dst[p] = (w % 256) as u8;
-    dst[p + 1] = (w / 256 % 256) as u8;
-    dst[p + 2] = (w / 65_536 % 256) as u8;
-    dst[p + 3] = (w / 16_777_216) as u8;
+    let bytes = w.to_le_bytes();
+    dst[p..p + 4].copy_from_slice(&bytes);
 }
 
 // Inner: stores the pixels of a block from `at` on, four bytes each, by words; `low` is 2^24 - 1, as its caller computed it.

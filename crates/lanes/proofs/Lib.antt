@@ -1,2 +1,4 @@
 -- Laws of blocks, which callers cite.
 pub mod Filled
+pub mod Made
+pub mod Overwritten

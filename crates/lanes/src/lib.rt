@@ -1,14 +1,17 @@
 // Sixteen values at a time, or eight: a block of them is made by value, and stored when all that it is made from was read.
 //
 // The original leaves this to the compiler, which knows that its slices don't overlap. Here a loop that read and stored in turn would
-// not become wide loads and stores, and one over a block by value does. A store's loop is proved by laws' `Run`, for a block of any length;
-// proofs/Filled is the invariant of a loop that makes a block.
+// not become wide loads and stores, and one over a block by value does. A block is made by `from_fn`, of which proofs/Made has the laws,
+// and stored by `copy_from_slice`, of which proofs/Overwritten says that it writes a run (`put` of laws). proofs/Filled is the invariant of
+// a loop that makes a block.
 #![tactic(auto)]
 
 ghost use Rattle.std.specs.Prelude.{◌≡◌, ◌+◌, ◌≤◌, length, get_or};
 ghost use Rattle.std.specs.Float.{nan};
 ghost use Rattle.laws.specs.Floats.{f32};
 ghost use Rattle.laws.specs.Lists.{put};
+
+use std::array::from_fn;
 
 // How much a block has.
 #[derive(Clone, Copy)]
@@ -22,24 +25,20 @@ impl Lanes {
     pub const PIXELS: usize = 16;
 }
 
-// Inner: stores a block of values in s, from `at` on.
-pub fn put_block(s: &mut [f32], at: usize, block: [f32; Lanes::PIXELS])
-    requires { at + Lanes.PIXELS ≤ length s.old }
-    ensures { s.new ≡ put s.old at Lanes.PIXELS (λ k. get_or block k nan) }
+// Inner: stores a block of values in s, from `at` on. A block has any length, a constant where it is called, so that it becomes wide stores.
+pub fn put_block<const N: usize>(s: &mut [f32], at: usize, block: [f32; N])
+    requires { at + N ≤ length s.old }
+    ensures { s.new ≡ put s.old at N (λ k. get_or block.entry k nan) }
 {
-    for k in 0..Lanes::PIXELS {
-        s[at + k] = block[k];
-    }
+    s[at..at + N].copy_from_slice(&block);
 }
 
-// Inner: stores half a block, a value for each of its cells, in s from `at` on.
+// Inner: stores half a block, a value for each of its cells, in s from `at` on: `put_block`, under the name that rows down call it by.
 pub fn put_eight(s: &mut [f32], at: usize, block: [f32; Lanes::CELLS])
     requires { at + 8 ≤ length s.old }
     ensures { s.new ≡ put s.old at 8 (λ k. get_or block k nan) }
 {
-    for k in 0..Lanes::CELLS {
-        s[at + k] = block[k];
-    }
+    put_block(s, at, block);
 }
 
 // Inner: stores a block of bytes as floats in s, from `at` on.
@@ -47,7 +46,6 @@ pub fn put_bytes(s: &mut [f32], at: usize, block: [u8; Lanes::PIXELS])
     requires { at + 16 ≤ length s.old }
     ensures { s.new ≡ put s.old at 16 (λ k. f32 (get_or block k 0)) }
 {
-    for i in 0..Lanes::PIXELS {
-        s[at + i] = block[i] as f32;
-    }
+    let floats: [f32; Lanes::PIXELS] = from_fn(|i| f32::from(block[i]));
+    put_block(s, at, floats);
 }

@@ -29,13 +29,11 @@ fn across_taps(
     requires n_bound { (dst + from + n ≤ src) × (src + cw ≤ length s.old) }
     ensures { s.new ≡ across_run axis src cw r dst from n s.old }
 {
-    let mut i = 0;
-    while i < n {
+    for i in 0..n {
         let t = tap_at(axis, r, cw, from + i);
         let i0 = t.i0;
         let i1 = t.i1;
         s[dst + from + i] = lerp(s[src + i0], s[src + i1], t.f);
-        i += 1;
     }
 }
 
@@ -47,10 +45,8 @@ fn put_between(s: &mut [f32], src: usize, r: usize, parts: [f32; 4], dst: usize)
 {
     let a = s[src];
     let b = s[src + 1];
-    let mut k = 0;
-    while k < r {
+    for k in 0..r {
         s[dst + k] = lerp(a, b, parts[k]);
-        k += 1;
     }
 }
 
@@ -60,10 +56,8 @@ fn across_each(s: &mut [f32], src: usize, r: usize, parts: [f32; 4], n: usize, d
     requires { (r ≤ 4) × (dst + r * n ≤ src) × (src + (n + 1) ≤ length s.old) }
     ensures { s.new ≡ between_run (parts_in parts) r src n dst s.old }
 {
-    let mut i = 0;
-    while i < n {
+    for i in 0..n {
         put_between(s, src + i, r, parts, dst + r * i);
-        i += 1;
     }
 }
 

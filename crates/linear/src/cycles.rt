@@ -4,7 +4,8 @@ ghost use Rattle.std.specs.Prelude.{◌≡◌, ℕ, ◌+◌, ◌*◌, ◌≤◌,
 ghost use Rattle.linear.specs.Inner.AcrossRows.{across_run, cycle_run, Cycled, first_of};
 
 use laws::Axis;
-use taps::{lerp, tap_at};
+use std::array::from_fn;
+use taps::{Tap, lerp, tap_at};
 
 // The near cells and the fractions of one turn's outputs. An array has four places, and what stands past the ratio is no output's.
 #[derive(Clone, Copy)]
@@ -18,13 +19,10 @@ pub fn cycle_of(axis: Axis, r: usize, cw: usize, from: usize) -> Cycle
     requires { (axis.num < r) × (r ≤ 4) × (0 < cw) × (from ≤ 1) }
     ensures { Cycled axis r cw from result }
 {
-    let t0 = tap_at(axis, r, cw, from);
-    let t1 = tap_at(axis, r, cw, from + 1);
-    let t2 = tap_at(axis, r, cw, from + 2);
-    let t3 = tap_at(axis, r, cw, from + 3);
+    let taps: [Tap; 4] = from_fn(|k| tap_at(axis, r, cw, from + k));
     Cycle {
-        cells: [t0.i0, t1.i0, t2.i0, t3.i0],
-        parts: [t0.f, t1.f, t2.f, t3.f],
+        cells: from_fn(|k| taps[k].i0),
+        parts: from_fn(|k| taps[k].f),
     }
 }
 
@@ -33,16 +31,15 @@ fn cycle_step(turn: Cycle, s: &mut [f32], src: usize, r: usize, dst: usize)
     requires { (r ≤ 4) × (dst + r ≤ src) × ((k : ℕ) → k < r → src + (get_or turn.cells k 0 + 1) < length s.old) }
     ensures { s.new ≡ cycle_run turn src r dst s.old }
 {
-    let mut k = 0;
-    while k < r {
+    for k in 0..r {
         let i = turn.cells[k];
         s[dst + k] = lerp(s[src + i], s[src + (i + 1)], turn.parts[k]);
-        k += 1;
     }
 }
 
 // n turns from output `from` on, which is the first that isn't below the first cell. It is called with a literal ratio, so that the compiler
-// makes a loop for each.
+// makes a loop for each. A turn whose cells are all its first would be a pair of `across_each`; that loop stays, since it reads a pair's two
+// cells once for all outputs between them, and here each output names cells of its own.
 fn each_cycle(
     axis: Axis,
     turn: Cycle,
@@ -58,10 +55,8 @@ fn each_cycle(
     requires n_bound { (dst + from + r * n ≤ src) × (src + cw ≤ length s.old) }
     ensures { s.new ≡ across_run axis src cw r dst from (r * n) s.old }
 {
-    let mut i = 0;
-    while i < n {
+    for i in 0..n {
         cycle_step(turn, s, src + axis.num * i, r, dst + from + r * i);
-        i += 1;
     }
 }
 

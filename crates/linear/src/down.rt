@@ -20,11 +20,9 @@ pub fn down_row(
     requires n_in_bounds { dst + n ≤ length s.old }
     ensures { s.new ≡ down_run plane.now sample_bytes a b f n dst s.old }
 {
-    let mut i = 0;
-    while i < n {
+    for i in 0..n {
         let near = image::sample(plane, sample_bytes, a + i * sample_bytes);
         let far = image::sample(plane, sample_bytes, b + i * sample_bytes);
-        s[dst + i] = lerp(near as f32, far as f32, f);
-        i += 1;
+        s[dst + i] = lerp(f32::from(near), f32::from(far), f);
     }
 }

@@ -63,11 +63,9 @@ fn linear_rows(layout: Layout, plane: &[u8], stride: usize, s: &mut [f32], out: 
 {
     let w = layout.w;
     let h = layout.h;
-    let mut y = 0;
-    while y < h {
+    for y in 0..h {
         linear_row(layout, plane, stride, y, s, 0);
         store_row(s, 0, w, layout.maxval, out, y * w);
-        y += 1;
     }
 }
 

@@ -7,9 +7,7 @@ pub fn store_row(s: &[f32], src: usize, n: usize, maxval: u32, out: &mut [u16], 
     requires { (maxval ≤ 65535) × (src + n ≤ length s.now) × (at + n ≤ length out.old) }
     ensures { out.new ≡ store_run s.now src n maxval at out.old }
 {
-    let mut i = 0;
-    while i < n {
+    for i in 0..n {
         out[at + i] = fround::round_clamped_by_grid(s[src + i], maxval) as u16;
-        i += 1;
     }
 }

@@ -55,10 +55,5 @@ pub fn parts_of(siting: Siting, r: usize) -> [f32; 4]
     requires { r ≤ 4 }
     ensures { (k : ℕ) → k < 4 → parts_in result k ≡ part_of siting r k }
 {
-    [
-        part_at(siting, r, 0),
-        part_at(siting, r, 1),
-        part_at(siting, r, 2),
-        part_at(siting, r, 3),
-    ]
+    std::array::from_fn(|k| part_at(siting, r, k))
 }

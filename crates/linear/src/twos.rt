@@ -36,11 +36,9 @@ pub fn across_twos(s: &mut [f32], src: usize, parts: [f32; 4], n: usize, dst: us
     requires { (8 ≤ n) × (dst + 2 * n ≤ src) × (src + (n + 1) ≤ length s.old) }
     ensures { s.new ≡ between_run (parts_in parts) 2 src n dst s.old }
 {
-    let mut done = 0;
-    while done < n {
-        let i = laws::least(done, n - Lanes::CELLS);
+    for b in 0..n.div_ceil(Lanes::CELLS) {
+        let i = (b * Lanes::CELLS).min(n - Lanes::CELLS);
         let v = twos_block(s, src, parts, i);
         put_block(s, dst + 2 * i, v);
-        done = i + Lanes::CELLS;
     }
 }

@@ -4,7 +4,8 @@
 ghost use Rattle.std.specs.Prelude.{◌≡◌, true, false, ◌≤◌, ◌<◌};
 ghost use Rattle.taps.specs.Taps.{phase_of, phase_at, phases_of};
 
-// How a pixel of a cell goes across: from the left neighbour to its own cell, or from its own to the right one, and how far.
+// How a pixel of a cell goes across: from the left neighbour to its own cell, or from its own to the right one, and how far. It is no enum,
+// since the C interface has these two fields, and both sides have the fraction.
 #[derive(Clone, Copy)]
 pub struct Phase {
     pub left: bool,
@@ -25,63 +26,26 @@ fn to_right(f: f32) -> Phase
     Phase { left: false, f }
 }
 
-// Ratio 2: 3/4 from the left, 1/4.
-fn of_two(k: usize) -> Phase
-    requires { k < 2 }
-    ensures { result ≡ phase_of 2 k }
-{
-    if k == 0 {
-        return from_left(0.75);
-    }
-    to_right(0.25)
-}
-
-// Ratio 3: 4/6 from the left, 0, 2/6. The first and the last are no floats, and the literals are the floats nearest to them.
-fn of_three(k: usize) -> Phase
-    requires { k < 3 }
-    ensures { result ≡ phase_of 3 k }
-{
-    if k == 0 {
-        return from_left(0.6666667);
-    }
-    if k == 1 {
-        return to_right(0.0);
-    }
-    to_right(0.33333334)
-}
-
-// Ratio 4: 5/8, 7/8 from the left, 1/8, 3/8.
-fn of_four(k: usize) -> Phase
-    requires { k < 4 }
-    ensures { result ≡ phase_of 4 k }
-{
-    if k == 0 {
-        return from_left(0.625);
-    }
-    if k == 1 {
-        return from_left(0.875);
-    }
-    if k == 2 {
-        return to_right(0.125);
-    }
-    to_right(0.375)
-}
-
 // Inner: the phase of pixel k of a cell at ratio r. At ratio 1 the cell is its pixel.
+//
+// Ratio 2 has 3/4 from the left and 1/4; ratio 3 has 4/6 from the left, 0 and 2/6, of which the first and the last are no floats, and the
+// literals are the floats nearest to them; ratio 4 has 5/8 and 7/8 from the left, 1/8 and 3/8.
 pub fn phase_of(r: usize, k: usize) -> Phase
     requires { (k < r) × (r ≤ 4) }
     ensures { result ≡ phase_of r k }
 {
-    if r == 1 {
-        return to_right(0.0);
+    match (r, k) {
+        (2, 0) => from_left(0.75),
+        (2, _) => to_right(0.25),
+        (3, 0) => from_left(0.6666667),
+        (3, 1) => to_right(0.0),
+        (3, _) => to_right(0.33333334),
+        (4, 0) => from_left(0.625),
+        (4, 1) => from_left(0.875),
+        (4, 2) => to_right(0.125),
+        (4, _) => to_right(0.375),
+        _ => to_right(0.0),
     }
-    if r == 2 {
-        return of_two(k);
-    }
-    if r == 3 {
-        return of_three(k);
-    }
-    of_four(k)
 }
 
 // Inner: phase k of a geometry at ratio r. One past the ratio is no pixel's: it goes from its own cell, fraction 0.

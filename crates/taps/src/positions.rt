@@ -26,7 +26,7 @@ pub fn fraction(k: usize, d: usize) -> f32
     requires { (k < 65536) × (d < 65536) }
     ensures { result ≡ fraction_of k d }
 {
-    (k as u16) as f32 / (d as u16) as f32
+    f32::from(k as u16) / f32::from(d as u16)
 }
 
 // The tap of an output that takes cell i alone.

@@ -71,18 +71,17 @@ fn inner_pairs(
         (λ x. across_row bias cw (sums sample_bytes plane.now near far) (2 + x)) }
 {
     let n = cw - 2;
-    let mut k = 0;
-    while k < n {
+    for k in 0..n {
         let before = cell_sum(plane, sample_bytes, near, far, k);
         let middle = cell_sum(plane, sample_bytes, near, far, k + 1);
         let after = cell_sum(plane, sample_bytes, near, far, k + 2);
         put_pair(out, at + 2 * k, before, middle, after, bias);
-        k += 1;
     }
 }
 
 // The outputs of the cells between the first and the last of a row, for samples of one byte. In 16 bits the compiler computes twice as many
-// at once as in 32.
+// at once as in 32. It stays beside `inner_pairs`: a trait of the two widths would say again what each width's sum and pair promise, and be
+// longer than the loop that it saves.
 fn inner_bytes(
     plane: &[u8],
     near: usize,
@@ -99,13 +98,11 @@ fn inner_bytes(
         (λ x. across_row bias cw (sums 1 plane.now near far) (2 + x)) }
 {
     let n = cw - 2;
-    let mut k = 0;
-    while k < n {
+    for k in 0..n {
         let before = byte_sum(plane, near, far, k);
         let middle = byte_sum(plane, near, far, k + 1);
         let after = byte_sum(plane, near, far, k + 2);
         put_pair_u16(out, at + 2 * k, before, middle, after, bias);
-        k += 1;
     }
 }
 

@@ -29,5 +29,5 @@ pub fn weigh(near: u32, far: u32, bias: u16) -> u16
     requires { (near ≤ 262140) × (far ≤ 262140) × (bias ≤ 8) }
     ensures { result ≡ (3 * near + far + bias) / 16 }
 {
-    ((3 * near + far + bias as u32) >> 4) as u16
+    ((3 * near + far + u32::from(bias)) >> 4) as u16
 }

@@ -23,14 +23,12 @@ fn down_cells(
     requires w_in_bounds { at + w ≤ length out.old }
     ensures { out.new ≡ put out.old at w (down_row sample_bytes plane.now near far bias) }
 {
-    let mut x = 0;
-    while x < w {
+    for x in 0..w {
         out[at + x] = one_axis(
             cell(plane, sample_bytes, near, x),
             cell(plane, sample_bytes, far, x),
-            bias as u32,
+            u32::from(bias),
         );
-        x += 1;
     }
 }
 

@@ -43,10 +43,8 @@ fn triangular(layout: Layout, plane: &[u8], stride: usize, out: &mut [u16])
     requires { first (triangular_tests layout (plane_of plane.now stride) (length out.old)) ≡ Ok tt }
     ensures { out.new ≡ triangular_plane layout (plane_of plane.now stride) out.old }
 {
-    let mut y = 0;
-    while y < layout.h {
+    for y in 0..layout.h {
         triangular_row(layout, plane, stride, y, out);
-        y += 1;
     }
 }
 

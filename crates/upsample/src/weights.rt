@@ -28,7 +28,7 @@ pub fn cell(plane: &[u8], sample_bytes: usize, row: usize, i: usize) -> u32
     requires { RowInside sample_bytes (i + 1) row (length plane.now) }
     ensures { (result ≡ cells sample_bytes plane.now row i) × (result ≤ 65535) }
 {
-    image::sample(plane, sample_bytes, row + i * sample_bytes) as u32
+    u32::from(image::sample(plane, sample_bytes, row + i * sample_bytes))
 }
 
 // Inner: the vertical sum of cell i: three parts of the near row and one of the far, at most 262,140 = 4 * 65,535.
@@ -40,18 +40,11 @@ pub fn cell_sum(plane: &[u8], sample_bytes: usize, near: usize, far: usize, i: u
     3 * cell(plane, sample_bytes, near, i) + cell(plane, sample_bytes, far, i)
 }
 
-// A byte as a number of 16 bits. Its contract spares the reads below a proof that the cast fits.
-fn wide(x: u8) -> u16
-    ensures { (result ≡ x) × (result < 256) }
-{
-    x as u16
-}
-
 // Inner: the vertical sum of cell i for samples of one byte, at most 1,020 = 4 * 255: small enough to be weighed in 16 bits.
 pub fn byte_sum(plane: &[u8], near: usize, far: usize, i: usize) -> u16
     requires row_inside { RowInside 1 (i + 1) near (length plane.now) }
     requires row_inside_2 { RowInside 1 (i + 1) far (length plane.now) }
     ensures { (result ≡ sums 1 plane.now near far i) × (result ≤ 1020) }
 {
-    3 * wide(plane[near + i]) + wide(plane[far + i])
+    3 * u16::from(plane[near + i]) + u16::from(plane[far + i])
 }

@@ -2,11 +2,10 @@
 -- That c lies below 2 ^ 24 bounds the exponent's field by 150 (`field_le`), by which the count of the shift is not below 0.
 use mathlib.Core.Path.{sym, subst}
 use mathlib.Core.Bool.{not}
-use Prim.Native.Nat.{◌+◌, ◌-◌, ◌*◌, ◌/◌, ◌%◌, ◌^◌, min}
-use native.Mathlib.Nat.{div-le_self}
+use Prim.Native.Nat.{min}
 use native.Mathlib.Omega.{arith}
 use lib.Dec.{T}
-use lib.Ieee.{Float, binary32, to_bits, is_nan}
+use lib.Ieee.{Float, is_nan}
 use Rattle.fround.proofs.Laws.{rounded}
 use Rattle.fround.proofs.Limits.{Limited, limited_by}
 use Rattle.fround.proofs.ByBits.{field_le, low_field, high_field}
@@ -15,28 +14,23 @@ use Rattle.fround.proofs.round_clamped_by_bits.Goals as goal
 pub float_to_bits-b : goal.float_to_bits-b
 unfolding is_nan
 float_to_bits-b c =
-    let lim : Limited (min c.args.max 16776960) c.args.x c.clamp-b.result = limited_by c.args.x c.clamp-b.result c.least.result c.args.max 16776960 c.well_formed.0.1 (omega arith) c.least.ensures c.clamp-b.ensures in
+    let lim : Limited (min c.args.max 16776960) c.args.x c.clamp-b.result = limited_by c.args.x c.clamp-b.result c.min.result c.args.max 16776960 c.well_formed.0.1 (omega arith) c.min.ensures c.clamp-b.ensures in
     subst (λ (z : Float). T (not (is_nan z))) (sym lim.is) tt
 
 pub overflow_sub-result : goal.overflow_sub-result
 overflow_sub-result c =
-    let lim : Limited (min c.args.max 16776960) c.args.x c.clamp-b.result = limited_by c.args.x c.clamp-b.result c.least.result c.args.max 16776960 c.well_formed.0.1 (omega arith) c.least.ensures c.clamp-b.ensures in
+    let lim : Limited (min c.args.max 16776960) c.args.x c.clamp-b.result = limited_by c.args.x c.clamp-b.result c.min.result c.args.max 16776960 c.well_formed.0.1 (omega arith) c.min.ensures c.clamp-b.ensures in
     let a = c.args in
     field_le a.x c.clamp-b.result (min a.max 16776960) (omega arith) lim
 
-pub overflow_add-result : goal.overflow_add-result
-overflow_add-result c =
-    let b = to_bits binary32 c.clamp-b.result in
-    omega (arith, div-le_self ((8388608 + b % 8388608) * 2) (2 ^ (150 - b / 8388608)))
-
 pub returns-then-e-lt126 : goal.returns-then-e-lt126
 returns-then-e-lt126 c =
-    let lim : Limited (min c.args.max 16776960) c.args.x c.clamp-b.result = limited_by c.args.x c.clamp-b.result c.least.result c.args.max 16776960 c.well_formed.0.1 (omega arith) c.least.ensures c.clamp-b.ensures in
+    let lim : Limited (min c.args.max 16776960) c.args.x c.clamp-b.result = limited_by c.args.x c.clamp-b.result c.min.result c.args.max 16776960 c.well_formed.0.1 (omega arith) c.min.ensures c.clamp-b.ensures in
     let a = c.args in
     rounded (low_field a.x c.clamp-b.result (min a.max 16776960) lim (omega arith))
 
 pub returns-else-e-lt126 : goal.returns-else-e-lt126
 returns-else-e-lt126 c =
-    let lim : Limited (min c.args.max 16776960) c.args.x c.clamp-b.result = limited_by c.args.x c.clamp-b.result c.least.result c.args.max 16776960 c.well_formed.0.1 (omega arith) c.least.ensures c.clamp-b.ensures in
+    let lim : Limited (min c.args.max 16776960) c.args.x c.clamp-b.result = limited_by c.args.x c.clamp-b.result c.min.result c.args.max 16776960 c.well_formed.0.1 (omega arith) c.min.ensures c.clamp-b.ensures in
     let a = c.args in
     rounded (high_field a.x c.clamp-b.result (min a.max 16776960) (omega arith) lim (omega arith))

@@ -15,14 +15,14 @@ use Rattle.fround.proofs.round_clamped_by_grid.Goals as goal
 pub float_to_bits-n : goal.float_to_bits-n
 unfolding of_bits
 float_to_bits-n c =
-    let lim : Limited (min c.args.max 4194304) c.args.x c.clamp-c.result = limited_by c.args.x c.clamp-c.result c.least.result c.args.max 4194304 c.well_formed.0.1 (omega arith) c.least.ensures c.clamp-c.ensures in
+    let lim : Limited (min c.args.max 4194304) c.args.x c.clamp-c.result = limited_by c.args.x c.clamp-c.result c.min.result c.args.max 4194304 c.well_formed.0.1 (omega arith) c.min.ensures c.clamp-c.ensures in
     let a = c.args in
     subst (λ (t : Float). T (not (is_nan t))) (sym c.on_grid-t.ensures) (sum_no_nan a.x c.clamp-c.result (min a.max 4194304) (omega arith) lim)
 
 pub returns-then-c-t : goal.returns-then-c-t
 unfolding of_bits
 returns-then-c-t c =
-    let lim : Limited (min c.args.max 4194304) c.args.x c.clamp-c.result = limited_by c.args.x c.clamp-c.result c.least.result c.args.max 4194304 c.well_formed.0.1 (omega arith) c.least.ensures c.clamp-c.ensures in
+    let lim : Limited (min c.args.max 4194304) c.args.x c.clamp-c.result = limited_by c.args.x c.clamp-c.result c.min.result c.args.max 4194304 c.well_formed.0.1 (omega arith) c.min.ensures c.clamp-c.ensures in
     let sum : (b : Bool) → eq (sub binary32 c.clamp-c.result (sub binary32 c.on_grid-t.result two23)) half ≡ b
     → to_bits binary32 c.on_grid-t.result % 8388608 + cond b 1 0 ≡ round_clamped (min c.args.max 4194304) c.args.x = λ b e. let a = c.args in
     ap (λ (b : Bool). to_bits binary32 c.on_grid-t.result % 8388608 + cond b 1 0) (sym e)
@@ -32,7 +32,7 @@ returns-then-c-t c =
 pub returns-else-c-t : goal.returns-else-c-t
 unfolding of_bits
 returns-else-c-t c =
-    let lim : Limited (min c.args.max 4194304) c.args.x c.clamp-c.result = limited_by c.args.x c.clamp-c.result c.least.result c.args.max 4194304 c.well_formed.0.1 (omega arith) c.least.ensures c.clamp-c.ensures in
+    let lim : Limited (min c.args.max 4194304) c.args.x c.clamp-c.result = limited_by c.args.x c.clamp-c.result c.min.result c.args.max 4194304 c.well_formed.0.1 (omega arith) c.min.ensures c.clamp-c.ensures in
     let sum : (b : Bool) → eq (sub binary32 c.clamp-c.result (sub binary32 c.on_grid-t.result two23)) half ≡ b
     → to_bits binary32 c.on_grid-t.result % 8388608 + cond b 1 0 ≡ round_clamped (min c.args.max 4194304) c.args.x = λ b e. let a = c.args in
     ap (λ (b : Bool). to_bits binary32 c.on_grid-t.result % 8388608 + cond b 1 0) (sym e)

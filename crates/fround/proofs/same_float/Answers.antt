@@ -1,17 +1,7 @@
-use mathlib.Core.Path.{refl, sym, subst}
-use mathlib.Core.Bool.{Bool, not}
-use lib.Dec.{T}
+use mathlib.Core.Path.{refl}
 use Rattle.laws.proofs.Order.{self_equal, self_unequal, differs_self}
 use Rattle.fround.specs.Rounding.{is_same_float}
 use Rattle.fround.proofs.same_float.Goals as goal
-
-pub float_to_bits-result : goal.float_to_bits-result
-float_to_bits-result c =
-    subst (λ (b : Bool). T (not b)) (sym (self_equal c.args.x c.if-x.true)) tt
-
-pub float_to_bits-result-then-y : goal.float_to_bits-result-then-y
-float_to_bits-result-then-y c =
-    subst (λ (b : Bool). T (not b)) (sym (self_equal c.args.y c.if-y.true)) tt
 
 pub returns-then-y : goal.returns-then-y
 unfolding is_same_float

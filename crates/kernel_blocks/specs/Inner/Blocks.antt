@@ -4,7 +4,16 @@ use Rattle.std.specs.Int.Signed.{mag}
 use Rattle.std.specs.Float.{nan}
 use Rattle.kernels.specs.Kernels.{exact255}
 use Rattle.kernel_blocks.specs.Inner.Stores.{entry}
-use Rattle.kernel_blocks.specs.Inner.Floating.{Centred, Chroma, Lowered, Luma}
+use Rattle.kernels.specs.Inner.Forms.{plus_chroma}
+use Rattle.kernel_blocks.specs.Inner.Floating.{Centred, Chroma, Lowered, Luma, Multiplier}
+
+-- v is red or blue of the exact kernel, of the luma that y is lowered from and the chroma that x is
+pub record ChromaByte (k tie : Float) (y : ℤ) (x : Float) (v : ℕ) : Type 0 where
+  pub is : (m l c : ℕ) → Multiplier k tie m → Lowered y l → Centred x c → v ≡ plus_chroma m l c
+
+-- v is green of it
+pub record GreenByte (y : ℤ) (cb cr : Float) (v : ℕ) : Type 0 where
+  pub is : (l b r : ℕ) → Lowered y l → Centred cb b → Centred cr r → v ≡ (exact255 l b r).green
 
 -- row 0 is red, row 1 green, row 2 blue, of the exact kernel at each pixel; chroma as floats, centred
 pub record BlockOf (n : ℕ) (rows : List (List ℕ)) (y : List ℕ) (cb cr : List Float) : Type 0 where

@@ -4,6 +4,7 @@ use Rattle.std.specs.Float.{nan, fin, binary32}
 use Rattle.std.specs.Float.Ieee.{to_bits}
 use Rattle.laws.specs.Floats.{f32, ◌⊕◌, ◌⊖◌, ◌⊗◌}
 use Rattle.kernels.specs.T871.{studio255}
+use Rattle.kernels.specs.Inner.Forms.{studio_chroma}
 use Rattle.kernel_blocks.specs.Inner.Stores.{entry}
 use Rattle.kernel_blocks.specs.Inner.Floating.{Centred, middle}
 
@@ -72,6 +73,14 @@ FallSure x y l = fall_bits (luma_part less_shift l) x y ≡ fall_bits (luma_part
 -- what the rows of a block have of luma: itself, and its two parts
 abbrev pub Parts : ℕ → Float → Float → Type 0
 Parts l less more = Part less_shift less l × Part more_shift more l
+
+-- v is red or blue of a pixel of luma l in studio range, m being the multiplier's thousandths in full range
+pub record ToneByte (m l : ℕ) (x : Float) (v : ℕ) : Type 0 where
+  pub is : (c : ℕ) → Centred x c → v ≡ studio_chroma m l c
+
+-- v is green of it
+pub record FallByte (l : ℕ) (cb cr : Float) (v : ℕ) : Type 0 where
+  pub is : (b r : ℕ) → Centred cb b → Centred cr r → v ≡ (studio255 l b r).green
 
 -- row 0 is red, row 1 green, row 2 blue, of the exact kernel in studio range at each pixel; chroma as floats, centred
 pub record StudioBlock (n : ℕ) (rows : List (List ℕ)) (y : List ℕ) (cb cr : List Float) : Type 0 where

@@ -1,20 +1,17 @@
+-- The part that is overwritten has N places, at + N - at as the range counts them.
+use mathlib.Core.Path.{◌≡◌}
+use Prim.Native.Nat.{◌+◌, ◌-◌}
 use native.Mathlib.Omega.{arith}
-use Rattle.laws.proofs.Lists.{run_end, run_more, run_none}
-use mathlib.Core.Path.{refl}
+use lib.ListN.{length}
+use Rattle.std.proofs.Common.{rules}
+use lib.Ieee.{nan}
+use Rattle.lanes.proofs.Overwritten.{overwritten}
 use Rattle.lanes.proofs.put_block.Goals as goal
 
-pub loop-k-init : goal.loop-k-init
-loop-k-init c =
-    (omega arith, run_none _ _ _)
-
-pub loop-k-preserved : goal.loop-k-preserved
-loop-k-preserved c =
-    (omega arith, run_more c.loop-k.invariant.1 _ refl)
-
-pub shape_of-s : goal.shape_of-s
-shape_of-s c =
-    c.loop-k.invariant.1.len
-
 pub returns : goal.returns
-returns c =
-    run_end c.loop-k.invariant.1 _ (omega arith) (omega arith)
+returns g c =
+    let a = c.args in
+    let e : a.at + g.row.N - a.at ≡ g.row.N = omega arith in
+    let x = c.copy_from_slice.ensures.after in
+    let l : length a.block ≡ g.row.N = search rules in
+    rw (e, x) (overwritten a.s.now a.block a.at g.row.N nan l c.requires)

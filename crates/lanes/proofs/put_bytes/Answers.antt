@@ -1,20 +1,14 @@
-use mathlib.Core.Path.{refl}
-use native.Mathlib.Omega.{arith}
-use Rattle.laws.proofs.Lists.{run_end, run_more, run_none}
+use mathlib.Core.Path.{◌≡◌, ◌∙◌}
+use Prim.Native.Nat.{ℕ}
+use lib.ListN.{get_or}
+use lib.Ieee.{Float, nan}
+use Rattle.std.proofs.Common.{rules}
+use Rattle.laws.specs.Floats.{f32}
+use Rattle.laws.proofs.Lists.{put_same}
+use Rattle.lanes.proofs.Made.{made}
 use Rattle.lanes.proofs.put_bytes.Goals as goal
-
-pub loop-i-init : goal.loop-i-init
-loop-i-init c =
-    (omega arith, run_none _ _ _)
-
-pub loop-i-preserved : goal.loop-i-preserved
-loop-i-preserved c =
-    (omega arith, run_more c.loop-i.invariant.1 _ refl)
-
-pub shape_of-s : goal.shape_of-s
-shape_of-s c =
-    c.loop-i.invariant.1.len
 
 pub returns : goal.returns
 returns c =
-    run_end c.loop-i.invariant.1 _ (omega arith) (omega arith)
+    let b = c.args.block in
+    c.put_block.ensures ∙ put_same _ _ 16 _ _ (λ k h. made c.from_fn-floats.ensures.items (λ (i : ℕ) (v : Float). v ≡ f32 (get_or b i 0)) (λ i v q l u. (search rules, search rules)) k nan h)

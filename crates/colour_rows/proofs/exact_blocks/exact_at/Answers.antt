@@ -8,4 +8,4 @@ use Rattle.colour_rows.proofs.exact_blocks.exact_at.Goals as goal
 pub returns : goal.returns
 returns c =
     let a = c.args in
-    λ k h. c.exact_pixels.ensures k h ∙ in_row Exact a.layout (plane_of a.plane.now a.stride) a.row a.s.now (a.x + k) (c.luma_block-y.ensures k h) (c.requires.blocks_lent.0.exact refl)
+    record { at = λ k h. c.exact_pixels.ensures k h ∙ in_row Exact a.layout (plane_of a.plane.now a.stride) a.row a.s.now (a.x + k) (c.luma_block-y.ensures k h) (c.requires.blocks_lent.0.exact refl) }

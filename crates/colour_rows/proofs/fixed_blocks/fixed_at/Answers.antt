@@ -8,4 +8,4 @@ use Rattle.colour_rows.proofs.fixed_blocks.fixed_at.Goals as goal
 pub returns : goal.returns
 returns c =
     let a = c.args in
-    λ k h. c.fixed_pixels.ensures _ k h ∙ in_row FixedPoint16 a.layout (plane_of a.plane.now a.stride) a.row a.s.now (a.x + k) (c.luma_block-y.ensures k h) refl
+    record { at = λ k h. c.fixed_pixels.ensures _ k h ∙ in_row FixedPoint16 a.layout (plane_of a.plane.now a.stride) a.row a.s.now (a.x + k) (c.luma_block-y.ensures k h) refl }

@@ -1,17 +1,20 @@
-use native.Mathlib.Omega.{arith}
-use Rattle.laws.proofs.Lists.{run_none, front_more, front_at}
-use lib.Ieee.{nan}
+use Prim.Native.Nat.{ℕ, ◌+◌}
+use mathlib.Core.Path.{◌≡◌}
+use lib.Ieee.{nan, Float}
+use Rattle.laws.specs.Floats.{f32, ◌⊖◌, ◌⊗◌}
+use Rattle.fround.specs.Rounding.{round_clamped}
 use Rattle.fround.proofs.Laws.{round_within}
+use Rattle.image.specs.Scratch.{cell_at}
+use Rattle.std.proofs.Common.{rules}
+use Rattle.lanes.proofs.Made.{made}
 use Rattle.colour_rows.proofs.samples.chroma_block.Goals as goal
-
-pub loop-k-init : goal.loop-k-init
-loop-k-init c =
-    (omega arith, run_none _ _ _)
-
-pub loop-k-preserved : goal.loop-k-preserved
-loop-k-preserved c =
-    (omega arith, front_more c.loop-k.invariant.1 _ c.centred_256ths.ensures)
 
 pub returns : goal.returns
 returns c =
-    λ k h. record { most = round_within _ _; is = front_at c.loop-k.invariant.1 k nan (omega arith) (omega arith) }
+    let a = c.args in
+    λ k h. record {
+      most = round_within _ _;
+      is = made c.from_fn.ensures.items
+          (λ (i : ℕ) (v : Float). v ≡ f32 (round_clamped 65536 (cell_at a.s.now a.src (a.x + i) ⊗ f32 256)) ⊖ f32 32768)
+          (λ i v q l u. (search rules, search rules)) k nan h;
+    }

@@ -7,4 +7,4 @@ use Rattle.colour_rows.proofs.studio_blocks.studio_at.Goals as goal
 pub returns : goal.returns
 returns c =
     let a = c.args in
-    λ k h. c.studio_pixels.ensures k h ∙ in_studio a.layout (plane_of a.plane.now a.stride) a.row a.s.now (a.x + k) (c.luma_block-y.ensures k h)
+    record { at = λ k h. c.studio_pixels.ensures k h ∙ in_studio a.layout (plane_of a.plane.now a.stride) a.row a.s.now (a.x + k) (c.luma_block-y.ensures k h) }

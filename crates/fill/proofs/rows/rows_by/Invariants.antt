@@ -8,9 +8,5 @@ use Rattle.fill.proofs.Painted.{Painted}
 use Rattle.fill.proofs.rows.rows_by.Given as goal
 
 abbrev pub invariant-loop-n : goal.invariant-loop-n
-invariant-loop-n l = (l.n ≤ l.b - l.a)
-    × Painted l.layout.w l.size (fill_colour l.upsampling l.kernel (picture_of l.layout (planes_of l.y l.cb l.cr l.strides))) l.a l.n l.initial.out l.out
+invariant-loop-n l = Painted l.layout.w l.size (fill_colour l.upsampling l.kernel (picture_of l.layout (planes_of l.y l.cb l.cr l.strides))) l.a l.n l.initial.out l.out
     × Scratched l.upsampling l.layout (planes_of l.y l.cb l.cr l.strides) l.a l.n l.initial.s l.s
-
-abbrev pub decreases-loop-n : goal.decreases-loop-n
-decreases-loop-n l = l.b - l.a - l.n

@@ -1,28 +1,8 @@
-use mathlib.Core.Path.{◌≡◌}
-use Prim.Native.Nat.{ℕ}
-use native.Mathlib.Omega.{arith}
-use lib.Bits.{bit_or, or_add_and, and_le_l, and_le_r}
-use lib.ListN.{get_or}
-use lib.Ieee.{nan}
-use borrow.Author.Count.{below_none, below_more}
-use Rattle.kernel_blocks.specs.Inner.Floating.{Sure}
+use Rattle.std.proofs.Common.{rules}
 use Rattle.kernel_blocks.proofs.exact.doubt.Goals as goal
 
-or-zero : (a b : ℕ) → bit_or a b ≡ 0 → (a ≡ 0) × (b ≡ 0)
-or-zero a b e = let s = or_add_and a b in let l = and_le_l a b in let r = and_le_r a b in (omega arith, omega arith)
-
-pub loop-i-init : goal.loop-i-init
-loop-i-init c =
-    (omega arith, λ e. below_none _)
-
-pub green_doubt-d-requires : goal.green_doubt-d-requires
-green_doubt-d-requires c =
-    c.requires c.loop-i.i (omega arith)
-
-pub loop-i-preserved : goal.loop-i-preserved
-loop-i-preserved c =
-    (omega arith, λ e. let z = or-zero _ _ e in below_more (λ (j : ℕ). Sure (get_or c.args.cb j nan) (get_or c.args.cr j nan)) c.loop-i.i (c.loop-i.invariant.1 z.0) (c.green_doubt-d.ensures z.1))
+pub any_doubt-requires : goal.any_doubt-requires
+any_doubt-requires c = λ i h. let p = c.requires i h in search rules
 
 pub returns : goal.returns
-returns c =
-    λ e j h. c.loop-i.invariant.1 e j (omega arith)
+returns c = λ z i h. let q = c.any_doubt.ensures z i h in search rules

@@ -1,31 +1,25 @@
-use mathlib.Core.Path.{refl}
+use mathlib.Core.Path.{◌≡◌}
+use Prim.Native.Nat.{ℕ}
 use native.Mathlib.Omega.{arith}
-use Rattle.lanes.proofs.Filled.{filled_none, filled_more}
-use Rattle.kernels.specs.Kernels.{exact255}
-use Rattle.kernel_blocks.proofs.Lumas.{lowered_held, luma_held, byte_is}
+use lib.IntN.{pos}
+use lib.ListN.{get_or}
+use lib.Ieee.{nan}
+use Rattle.std.proofs.Common.{rules}
+use Rattle.lanes.proofs.Made.{made, at_places}
+use Rattle.kernel_blocks.specs.Inner.Blocks.{GreenByte}
+use Rattle.kernel_blocks.specs.Inner.Floating.{Sure}
 use Rattle.kernel_blocks.proofs.exact.green_row.Goals as goal
 
 pub doubt-d-requires : goal.doubt-d-requires
-doubt-d-requires c =
-    λ i h. let p = c.requires i h in (p.1, p.2)
+doubt-d-requires c = λ i h. let p = c.requires i h in (p.1, p.2)
 
-pub loop-i-init : goal.loop-i-init
-loop-i-init c =
-    (omega arith, filled_none _ _ refl)
-
-pub green_by_doubt-requires : goal.green_by_doubt-requires
-green_by_doubt-requires c =
-    let i = c.loop-i.i in let p = c.requires i (omega arith) in (p.1, p.2, λ e. c.doubt-d.ensures e i (omega arith))
-
-pub limit_sum-requires : goal.limit_sum-requires
-limit_sum-requires c =
-    let p = c.requires c.loop-i.i (omega arith) in let o = (c.green_by_doubt.ensures _ _ p.1.1 p.2.1).most in (luma_held p.0, omega arith)
-
-pub loop-i-preserved : goal.loop-i-preserved
-unfolding exact255
-loop-i-preserved c =
-    (omega arith, filled_more c.loop-i.invariant.1 (omega arith) _ (λ l b r h u v. byte_is c.limit_sum.ensures (lowered_held h) (c.green_by_doubt.ensures b r u v)))
+pub from_fn-requires : goal.from_fn-requires
+from_fn-requires c =
+    (omega arith, at_places (λ i q r. search rules) (λ i h. let p = c.requires i h in let s : c.doubt-d.result ≡ 0 → Sure (get_or c.args.cb i nan) (get_or c.args.cr i nan) = λ e. c.doubt-d.ensures e i h in search (rules, s)))
 
 pub returns : goal.returns
 returns c =
-    λ j h. c.loop-i.invariant.1.reads j (omega arith)
+    let a = c.args in
+    λ k h. (made c.from_fn.ensures.items
+    (λ (i v : ℕ). GreenByte (get_or a.y i (pos 0)) (get_or a.cb i nan) (get_or a.cr i nan) v)
+    (λ i v q l u. (search rules, search rules)) k 0 h).is

@@ -7,10 +7,6 @@ use Rattle.kernels.specs.Inner.Forms.{chroma_offset, plus_chroma}
 use Rattle.kernel_blocks.specs.Inner.Floating.{for_red, for_blue, Luma}
 use Rattle.kernel_blocks.proofs.exact.rgb_block.Goals as goal
 
-pub lowered-low-requires : goal.lowered-low-requires
-lowered-low-requires c =
-    λ i h. (c.requires i h).0
-
 pub chroma_row-red-requires : goal.chroma_row-red-requires
 unfolding of_bits neg
 chroma_row-red-requires c =

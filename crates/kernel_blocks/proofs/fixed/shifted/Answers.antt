@@ -1,18 +1,11 @@
 use mathlib.Core.Path.{◌≡◌, refl}
-use Prim.Native.Nat.{◌<◌}
 use lib.IntN.{◌+ℤ◌}
-use lib.Signed.{mag, shr_z}
+use lib.Signed.{shr_z}
 use mir.Syntax.{w32}
 use mir.Val.{to_z, of_z}
 use Rattle.laws.specs.Differences.{floor_div}
-use Rattle.kernel_blocks.proofs.FixedRows.{sum_small, fits, back, small_back, shift_is, shift_small}
+use Rattle.kernel_blocks.proofs.FixedRows.{sum_small, back, small_back, shift_is, shift_small}
 use Rattle.kernel_blocks.proofs.fixed.shifted.Goals as goal
-
-pub overflow_add-result : goal.overflow_add-result
-overflow_add-result c =
-    let as-it-is : to_z w32 (of_z w32 c.args.cb_part) +ℤ to_z w32 (of_z w32 c.args.cr_part) ≡ c.args.cb_part +ℤ c.args.cr_part = rw (small_back c.args.cb_part c.requires.0, small_back c.args.cr_part c.requires.1) refl in
-    let sums : mag (to_z w32 (of_z w32 c.args.cb_part) +ℤ to_z w32 (of_z w32 c.args.cr_part)) < 33554432 = rw as-it-is (sum_small c.args.cb_part c.args.cr_part c.requires.0 c.requires.1) in
-    fits _ sums
 
 pub returns : goal.returns
 returns c =

@@ -38,11 +38,6 @@ returns-then-z-lt0 c =
     let back : to_z w32 (of_z w32 c.args.z) ≡ c.args.z = to_z-of_z w32 c.args.z c.ranges.z in
     low _ (subst (λ (v : ℤ). lt_z v (pos 0) ≡ true) back c.if-z-lt0.true)
 
-pub overflow_cast-result : goal.overflow_cast-result
-overflow_cast-result c =
-    let passed : (let z = to_z w32 (of_z w32 c.args.z) in T (non_neg z) × (nat_abs z ≤ 255) × (nat_abs z ≡ limit 255 z)) = kept _ c.if-z-gt255.false c.if-z-lt0.false in
-    let p = passed in (p.0, record { fits = let h = p.1 in omega arith })
-
 pub returns : goal.returns
 returns c =
     let back : to_z w32 (of_z w32 c.args.z) ≡ c.args.z = to_z-of_z w32 c.args.z c.ranges.z in

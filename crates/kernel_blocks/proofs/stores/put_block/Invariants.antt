@@ -1,13 +1,9 @@
--- The loop's invariant: p is where pixel i begins, and dst is `pixels` of the first i.
--- `pixels_more` is a turn. The one step that isn't linear is that pixel i ends within dst, (i + 1) * size being at most 16 * size.
+-- The loop's invariant: dst is `pixels` of the first i. `pixels_more` is a turn. The one step that isn't linear is that pixel i ends within
+-- dst, (i + 1) * size being at most 16 * size.
 use mathlib.Core.Path.{◌≡◌}
-use Prim.Native.Nat.{◌+◌, ◌-◌, ◌*◌, ◌≤◌}
 use Rattle.kernel_blocks.specs.Stores.{pixels}
 use Rattle.kernel_blocks.specs.Inner.Stores.{block_pixel}
 use Rattle.kernel_blocks.proofs.stores.put_block.Given as goal
 
 abbrev pub invariant-loop-i : goal.invariant-loop-i
-invariant-loop-i l = (l.i ≤ 16) × (l.p ≡ l.at + l.i * l.size) × (l.dst ≡ pixels l.initial.dst l.at l.size (block_pixel l.rows) l.i)
-
-abbrev pub decreases-loop-i : goal.decreases-loop-i
-decreases-loop-i l = 16 - l.i
+invariant-loop-i l = l.dst ≡ pixels l.initial.dst l.at l.size (block_pixel l.rows) l.i

@@ -1,5 +1,5 @@
 use Rattle.kernel_blocks.proofs.Lumas.{lowered_held}
-use mathlib.Core.Path.{sym, ◌∙◌}
+use mathlib.Core.Path.{◌∙◌}
 use Rattle.kernel_blocks.proofs.Shades.{fall_byte, parted_less}
 use Rattle.kernel_blocks.proofs.studio.fall_by.Goals as goal
 
@@ -9,10 +9,5 @@ fall_near-requires c =
 
 pub returns-then-doubt-eq0 : goal.returns-then-doubt-eq0
 returns-then-doubt-eq0 c =
-    λ m n h k.
     let p = c.requires in
-    c.limit_sum.ensures ∙ rw c.fall_near.ensures.0 (fall_byte p.0 h k (lowered_held c.lower.ensures) (p.3 c.if-doubt-eq0.true))
-
-pub returns : goal.returns
-returns c =
-    λ m n h k. rw (sym (c.in_256ths.ensures.1 m h), sym (c.in_256ths-2.ensures.1 n k)) c.studio_green.ensures
+    record { is = λ m n h k. c.limit_sum.ensures ∙ rw c.fall_near.ensures.0 (fall_byte p.0 h k (lowered_held c.lower.ensures) (p.3 c.if-doubt-eq0.true)) }

@@ -6,4 +6,4 @@ use Rattle.kernel_blocks.proofs.studio.luma_part.Goals as goal
 pub returns : goal.returns
 unfolding of_bits luma_part
 returns c =
-    refl
+    rw c.from.ensures refl

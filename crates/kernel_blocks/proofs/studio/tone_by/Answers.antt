@@ -1,7 +1,6 @@
 use Rattle.kernel_blocks.proofs.Lumas.{lowered_held}
-use mathlib.Core.Path.{ap, ◌∙◌}
+use mathlib.Core.Path.{◌∙◌}
 use native.Mathlib.Omega.{arith}
-use Rattle.kernels.specs.Inner.Forms.{studio_chroma}
 use Rattle.kernel_blocks.proofs.Shades.{tone_byte, tone_small, parted_less}
 use Rattle.kernel_blocks.proofs.studio.tone_by.Goals as goal
 
@@ -11,14 +10,9 @@ tone_near-requires c =
 
 pub returns-then-doubt-eq0 : goal.returns-then-doubt-eq0
 returns-then-doubt-eq0 c =
-    λ n h.
     let p = c.requires in
-    c.limit_sum.ensures ∙ rw c.tone_near.ensures.0 (tone_byte p.1 p.0 h (lowered_held c.lower.ensures) (p.3 c.if-doubt-eq0.true))
+    record { is = λ n h. c.limit_sum.ensures ∙ rw c.tone_near.ensures.0 (tone_byte p.1 p.0 h (lowered_held c.lower.ensures) (p.3 c.if-doubt-eq0.true)) }
 
 pub studio_chroma-requires : goal.studio_chroma-requires
 studio_chroma-requires c =
-    let p = c.requires in let l = p.1.most in (tone_small p.0, omega arith, c.in_256ths.ensures.0)
-
-pub returns : goal.returns
-returns c =
-    λ n h. let a = c.args in c.studio_chroma.ensures ∙ ap (studio_chroma a.m a.l) (c.in_256ths.ensures.1 n h)
+    let p = c.requires in let l = p.1.most in let t = tone_small p.0 in let i = c.in_256ths.ensures.0 in (omega arith, omega arith, omega arith)

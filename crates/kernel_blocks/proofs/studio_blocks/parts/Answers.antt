@@ -1,20 +1,13 @@
-use native.Mathlib.Omega.{arith}
-use lib.Ieee.{nan}
-use Rattle.laws.proofs.Lists.{run_none, front_more, front_at}
+use mathlib.Core.Path.{◌≡◌}
+use Prim.Native.Nat.{ℕ}
+use lib.ListN.{get_or}
+use lib.Ieee.{Float, nan}
+use Rattle.std.proofs.Common.{rules}
+use Rattle.lanes.proofs.Made.{made}
+use Rattle.kernel_blocks.specs.Inner.Studio.{luma_part}
 use Rattle.kernel_blocks.proofs.studio_blocks.parts.Goals as goal
-
-pub loop-i-init : goal.loop-i-init
-loop-i-init c =
-    (omega arith, run_none _ _ _)
-
-pub luma_part-requires : goal.luma_part-requires
-luma_part-requires c =
-    c.requires c.loop-i.i (omega arith)
-
-pub loop-i-preserved : goal.loop-i-preserved
-loop-i-preserved c =
-    (omega arith, front_more c.loop-i.invariant.1 _ c.luma_part.ensures)
 
 pub returns : goal.returns
 returns c =
-    λ k h. front_at c.loop-i.invariant.1 k nan (omega arith) (omega arith)
+    let a = c.args in
+    λ k h. made c.from_fn.ensures.items (λ (i : ℕ) (v : Float). v ≡ luma_part a.shift (get_or a.l i 0)) (λ i v q l u. (search rules, search rules)) k nan h

@@ -9,14 +9,6 @@ use Rattle.kernel_blocks.specs.Inner.Studio.{of_red, of_blue, Parts}
 use Rattle.kernel_blocks.proofs.Shades.{tone_top, fall_top}
 use Rattle.kernel_blocks.proofs.studio_blocks.studio_block.Goals as goal
 
-pub parts-less-requires : goal.parts-less-requires
-parts-less-requires c =
-    λ i h. let e = c.limited-l.ensures i h in omega arith
-
-pub parts-more-requires : goal.parts-more-requires
-parts-more-requires c =
-    λ i h. let e = c.limited-l.ensures i h in omega arith
-
 pub tone_row-red-requires : goal.tone_row-red-requires
 unfolding of_bits
 tone_row-red-requires c =

@@ -1,17 +1,16 @@
-use mathlib.Core.Path.{refl}
-use native.Mathlib.Omega.{arith}
-use Rattle.lanes.proofs.Filled.{filled_none, filled_more}
+-- A turn is `joined`: a word of three colour bytes and one of the fourth byte alone add up.
+use Prim.Native.Nat.{ℕ, ◌+◌, ◌*◌}
+use lib.ListN.{get_or}
+use Rattle.std.proofs.Common.{rules}
+use Rattle.lanes.proofs.Made.{made}
+use Rattle.kernel_blocks.specs.Inner.Stores.{block_pixel}
+use Rattle.kernel_blocks.specs.Inner.Words.{Word}
 use Rattle.kernel_blocks.proofs.Packed.{joined}
 use Rattle.kernel_blocks.proofs.words.words.Goals as goal
 
-pub loop-i-init : goal.loop-i-init
-loop-i-init c =
-    (omega arith, filled_none _ _ refl)
-
-pub loop-i-preserved : goal.loop-i-preserved
-loop-i-preserved c =
-    let e = c.fourth.ensures in (omega arith, filled_more c.loop-i.invariant.1 (omega arith) _ (joined c.word-colour.ensures e.0 (omega arith)))
-
 pub returns : goal.returns
 returns c =
-    λ k h. c.loop-i.invariant.1.reads k (omega arith)
+    let a = c.args in
+    λ k h. made c.from_fn.ensures.items
+    (λ (i v : ℕ). Word v (block_pixel a.rows i) (get_or a.dst.now (a.at + i * 4 + 3) 0))
+    (λ i v q l u. (search rules, search (rules, joined))) k 0 h

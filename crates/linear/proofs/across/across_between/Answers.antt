@@ -1,5 +1,5 @@
 use mathlib.Core.Path.{◌≡◌, sym, ap, ◌∙◌}
-use Prim.Native.Nat.{ℕ, ◌*◌, ◌≤◌, ◌<◌}
+use Prim.Native.Nat.{ℕ, ◌≤◌, ◌<◌}
 use Rattle.linear.specs.Inner.AcrossRows.{part_of, parts_in, between_run}
 use Rattle.linear.proofs.AcrossRuns.{parts_run}
 use mathlib.Core.List.{List}
@@ -16,27 +16,15 @@ done : (siting : Siting) (r k : ℕ) (parts : List Float) → 0 < r → r ≤ 4 
     → t ≡ between_run (parts_in parts) k src n dst s → t ≡ between_run (part_of siting r) r src n dst s
 done siting r k parts z l f src n dst s t e h = h ∙ ap (λ (m : ℕ). between_run (parts_in parts) m src n dst s) (sym e) ∙ parts_run siting r parts z l f src n dst s
 
-pub across_twos-requires : goal.across_twos-requires
-across_twos-requires c =
-    let a = c.args in let e : a.r * a.n ≡ 2 * a.n = ap (λ (k : ℕ). k * a.n) c.if-r-eq2.true in let h = c.requires.4 c.if-r-eq2.true in omega arith
-
 pub returns-then-r-eq2 : goal.returns-then-r-eq2
 returns-then-r-eq2 c =
     let a = c.args in
     done a.siting a.r 2 c.parts_of-parts.result (omega arith) (omega arith) c.parts_of-parts.ensures a.src a.n a.dst a.s.now _ c.if-r-eq2.true c.across_twos.ensures
 
-pub across_each-requires : goal.across_each-requires
-across_each-requires c =
-    let a = c.args in let e : a.r * a.n ≡ 3 * a.n = ap (λ (k : ℕ). k * a.n) c.if-r-eq3.true in omega arith
-
 pub returns-then-r-eq3 : goal.returns-then-r-eq3
 returns-then-r-eq3 c =
     let a = c.args in
     done a.siting a.r 3 c.parts_of-parts.result (omega arith) (omega arith) c.parts_of-parts.ensures a.src a.n a.dst a.s.now _ c.if-r-eq3.true c.across_each.ensures
-
-pub across_each-requires-2 : goal.across_each-requires-2
-across_each-requires-2 c =
-    let a = c.args in let e : a.r * a.n ≡ 4 * a.n = ap (λ (k : ℕ). k * a.n) (four a.r c.if-r-eq2.false c.if-r-eq3.false (omega arith) (omega arith)) in omega arith
 
 pub returns : goal.returns
 returns c =

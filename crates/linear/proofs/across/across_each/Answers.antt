@@ -13,35 +13,19 @@ turn r i n h = let m : (i + 1) * r ≤ n * r = mul-le-mul_right r (omega arith) 
 
 pub loop-i-init : goal.loop-i-init
 loop-i-init c =
-    (omega arith, run_at (run_none _ _ _) _ (omega arith))
-
-pub overflow_mul-r : goal.overflow_mul-r
-overflow_mul-r c =
-    let a = c.args in omega (arith, turn a.r c.loop-i.i a.n (omega arith))
-
-pub overflow_add-dst : goal.overflow_add-dst
-overflow_add-dst c =
-    let a = c.args in omega (arith, turn a.r c.loop-i.i a.n (omega arith))
-
-pub put_between-requires : goal.put_between-requires
-put_between-requires c =
-    let a = c.args in omega (arith, turn a.r c.loop-i.i a.n (omega arith))
+    run_at (run_none _ _ _) _ (omega arith)
 
 pub loop-i-preserved : goal.loop-i-preserved
 loop-i-preserved c =
     let a = c.args in
     let i = c.loop-i.i in
-    let w = c.loop-i.invariant.1 in
+    let w = c.loop-i.invariant in
     let room = turn a.r i a.n (omega arith) in
     let left = run_after w (a.src + i) nan (omega arith) in
     let right = run_after w (a.src + i + 1) nan (omega arith) in
-    (omega arith, run_run w _ (a.dst + a.r * i) (a.r * (i + 1)) a.r (c.put_between.ensures ∙ put_same _ _ _ _ _ (between_more (parts_in a.parts) a.r a.s.now c.loop-i.s a.src i left right)) refl (omega arith))
-
-pub shape_of-s : goal.shape_of-s
-shape_of-s c =
-    c.loop-i.invariant.1.len
+    run_run w _ (a.dst + a.r * i) (a.r * (i + 1)) a.r (c.put_between.ensures ∙ put_same _ _ _ _ _ (between_more (parts_in a.parts) a.r a.s.now c.loop-i.s a.src i left right)) refl (omega arith)
 
 pub returns : goal.returns
 unfolding between_run
 returns c =
-    let a = c.args in let e : c.loop-i.i ≡ a.n = omega arith in run_end (run_at c.loop-i.invariant.1 (a.r * a.n) (ap (λ (k : ℕ). a.r * k) e)) _ (omega arith) (omega arith)
+    let a = c.args in let e : c.loop-i.i ≡ a.n = omega arith in run_end (run_at c.loop-i.invariant (a.r * a.n) (ap (λ (k : ℕ). a.r * k) e)) _ (omega arith) (omega arith)

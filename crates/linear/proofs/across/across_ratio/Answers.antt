@@ -1,15 +1,7 @@
 -- `turns_fit` says that the turns lie within the row and their cells within the cells.
-use mathlib.Core.Path.{◌≡◌}
 use native.Mathlib.Omega.{arith}
-use Rattle.linear.proofs.AcrossRuns.{one_each}
 use Rattle.linear.proofs.Turns.{turns_fit}
 use Rattle.linear.proofs.across.across_ratio.Goals as goal
-
-pub across_taps-requires : goal.across_taps-requires
-across_taps-requires c =
-    let a = c.args in
-    let p = c.requires in
-    record { num_le_r = (omega arith, omega arith, omega arith, omega arith, omega arith, λ (e : a.axis.num ≡ a.r). (let k = one_each a.axis.num a.r a.w a.cw (omega arith) p.num_nonzero.7 e in omega arith)); n_bound = (omega arith, omega arith) }
 
 pub across_turns-requires : goal.across_turns-requires
 across_turns-requires c =

@@ -1,4 +1,4 @@
-use mathlib.Core.Path.{◌≡◌, refl, ◌∙◌}
+use mathlib.Core.Path.{refl, ◌∙◌}
 use Prim.Native.Nat.{◌+◌}
 use lib.Ieee.{nan}
 use Rattle.linear.specs.Inner.AcrossRows.{across_run}
@@ -8,29 +8,21 @@ use Rattle.linear.proofs.across.across_taps.Goals as goal
 
 pub loop-i-init : goal.loop-i-init
 loop-i-init c =
-    (omega arith, run_none _ _ _)
-
-pub tap_at-t-requires : goal.tap_at-t-requires
-tap_at-t-requires c =
-    (omega arith, omega arith, omega arith, omega arith, omega arith, λ (e : c.args.axis.num ≡ c.args.r). (let h = c.requires.num_le_r.5 e in omega arith))
+    run_none _ _ _
 
 pub loop-i-preserved : goal.loop-i-preserved
 loop-i-preserved c =
     let a = c.args in
     let l = c.loop-i in
     let t = c.tap_at-t in
-    let w = l.invariant.1 in
+    let w = l.invariant in
     let p = run_after w (a.src + t.result.i0) nan (omega arith) in
     let q = run_after w (a.src + t.result.i1) nan (omega arith) in
     let e = t.ensures.is in
     let v = c.lerp.ensures in
-    (omega arith, run_more w _ (v ∙ rw (p, q, e) refl))
-
-pub shape_of-s : goal.shape_of-s
-shape_of-s c =
-    c.loop-i.invariant.1.len
+    run_more w _ (v ∙ rw (p, q, e) refl)
 
 pub returns : goal.returns
 unfolding across_run
 returns c =
-    run_end c.loop-i.invariant.1 _ (omega arith) (omega arith)
+    run_end c.loop-i.invariant _ (omega arith) (omega arith)

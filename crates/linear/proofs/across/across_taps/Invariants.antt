@@ -1,6 +1,6 @@
 -- A loop that writes a run (`Run` of laws), a value a turn, by the tap of its own position. The cells of the tap lie behind all that is
 -- written, so that by `run_after` the lerp reads what the call was handed; that they are cells of the row is the tap's own contract.
-use Prim.Native.Nat.{◌+◌, ◌-◌, ◌≤◌}
+use Prim.Native.Nat.{◌+◌}
 use Rattle.taps.specs.Taps.{tap_by}
 use Rattle.linear.specs.Linear.{across_by}
 use Rattle.image.specs.Scratch.{cell_at}
@@ -8,7 +8,4 @@ use Rattle.laws.proofs.Lists.{Run}
 use Rattle.linear.proofs.across.across_taps.Given as goal
 
 abbrev pub invariant-loop-i : goal.invariant-loop-i
-invariant-loop-i l = (l.i ≤ l.n) × Run l.initial.s l.s (l.dst + l.from) l.i (λ k. across_by (tap_by l.axis l.r l.cw (l.from + k)) (cell_at l.initial.s l.src))
-
-abbrev pub decreases-loop-i : goal.decreases-loop-i
-decreases-loop-i l = l.n - l.i
+invariant-loop-i l = Run l.initial.s l.s (l.dst + l.from) l.i (λ k. across_by (tap_by l.axis l.r l.cw (l.from + k)) (cell_at l.initial.s l.src))

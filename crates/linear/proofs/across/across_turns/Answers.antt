@@ -2,16 +2,10 @@
 use mathlib.Core.Path.{ap, ◌∙◌}
 use mathlib.Core.List.{List}
 use Prim.Native.Nat.{ℕ, ◌+◌, ◌-◌, ◌*◌}
-use native.Mathlib.Omega.{arith}
 use lib.Ieee.{Float}
 use Rattle.linear.specs.Inner.AcrossRows.{across_run}
 use Rattle.linear.proofs.AcrossRuns.{across_parts}
 use Rattle.linear.proofs.across.across_turns.Goals as goal
-
-pub across_cycles-requires : goal.across_cycles-requires
-across_cycles-requires c =
-    let p = c.requires in
-    record { lt_num = (p.lt_num.0, p.lt_num.1, p.lt_num.2, p.from_value.0, p.from_value.3, c.cycle_of-turn.ensures); n_bound = (omega arith, omega arith) }
 
 pub returns : goal.returns
 returns c =

@@ -1,19 +1,10 @@
-use native.Mathlib.Omega.{arith}
-use Rattle.laws.proofs.Lists.{run_none, run_more, run_end}
+use Rattle.laws.proofs.Lists.{run_none, run_more}
 use Rattle.linear.proofs.across.put_between.Goals as goal
 
 pub loop-k-init : goal.loop-k-init
 loop-k-init c =
-    (omega arith, run_none _ _ _)
+    run_none _ _ _
 
 pub loop-k-preserved : goal.loop-k-preserved
 loop-k-preserved c =
-    (omega arith, run_more c.loop-k.invariant.1 _ c.lerp.ensures)
-
-pub shape_of-s : goal.shape_of-s
-shape_of-s c =
-    c.loop-k.invariant.1.len
-
-pub returns : goal.returns
-returns c =
-    run_end c.loop-k.invariant.1 _ (omega arith) (omega arith)
+    run_more c.loop-k.invariant _ c.lerp.ensures

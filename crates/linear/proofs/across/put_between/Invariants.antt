@@ -1,4 +1,3 @@
-use Prim.Native.Nat.{◌-◌, ◌≤◌}
 use lib.Ieee.{nan}
 use lib.ListN.{get_or}
 use Rattle.laws.proofs.Lists.{Run}
@@ -6,7 +5,4 @@ use Rattle.taps.specs.Taps.{lerp_of}
 use Rattle.linear.proofs.across.put_between.Given as goal
 
 abbrev pub invariant-loop-k : goal.invariant-loop-k
-invariant-loop-k l = (l.k ≤ l.r) × Run l.initial.s l.s l.dst l.k (λ i. lerp_of l.a l.b (get_or l.parts i nan))
-
-abbrev pub decreases-loop-k : goal.decreases-loop-k
-decreases-loop-k l = l.r - l.k
+invariant-loop-k l = Run l.initial.s l.s l.dst l.k (λ i. lerp_of l.a l.b (get_or l.parts i nan))

@@ -9,60 +9,20 @@ use Rattle.linear.proofs.cycles.cycle_step.Goals as goal
 
 pub loop-k-init : goal.loop-k-init
 loop-k-init c =
-    (omega arith, run_none _ _ _)
-
-pub overflow_add-src : goal.overflow_add-src
-overflow_add-src c =
-    let h = c.requires.2 c.loop-k.k (omega arith) in omega arith
-
-pub offset_bounds-s-src : goal.offset_bounds-s-src
-offset_bounds-s-src c =
-    let h = c.requires.2 c.loop-k.k (omega arith) in omega arith
-
-pub bounds-s-src : goal.bounds-s-src
-bounds-s-src c =
-    let h = c.requires.2 c.loop-k.k (omega arith) in omega arith
-
-pub overflow_add-i : goal.overflow_add-i
-overflow_add-i c =
-    let h = c.requires.2 c.loop-k.k (omega arith) in omega arith
-
-pub overflow_add-src-in-loop-k : goal.overflow_add-src-in-loop-k
-overflow_add-src-in-loop-k c =
-    let h = c.requires.2 c.loop-k.k (omega arith) in omega arith
-
-pub offset_bounds-s-src-in-loop-k : goal.offset_bounds-s-src-in-loop-k
-offset_bounds-s-src-in-loop-k c =
-    let h = c.requires.2 c.loop-k.k (omega arith) in omega arith
-
-pub bounds-s-src-in-loop-k : goal.bounds-s-src-in-loop-k
-bounds-s-src-in-loop-k c =
-    let h = c.requires.2 c.loop-k.k (omega arith) in omega arith
-
-pub offset_bounds-s-dst : goal.offset_bounds-s-dst
-offset_bounds-s-dst c =
-    let h = c.requires.2 c.loop-k.k (omega arith) in omega arith
-
-pub bounds-s-dst : goal.bounds-s-dst
-bounds-s-dst c =
-    let h = c.requires.2 c.loop-k.k (omega arith) in omega arith
+    run_none _ _ _
 
 pub loop-k-preserved : goal.loop-k-preserved
 loop-k-preserved c =
     let a = c.args in
     let l = c.loop-k in
-    let w = l.invariant.1 in
+    let w = l.invariant in
     let i = get_or a.turn.cells l.k 0 in
     let p = run_after w (a.src + i) nan (omega arith) in
     let q = run_after w (a.src + (i + 1)) nan (omega arith) in
     let v = c.lerp.ensures in
-    (omega arith, run_more w _ (v ∙ rw (p, q) refl))
-
-pub shape_of-s : goal.shape_of-s
-shape_of-s c =
-    c.loop-k.invariant.1.len
+    run_more w _ (v ∙ rw (p, q) refl)
 
 pub returns : goal.returns
 unfolding cycle_run
 returns c =
-    run_end c.loop-k.invariant.1 _ (omega arith) (omega arith)
+    run_end c.loop-k.invariant _ (omega arith) (omega arith)

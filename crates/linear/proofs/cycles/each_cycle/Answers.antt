@@ -13,47 +13,7 @@ next x i n h = omega (arith, mul-le-mul_left x h)
 
 pub loop-i-init : goal.loop-i-init
 loop-i-init c =
-    (omega arith, run_at (run_none _ _ _) _ (omega arith))
-
-pub overflow_mul-axis : goal.overflow_mul-axis
-overflow_mul-axis c =
-    let a = c.args in
-    let l = c.loop-i in
-    let x = next a.axis.num l.i a.n (omega arith) in
-    let y = next a.r l.i a.n (omega arith) in
-    omega arith
-
-pub overflow_add-src : goal.overflow_add-src
-overflow_add-src c =
-    let a = c.args in
-    let l = c.loop-i in
-    let x = next a.axis.num l.i a.n (omega arith) in
-    let y = next a.r l.i a.n (omega arith) in
-    omega arith
-
-pub overflow_add-dst : goal.overflow_add-dst
-overflow_add-dst c =
-    let a = c.args in
-    let l = c.loop-i in
-    let x = next a.axis.num l.i a.n (omega arith) in
-    let y = next a.r l.i a.n (omega arith) in
-    omega arith
-
-pub overflow_mul-r : goal.overflow_mul-r
-overflow_mul-r c =
-    let a = c.args in
-    let l = c.loop-i in
-    let x = next a.axis.num l.i a.n (omega arith) in
-    let y = next a.r l.i a.n (omega arith) in
-    omega arith
-
-pub overflow_add-dst-in-loop-i : goal.overflow_add-dst-in-loop-i
-overflow_add-dst-in-loop-i c =
-    let a = c.args in
-    let l = c.loop-i in
-    let x = next a.axis.num l.i a.n (omega arith) in
-    let y = next a.r l.i a.n (omega arith) in
-    omega arith
+    run_at (run_none _ _ _) _ (omega arith)
 
 pub cycle_step-requires : goal.cycle_step-requires
 cycle_step-requires c =
@@ -66,7 +26,7 @@ cycle_step-requires c =
       λ k h.
           let t = turned_from a.axis a.r a.cw a.from a.n k l.i p.lt_num.3 p.lt_num.0 p.lt_num.1 p.lt_num.2 p.lt_num.4 h (omega arith) in
           let e = p.lt_num.5.cell k h in
-          let n = l.invariant.1.len in
+          let n = l.invariant.len in
           omega (arith, t.inside, e, n),
     )
 
@@ -76,23 +36,16 @@ loop-i-preserved c =
     let a = c.args in
     let p = c.requires in
     let l = c.loop-i in
-    let w = l.invariant.1 in
-    let y = next a.r l.i a.n (omega arith) in (
-      omega arith,
-      run_run w _ (a.dst + a.from + a.r * l.i) (a.r * (l.i + 1)) a.r
-          (c.cycle_step.ensures
-          ∙ put_same _ _ a.r _ _ (λ k h.
-          turn_is a.axis a.r a.cw a.from k l.i _ l.s a.s.now a.src
-          (turned_from a.axis a.r a.cw a.from a.n k l.i p.lt_num.3 p.lt_num.0 p.lt_num.1 p.lt_num.2 p.lt_num.4 h (omega arith))
-          p.lt_num.5 h (λ x. run_after w (a.src + x) nan (omega arith))))
-          refl (omega arith),
-    )
-
-pub shape_of-s : goal.shape_of-s
-shape_of-s c =
-    c.loop-i.invariant.1.len
+    let w = l.invariant in
+    let y = next a.r l.i a.n (omega arith) in run_run w _ (a.dst + a.from + a.r * l.i) (a.r * (l.i + 1)) a.r
+    (c.cycle_step.ensures
+    ∙ put_same _ _ a.r _ _ (λ k h.
+    turn_is a.axis a.r a.cw a.from k l.i _ l.s a.s.now a.src
+    (turned_from a.axis a.r a.cw a.from a.n k l.i p.lt_num.3 p.lt_num.0 p.lt_num.1 p.lt_num.2 p.lt_num.4 h (omega arith))
+    p.lt_num.5 h (λ x. run_after w (a.src + x) nan (omega arith))))
+    refl (omega arith)
 
 pub returns : goal.returns
 unfolding across_run
 returns c =
-    let a = c.args in run_end c.loop-i.invariant.1 _ (mul-le-mul_left a.r (omega arith)) (mul-le-mul_left a.r (omega arith))
+    let a = c.args in run_end c.loop-i.invariant _ (mul-le-mul_left a.r (omega arith)) (mul-le-mul_left a.r (omega arith))

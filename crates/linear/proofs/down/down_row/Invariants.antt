@@ -1,12 +1,8 @@
 -- A loop that writes a run (`Run` of laws), each value a lerp of two samples. Sample i lies within its row by `row_fits`: i < n gives
 -- (i + 1) * bytes <= n * bytes, the one product that omega doesn't find; with it every read and every address is linear arithmetic.
-use Prim.Native.Nat.{◌-◌, ◌≤◌}
 use Rattle.linear.specs.Inner.Down.{down_at}
 use Rattle.laws.proofs.Lists.{Run}
 use Rattle.linear.proofs.down.down_row.Given as goal
 
 abbrev pub invariant-loop-i : goal.invariant-loop-i
-invariant-loop-i l = (l.i ≤ l.n) × Run l.initial.s l.s l.dst l.i (down_at l.plane l.sample_bytes l.a l.b l.f)
-
-abbrev pub decreases-loop-i : goal.decreases-loop-i
-decreases-loop-i l = l.n - l.i
+invariant-loop-i l = Run l.initial.s l.s l.dst l.i (down_at l.plane l.sample_bytes l.a l.b l.f)

@@ -3,7 +3,6 @@
 use mathlib.Core.Path.{ap, ◌∙◌}
 use Prim.Native.Nat.{◌+◌, ◌*◌, ◌≤◌}
 use Rattle.image.specs.Samples.{Plane, plane_of}
-use Rattle.taps.proofs.Spots.{own_cell}
 use Rattle.image.proofs.Holding.{short_holds, row_inside}
 use Rattle.linear.specs.Linear.{linear_cells_at}
 use Rattle.image.specs.Scratch.{scratch_need}
@@ -12,12 +11,6 @@ use Rattle.linear.proofs.LinearRows.{down_is, row_is}
 use native.Mathlib.Omega.{arith}
 use lib.ListN.{length}
 use Rattle.linear.proofs.plane.linear_row.Goals as goal
-
-pub tap_at-t-requires : goal.tap_at-t-requires
-tap_at-t-requires c =
-    let l = c.args.layout in
-    let o = c.requires.ready.shaped in
-    (o.down_most, o.rv_some, o.rv_most, o.ch_some, omega arith, own_cell l.down.num l.rv l.h l.ch c.args.y o.rv_some o.lines (omega arith))
 
 pub overflow_mul-a : goal.overflow_mul-a
 overflow_mul-a c =

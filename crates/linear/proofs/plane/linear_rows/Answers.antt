@@ -17,26 +17,15 @@ use Rattle.linear.proofs.plane.linear_rows.Goals as goal
 
 pub loop-y-init : goal.loop-y-init
 loop-y-init c =
-    (omega arith, rows_none _ _ _, scratch_none _ _ _)
-
-pub linear_row-requires : goal.linear_row-requires
-linear_row-requires c =
-    let ready : Ready c.args.layout (plane_of c.args.plane.now c.args.stride) (length c.loop-y.s) = let r = c.requires.ready in record { shaped = r.shaped; plane = r.plane; scratch = rw c.loop-y.invariant.2.len r.scratch } in
-    record { ready = ready; y_lt_h = (omega arith, omega arith) }
-
-pub overflow_mul-y : goal.overflow_mul-y
-overflow_mul-y c =
-    let inside : c.loop-y.y * c.args.layout.w + c.args.layout.w ≤ length c.loop-y.out = let a = c.args in
-    omega (arith, row_fits c.loop-y.y a.layout.h a.layout.w (omega arith), mul_comm a.layout.w a.layout.h, c.loop-y.invariant.1.len) in
-    let h = inside in omega arith
+    (rows_none _ _ _, scratch_none _ _ _)
 
 pub store_row-requires : goal.store_row-requires
 unfolding scratch_need
 store_row-requires c =
-    let ready : Ready c.args.layout (plane_of c.args.plane.now c.args.stride) (length c.loop-y.s) = let r = c.requires.ready in record { shaped = r.shaped; plane = r.plane; scratch = rw c.loop-y.invariant.2.len r.scratch } in
+    let ready : Ready c.args.layout (plane_of c.args.plane.now c.args.stride) (length c.loop-y.s) = let r = c.requires.ready in record { shaped = r.shaped; plane = r.plane; scratch = rw c.loop-y.invariant.1.len r.scratch } in
     let room : 0 + c.args.layout.w ≤ length c.loop-y.s = let r = ready in omega arith in
     let inside : c.loop-y.y * c.args.layout.w + c.args.layout.w ≤ length c.loop-y.out = let a = c.args in
-    omega (arith, row_fits c.loop-y.y a.layout.h a.layout.w (omega arith), mul_comm a.layout.w a.layout.h, c.loop-y.invariant.1.len) in
+    omega (arith, row_fits c.loop-y.y a.layout.h a.layout.w (omega arith), mul_comm a.layout.w a.layout.h, c.loop-y.invariant.0.len) in
     let h = inside in
     let r = ready in
     let k = room in
@@ -46,29 +35,20 @@ store_row-requires c =
 pub loop-y-preserved : goal.loop-y-preserved
 unfolding scratch_need
 loop-y-preserved c =
-    let ready : Ready c.args.layout (plane_of c.args.plane.now c.args.stride) (length c.loop-y.s) = let r = c.requires.ready in record { shaped = r.shaped; plane = r.plane; scratch = rw c.loop-y.invariant.2.len r.scratch } in
+    let ready : Ready c.args.layout (plane_of c.args.plane.now c.args.stride) (length c.loop-y.s) = let r = c.requires.ready in record { shaped = r.shaped; plane = r.plane; scratch = rw c.loop-y.invariant.1.len r.scratch } in
     let room : 0 + c.args.layout.w ≤ length c.loop-y.s = let r = ready in omega arith in
     let a = c.args in
     let p : Plane = record { bytes = a.plane.now; stride = a.stride } in
     let l = c.loop-y in
     let row = c.linear_row in (
-      omega arith,
-      rows_more l.invariant.1 _
+      rows_more l.invariant.0 _
           (c.store_row.ensures
           ∙ ap (λ (z : List Float). store_run z 0 a.layout.w a.layout.maxval (l.y * a.layout.w) l.out) row.ensures
           ∙ stored_is a.layout p l.y (l.y * a.layout.w) l.s l.out room),
-      scratch_more l.invariant.2 _ row.ensures,
+      scratch_more l.invariant.1 _ row.ensures,
     )
-
-pub shape_of-s : goal.shape_of-s
-shape_of-s c =
-    c.loop-y.invariant.2.len
-
-pub shape_of-out : goal.shape_of-out
-shape_of-out c =
-    c.loop-y.invariant.1.len
 
 pub returns : goal.returns
 unfolding linear_plane
 returns c =
-    record { out_after = rows_end c.loop-y.invariant.1 _ (omega arith) (omega arith); s_after = scratch_end c.loop-y.invariant.2 _ (omega arith) (omega arith) }
+    record { out_after = rows_end c.loop-y.invariant.0 _ (omega arith) (omega arith); s_after = scratch_end c.loop-y.invariant.1 _ (omega arith) (omega arith) }

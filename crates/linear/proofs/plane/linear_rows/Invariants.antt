@@ -1,6 +1,5 @@
 -- Two invariants go round the loop: the rows of out that are written (`Rows` of laws) and scratch after as many rows (`Scratched`).
 -- A turn's hard step is `stored_is`: what `store_row` rounds out of scratch is the row that `linear_row` has just left there.
-use Prim.Native.Nat.{◌-◌, ◌≤◌}
 use Rattle.laws.proofs.Lists.{Rows}
 use Rattle.image.specs.Samples.{sample_at, plane_of}
 use Rattle.fround.specs.Rounding.{round_clamped}
@@ -9,9 +8,5 @@ use Rattle.linear.proofs.LinearRows.{Scratched}
 use Rattle.linear.proofs.plane.linear_rows.Given as goal
 
 abbrev pub invariant-loop-y : goal.invariant-loop-y
-invariant-loop-y l = (l.y ≤ l.layout.h)
-    × Rows l.initial.out l.out l.layout.w l.y (λ y x. round_clamped l.layout.maxval (linear_sample l.layout (sample_at l.layout.sample_bytes (plane_of l.plane l.stride)) y x))
+invariant-loop-y l = Rows l.initial.out l.out l.layout.w l.y (λ y x. round_clamped l.layout.maxval (linear_sample l.layout (sample_at l.layout.sample_bytes (plane_of l.plane l.stride)) y x))
     × Scratched l.layout (plane_of l.plane l.stride) l.y l.initial.s l.s
-
-abbrev pub decreases-loop-y : goal.decreases-loop-y
-decreases-loop-y l = l.layout.h - l.y

@@ -1,5 +1,5 @@
 use mathlib.Core.Path.{◌∙◌}
-use Prim.Native.Nat.{◌+◌, ◌*◌, ◌≤◌, ◌<◌}
+use Prim.Native.Nat.{◌+◌, ◌*◌, ◌≤◌, ◌<◌, min}
 use native.Mathlib.Omega.{arith}
 use lib.Ieee.{nan}
 use Rattle.laws.proofs.Lists.{put_same, run_none, run_at, run_end, run_after, run_over}
@@ -7,55 +7,19 @@ use Rattle.linear.specs.Inner.AcrossRows.{parts_in, between_run}
 use Rattle.linear.proofs.AcrossRuns.{between_same}
 use Rattle.linear.proofs.twos.across_twos.Goals as goal
 
-pub loop-done-init : goal.loop-done-init
-loop-done-init c =
-    (omega arith, run_none _ _ _)
+pub loop-b-init : goal.loop-b-init
+loop-b-init c = run_at (run_none _ _ _) _ (omega arith)
 
-pub twos_block-v-requires : goal.twos_block-v-requires
-twos_block-v-requires c =
-    let place : (let i = c.least-i.result in (i ≤ c.loop-done.done) × (c.loop-done.done < i + 8) × (i + 8 ≤ c.args.n)) = let e = c.least-i.ensures in (omega arith, omega arith, omega arith) in
-    let h = place in let l = c.loop-done.invariant.1.len in omega arith
-
-pub overflow_mul-i : goal.overflow_mul-i
-overflow_mul-i c =
-    let place : (let i = c.least-i.result in (i ≤ c.loop-done.done) × (c.loop-done.done < i + 8) × (i + 8 ≤ c.args.n)) = let e = c.least-i.ensures in (omega arith, omega arith, omega arith) in
-    let h = place in omega arith
-
-pub overflow_add-dst : goal.overflow_add-dst
-overflow_add-dst c =
-    let place : (let i = c.least-i.result in (i ≤ c.loop-done.done) × (c.loop-done.done < i + 8) × (i + 8 ≤ c.args.n)) = let e = c.least-i.ensures in (omega arith, omega arith, omega arith) in
-    let h = place in omega arith
-
-pub put_block-requires : goal.put_block-requires
-put_block-requires c =
-    let place : (let i = c.least-i.result in (i ≤ c.loop-done.done) × (c.loop-done.done < i + 8) × (i + 8 ≤ c.args.n)) = let e = c.least-i.ensures in (omega arith, omega arith, omega arith) in
-    let h = place in let l = c.loop-done.invariant.1.len in omega arith
-
-pub overflow_add-done : goal.overflow_add-done
-overflow_add-done c =
-    let place : (let i = c.least-i.result in (i ≤ c.loop-done.done) × (c.loop-done.done < i + 8) × (i + 8 ≤ c.args.n)) = let e = c.least-i.ensures in (omega arith, omega arith, omega arith) in
-    let h = place in omega arith
-
-pub loop-done-smaller : goal.loop-done-smaller
-loop-done-smaller c =
-    let place : (let i = c.least-i.result in (i ≤ c.loop-done.done) × (c.loop-done.done < i + 8) × (i + 8 ≤ c.args.n)) = let e = c.least-i.ensures in (omega arith, omega arith, omega arith) in
-    let h = place in omega arith
-
-pub loop-done-preserved : goal.loop-done-preserved
-loop-done-preserved c =
-    let place : (let i = c.least-i.result in (i ≤ c.loop-done.done) × (c.loop-done.done < i + 8) × (i + 8 ≤ c.args.n)) = let e = c.least-i.ensures in (omega arith, omega arith, omega arith) in
-    let h = place in
+pub loop-b-preserved : goal.loop-b-preserved
+loop-b-preserved c =
     let a = c.args in
-    let i = c.least-i.result in
-    let r = c.loop-done.invariant.1 in
-    let z = run_over r _ (2 * i) 16 nan (c.put_block.ensures ∙ put_same _ _ 16 _ _ (λ k q. c.twos_block-v.ensures k q ∙ between_same (parts_in a.parts) 2 c.loop-done.s a.s.now a.src (2 * i + k) (λ m. run_after r (a.src + m) nan (omega arith)))) (omega arith) (omega arith) (omega arith) in
-    (h.2, run_at z (2 * (i + 8)) (omega arith))
-
-pub shape_of-s : goal.shape_of-s
-shape_of-s c =
-    c.loop-done.invariant.1.len
+    let i = c.min-i.result in
+    let left : c.loop-b.b * 8 < a.n = omega arith in
+    let place : (i ≤ c.loop-b.b * 8) × (c.loop-b.b * 8 < i + 8) × (i + 8 ≤ a.n) = (omega arith, omega arith, omega arith) in
+    let r = run_at c.loop-b.invariant (2 * (c.loop-b.b * 8)) (omega arith) in
+    let z = run_over r _ (2 * i) 16 nan (c.put_block.ensures ∙ put_same _ _ 16 _ _ (λ k q. c.twos_block-v.ensures k q ∙ between_same (parts_in a.parts) 2 c.loop-b.s a.s.now a.src (2 * i + k) (λ m. run_after r (a.src + m) nan (omega arith)))) (omega arith) (omega arith) (omega arith) in
+    run_at z (2 * min ((c.loop-b.b + 1) * 8) a.n) (omega arith)
 
 pub returns : goal.returns
 unfolding between_run
-returns c =
-    run_end c.loop-done.invariant.1 _ (omega arith) (omega arith)
+returns c = run_end c.loop-b.invariant _ (omega arith) (omega arith)

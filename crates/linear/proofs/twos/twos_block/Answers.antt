@@ -10,7 +10,7 @@ use Rattle.linear.proofs.twos.twos_block.Goals as goal
 
 pub loop-k-init : goal.loop-k-init
 loop-k-init c =
-    (omega arith, run_none _ _ _)
+    run_none _ _ _
 
 pub loop-k-preserved : goal.loop-k-preserved
 loop-k-preserved c =
@@ -21,10 +21,10 @@ loop-k-preserved c =
     let a = get_or xs (o.src + p) nan in
     let b = get_or xs (o.src + (p + 1)) nan in
     let part = parts_in o.parts in
-    let v = front_more l.invariant.1 c.lerp.result (between_is part 2 xs o.src p 0 (2 * o.i + 2 * l.k) (omega arith) (omega arith) a b c.lerp.result refl refl c.lerp.ensures) in
+    let v = front_more l.invariant c.lerp.result (between_is part 2 xs o.src p 0 (2 * o.i + 2 * l.k) (omega arith) (omega arith) a b c.lerp.result refl refl c.lerp.ensures) in
     let w = front_more v c.lerp-in-loop-k.result (between_is part 2 xs o.src p 1 (2 * o.i + (2 * l.k + 1)) (omega arith) (omega arith) a b c.lerp-in-loop-k.result refl refl c.lerp-in-loop-k.ensures) in
-    (omega arith, run_at w (2 * (l.k + 1)) (omega arith))
+    run_at w (2 * (l.k + 1)) (omega arith)
 
 pub returns : goal.returns
 returns c =
-    λ k h. front_at c.loop-k.invariant.1 k nan (omega arith) (omega arith)
+    λ k h. front_at c.loop-k.invariant k nan (omega arith) (omega arith)

@@ -1,12 +1,9 @@
 -- The block is filled from the front, two values a turn (`front_more`), each by `between_is`: outputs 0 and 1 of pair i + k are outputs
 -- 2i + 2k and 2i + 2k + 1. The slice isn't written, so that the cells are the call's without a law.
-use Prim.Native.Nat.{◌+◌, ◌-◌, ◌*◌, ◌≤◌}
+use Prim.Native.Nat.{◌+◌, ◌*◌}
 use Rattle.laws.proofs.Lists.{Run}
 use Rattle.linear.specs.Inner.AcrossRows.{parts_in, between_at}
 use Rattle.linear.proofs.twos.twos_block.Given as goal
 
 abbrev pub invariant-loop-k : goal.invariant-loop-k
-invariant-loop-k l = (l.k ≤ 8) × Run l.initial.v l.v 0 (2 * l.k) (λ m. between_at (parts_in l.parts) 2 l.s l.src (2 * l.i + m))
-
-abbrev pub decreases-loop-k : goal.decreases-loop-k
-decreases-loop-k l = 8 - l.k
+invariant-loop-k l = Run l.initial.v l.v 0 (2 * l.k) (λ m. between_at (parts_in l.parts) 2 l.s l.src (2 * l.i + m))

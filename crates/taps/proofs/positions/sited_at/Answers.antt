@@ -12,18 +12,10 @@ fits_one o num a b = omega (arith, mul-le-mul a b)
 fits-two : (o num : ℕ) → o ≤ 8192 → num ≤ 4 → (2 * o + 1) * num < 2 ^ 64
 fits-two o num a b = omega (arith, mul-le-mul a b)
 
-pub overflow_mul-n-in-Centred : goal.overflow_mul-n-in-Centred
-overflow_mul-n-in-Centred c =
-    let a = c.args in let p = c.requires in record { fits = fits-two a.o a.num (omega arith) (omega arith) }
-
 pub returns-then-n-den : goal.returns-then-n-den
 unfolding sited_at
 returns-then-n-den c =
     simp (c.in-Centred.is, lt-ltb _ _ c.if-n-den.true, c.on_cell.ensures)
-
-pub overflow_mul-o : goal.overflow_mul-o
-overflow_mul-o c =
-    let a = c.args in let p = c.requires in record { fits = fits_one a.o a.num (omega arith) (omega arith) }
 
 pub returns-else-n-den : goal.returns-else-n-den
 unfolding sited_at

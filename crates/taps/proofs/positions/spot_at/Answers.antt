@@ -1,10 +1,8 @@
 use Rattle.taps.specs.Taps.{spot_at}
 use borrow.Author.Tests.{le-leb, lt-leb}
-use native.Mathlib.Nat.{mod-lt}
 use Prim.Native.Nat.{◌/◌}
 use mathlib.Core.Path.{refl}
 use Prim.Native.Nat.{◌-◌}
-use native.Mathlib.Omega.{arith}
 use Rattle.taps.proofs.positions.spot_at.Goals as goal
 
 pub returns-then-len-cell : goal.returns-then-len-cell
@@ -12,10 +10,6 @@ unfolding spot_at
 returns-then-len-cell c =
     let a = c.args in
     rw (le-leb (a.len - 1) (a.m / a.d) c.if-len-cell.true) c.on_cell.ensures
-
-pub fraction-requires : goal.fraction-requires
-fraction-requires c =
-    let a = c.args in omega (arith, mod-lt a.m c.requires.0)
 
 pub returns : goal.returns
 unfolding spot_at

@@ -3,17 +3,8 @@ use native.Mathlib.Omega.{arith}
 use Rattle.laws.proofs.Lists.{run_none}
 use Rattle.upsample.specs.Inner.Pairs.{sums, across_row}
 use Rattle.upsample.proofs.Axis.{pair_left, pair_right}
-use Rattle.upsample.proofs.Inside.{cells_to}
 use Rattle.laws.proofs.Lists.{run_two}
 use Rattle.upsample.proofs.across.first_cell.Goals as goal
-
-pub cell_sum-middle-requires : goal.cell_sum-middle-requires
-cell_sum-middle-requires c =
-    record { row_inside = cells_to c.requires.row_inside 0 (omega arith); row_inside_2 = cells_to c.requires.row_inside_2 0 (omega arith) }
-
-pub cell_sum-after-requires : goal.cell_sum-after-requires
-cell_sum-after-requires c =
-    record { row_inside = cells_to c.requires.row_inside 1 (omega arith); row_inside_2 = cells_to c.requires.row_inside_2 1 (omega arith) }
 
 pub returns : goal.returns
 returns c =

@@ -1,44 +1,20 @@
 use mathlib.Core.Path.{refl}
 use Prim.Native.Nat.{◌+◌, ◌*◌}
 use native.Mathlib.Omega.{arith}
-use Rattle.laws.proofs.Lists.{run_none, run_end}
+use Rattle.laws.proofs.Lists.{run_none}
 use Rattle.upsample.specs.Inner.Pairs.{sums}
 use Rattle.upsample.proofs.Axis.{pair_left, pair_right}
-use Rattle.upsample.proofs.Inside.{cells_to}
 use Rattle.laws.proofs.Lists.{run_two}
 use Rattle.upsample.proofs.across.inner_bytes.Goals as goal
 
 pub loop-k-init : goal.loop-k-init
 loop-k-init c =
-    (omega arith, run_none _ _ _)
-
-pub byte_sum-before-requires : goal.byte_sum-before-requires
-byte_sum-before-requires c =
-    record { row_inside = cells_to c.requires.row_inside c.loop-k.k (omega arith); row_inside_2 = cells_to c.requires.row_inside_2 c.loop-k.k (omega arith) }
-
-pub byte_sum-middle-requires : goal.byte_sum-middle-requires
-byte_sum-middle-requires c =
-    record { row_inside = cells_to c.requires.row_inside (c.loop-k.k + 1) (omega arith); row_inside_2 = cells_to c.requires.row_inside_2 (c.loop-k.k + 1) (omega arith) }
-
-pub byte_sum-after-requires : goal.byte_sum-after-requires
-byte_sum-after-requires c =
-    record { row_inside = cells_to c.requires.row_inside (c.loop-k.k + 2) (omega arith); row_inside_2 = cells_to c.requires.row_inside_2 (c.loop-k.k + 2) (omega arith) }
+    run_none _ _ _
 
 pub loop-k-preserved : goal.loop-k-preserved
 loop-k-preserved c =
     let a = c.args in
     let v = sums 1 a.plane.now a.near a.far in
-    let k = c.loop-k.k in (
-      omega arith,
-      run_two c.loop-k.invariant.1 _ (a.at + 2 * k) (2 * (k + 1)) _ _ c.put_pair_u16.ensures refl (omega arith)
-          (omega (arith, pair_left a.cw v a.bias k (k + 1) (2 + 2 * k) (omega arith) (omega arith), c.byte_sum-before.ensures.0, c.byte_sum-middle.ensures.0))
-          (omega (arith, pair_right a.cw v a.bias (k + 1) (k + 2) (2 + (2 * k + 1)) (omega arith) (omega arith), c.byte_sum-middle.ensures.0, c.byte_sum-after.ensures.0)),
-    )
-
-pub shape_of-out : goal.shape_of-out
-shape_of-out c =
-    c.loop-k.invariant.1.len
-
-pub returns : goal.returns
-returns c =
-    run_end c.loop-k.invariant.1 _ (omega arith) (omega arith)
+    let k = c.loop-k.k in run_two c.loop-k.invariant _ (a.at + 2 * k) (2 * (k + 1)) _ _ c.put_pair_u16.ensures refl (omega arith)
+    (omega (arith, pair_left a.cw v a.bias k (k + 1) (2 + 2 * k) (omega arith) (omega arith), c.byte_sum-before.ensures.0, c.byte_sum-middle.ensures.0))
+    (omega (arith, pair_right a.cw v a.bias (k + 1) (k + 2) (2 + (2 * k + 1)) (omega arith) (omega arith), c.byte_sum-middle.ensures.0, c.byte_sum-after.ensures.0))

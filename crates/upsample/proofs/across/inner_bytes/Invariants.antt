@@ -1,12 +1,9 @@
 -- A loop that writes a run (`Run` of laws), two values a turn (`run_two`): cell k + 1 gives outputs 2 + 2k and 2 + 2k + 1.
 -- That they are the row's is `pair_left` and `pair_right` of Axis, over the sums of bytes that `byte_sum` promises.
-use Prim.Native.Nat.{◌+◌, ◌-◌, ◌*◌, ◌≤◌}
+use Prim.Native.Nat.{◌+◌, ◌*◌}
 use Rattle.laws.proofs.Lists.{Run}
 use Rattle.upsample.specs.Inner.Pairs.{sums, across_row}
 use Rattle.upsample.proofs.across.inner_bytes.Given as goal
 
 abbrev pub invariant-loop-k : goal.invariant-loop-k
-invariant-loop-k l = (l.k ≤ l.n) × Run l.initial.out l.out l.at (2 * l.k) (λ x. across_row l.bias l.cw (sums 1 l.plane l.near l.far) (2 + x))
-
-abbrev pub decreases-loop-k : goal.decreases-loop-k
-decreases-loop-k l = l.n - l.k
+invariant-loop-k l = Run l.initial.out l.out l.at (2 * l.k) (λ x. across_row l.bias l.cw (sums 1 l.plane l.near l.far) (2 + x))

@@ -7,17 +7,8 @@ use lib.ListN.{set}
 use Rattle.laws.proofs.Lists.{run_none}
 use Rattle.upsample.specs.Inner.Pairs.{sums, across_row}
 use Rattle.upsample.proofs.Axis.{pair_left, pair_right}
-use Rattle.upsample.proofs.Inside.{cells_to}
 use Rattle.laws.proofs.Lists.{run_one, run_two}
 use Rattle.upsample.proofs.across.last_cell.Goals as goal
-
-pub cell_sum-before-requires : goal.cell_sum-before-requires
-cell_sum-before-requires c =
-    record { row_inside = cells_to c.requires.row_inside (c.args.cw - 2) (omega arith); row_inside_2 = cells_to c.requires.row_inside_2 (c.args.cw - 2) (omega arith) }
-
-pub cell_sum-last-requires : goal.cell_sum-last-requires
-cell_sum-last-requires c =
-    record { row_inside = cells_to c.requires.row_inside (c.args.cw - 1) (omega arith); row_inside_2 = cells_to c.requires.row_inside_2 (c.args.cw - 1) (omega arith) }
 
 pub returns-then-n-eq1 : goal.returns-then-n-eq1
 returns-then-n-eq1 c =

@@ -5,21 +5,13 @@ use Rattle.upsample.proofs.plane.triangular.Goals as goal
 
 pub loop-y-init : goal.loop-y-init
 loop-y-init c =
-    (omega arith, rows_none _ _ _)
-
-pub triangular_row-requires : goal.triangular_row-requires
-triangular_row-requires c =
-    record { out_value = rw c.loop-y.invariant.1.len c.requires; y_lt_h = omega arith }
+    rows_none _ _ _
 
 pub loop-y-preserved : goal.loop-y-preserved
 loop-y-preserved c =
-    (omega arith, rows_more c.loop-y.invariant.1 _ c.triangular_row.ensures)
-
-pub shape_of-out : goal.shape_of-out
-shape_of-out c =
-    c.loop-y.invariant.1.len
+    rows_more c.loop-y.invariant _ c.triangular_row.ensures
 
 pub returns : goal.returns
 unfolding triangular_plane
 returns c =
-    rows_end c.loop-y.invariant.1 _ (omega arith) (omega arith)
+    rows_end c.loop-y.invariant _ (omega arith) (omega arith)

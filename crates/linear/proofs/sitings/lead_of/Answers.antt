@@ -1,5 +1,0 @@
-use Rattle.linear.proofs.sitings.lead_of.Goals as goal
-
-pub returns-in-Centred : goal.returns-in-Centred
-returns-in-Centred c =
-    simp c.in-Centred.is
