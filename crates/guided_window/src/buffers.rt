@@ -71,6 +71,7 @@ impl ResultBuffer {
 
 // How far apart row buffers begin. Rows of 256 cells and more are padded, so that they don't fall on the same lines of a cache: by 48
 // values, or by what scratch leaves to each of the 35 buffers.
+#[tactic(auto, unfolding(guided::specs::Scratch::pitch))]
 fn pitch_of(layout: Layout) -> usize
     requires { Sound layout }
     ensures { result ≡ pitch layout }
@@ -79,7 +80,7 @@ fn pitch_of(layout: Layout) -> usize
     if cw < 256 {
         return cw;
     }
-    cw + laws::least(48, (5 * layout.w - 3 * cw) / 35)
+    cw + ((5 * layout.w - 3 * cw) / 35).min(48)
 }
 
 // Inner: the number of a component's first row buffer in a slot: luma's three come first, then Cb's two, then Cr's.
@@ -103,6 +104,7 @@ pub fn result_of(k: Chroma) -> usize
 }
 
 // Inner: where row buffer n begins in scratch: behind the window's stand two more, for the picture row at hand.
+#[tactic(auto, using(crate::proofs::Windows::buffer_room), unfolding(guided::specs::Scratch::buffer_at, image::specs::Scratch::scratch_need))]
 pub fn buffer_at(layout: Layout, n: usize) -> usize
     requires { Sound layout × (n < 35) }
     ensures { BufferGiven layout n result }
@@ -111,6 +113,7 @@ pub fn buffer_at(layout: Layout, n: usize) -> usize
 }
 
 // Inner: where buffer n of chroma row r begins in scratch: the row lies in slot r mod 3.
+#[tactic(auto, unfolding(guided::specs::Scratch::slot_at))]
 pub fn slot_at(layout: Layout, n: usize, r: usize) -> usize
     requires { Sound layout × (n < 7) }
     ensures { SlotGiven layout n r result }
@@ -119,6 +122,7 @@ pub fn slot_at(layout: Layout, n: usize, r: usize) -> usize
 }
 
 // Inner: where result n of chroma row r begins in scratch: a picture row reads two chroma rows' results, row r's in slot r mod 2.
+#[tactic(auto, unfolding(guided::specs::Scratch::result_at))]
 pub fn result_at(layout: Layout, n: usize, r: usize) -> usize
     requires { Sound layout × (n < 6) }
     ensures { ResultGiven layout n r result }
@@ -127,6 +131,7 @@ pub fn result_at(layout: Layout, n: usize, r: usize) -> usize
 }
 
 // Inner: where buffer n begins for chroma row j and the rows above and below it, edges repeated.
+#[tactic(auto, unfolding(crate::specs::Inner::Buffers::window_of))]
 pub fn window_at(layout: Layout, n: usize, j: usize) -> Window
     requires { Sound layout × (n < 7) × (j < layout.ch) }
     ensures { result ≡ window_of layout n j }
