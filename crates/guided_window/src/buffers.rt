@@ -2,7 +2,7 @@
 ghost use Rattle.std.specs.Prelude.{◌≡◌, ◌≤◌, ◌<◌};
 ghost use Rattle.image.specs.Inner.Tests.{Sound};
 ghost use Rattle.guided.specs.Scratch.{pitch, first_of, first_down};
-ghost use Rattle.guided_window.specs.Inner.Buffers.{BufferGiven, SlotGiven, ResultGiven, window_of};
+ghost use Rattle.guided_window.specs.Inner.Buffers.{BufferGiven, SlotGiven, ResultGiven, RowGiven, window_of};
 
 use crate::neighbours::{next, prev};
 use image::{Chroma, Layout};
@@ -35,38 +35,20 @@ impl Window {
     pub const FRONT: usize = 3;
 }
 
-// The buffers of a slot that are luma's, by their number in it.
+// What the window holds of a chroma row, a row buffer each: what is stored across, then what is made down.
 #[derive(Clone, Copy)]
-pub struct LumaBuffer;
-
-impl LumaBuffer {
-    pub const CELL: usize = 0;
-
-    pub const SUM: usize = 1;
-
-    pub const SQUARE_SUM: usize = 2;
-}
-
-// The buffers of a slot that are a component's, counted from its first, which `first_of` gives.
-#[derive(Clone, Copy)]
-pub struct ChromaBuffer;
-
-impl ChromaBuffer {
-    pub const CELL: usize = 0;
-
-    pub const PRODUCT_SUM: usize = 1;
-}
-
-// A component's results, counted from its first, which `result_of` gives.
-#[derive(Clone, Copy)]
-pub struct ResultBuffer;
-
-impl ResultBuffer {
-    pub const SLOPE: usize = 0;
-
-    pub const LEAST: usize = 1;
-
-    pub const GREATEST: usize = 2;
+pub enum Buffer {
+    // Luma's cells, the sums of three of them, and the sums of three of their squares.
+    Luma,
+    LumaSums,
+    SquareSums,
+    // A component's cells, and the sums of three of its products with luma.
+    Cells(Chroma),
+    ProductSums(Chroma),
+    // A component's slopes, and the least and the greatest sample round each cell.
+    Slopes(Chroma),
+    Least(Chroma),
+    Greatest(Chroma),
 }
 
 // How far apart row buffers begin. Rows of 256 cells and more are padded, so that they don't fall on the same lines of a cache: by 48
@@ -83,8 +65,8 @@ fn pitch_of(layout: Layout) -> usize
     cw + ((5 * layout.w - 3 * cw) / 35).min(48)
 }
 
-// Inner: the number of a component's first row buffer in a slot: luma's three come first, then Cb's two, then Cr's.
-pub fn first_of(k: Chroma) -> usize
+// The number of a component's first row buffer in a slot: luma's three come first, then Cb's two, then Cr's.
+fn first_of(k: Chroma) -> usize
     ensures { (result ≡ first_of k) × (result ≤ 5) }
 {
     match k {
@@ -93,8 +75,8 @@ pub fn first_of(k: Chroma) -> usize
     }
 }
 
-// Inner: the number of a component's first result: Cb's three come first.
-pub fn result_of(k: Chroma) -> usize
+// The number of a component's first result: Cb's three come first.
+fn result_of(k: Chroma) -> usize
     ensures { (result ≡ first_down k) × (result ≤ 3) }
 {
     match k {
@@ -112,33 +94,50 @@ pub fn buffer_at(layout: Layout, n: usize) -> usize
     Window::FRONT * layout.w + n * pitch_of(layout)
 }
 
-// Inner: where buffer n of chroma row r begins in scratch: the row lies in slot r mod 3.
+// Where buffer n of chroma row r begins in scratch: the row lies in slot r mod 3.
 #[tactic(auto, unfolding(guided::specs::Scratch::slot_at))]
-pub fn slot_at(layout: Layout, n: usize, r: usize) -> usize
+fn slot_at(layout: Layout, n: usize, r: usize) -> usize
     requires { Sound layout × (n < 7) }
     ensures { SlotGiven layout n r result }
 {
     buffer_at(layout, r % 3 * Window::SLOT + n)
 }
 
-// Inner: where result n of chroma row r begins in scratch: a picture row reads two chroma rows' results, row r's in slot r mod 2.
+// Where result n of chroma row r begins in scratch: a picture row reads two chroma rows' results, row r's in slot r mod 2.
 #[tactic(auto, unfolding(guided::specs::Scratch::result_at))]
-pub fn result_at(layout: Layout, n: usize, r: usize) -> usize
+fn result_at(layout: Layout, n: usize, r: usize) -> usize
     requires { Sound layout × (n < 6) }
     ensures { ResultGiven layout n r result }
 {
     buffer_at(layout, Window::RESULTS + (r % 2 * Window::RESULT_SLOT + n))
 }
 
-// Inner: where buffer n begins for chroma row j and the rows above and below it, edges repeated.
+// Inner: where a buffer of chroma row r begins in scratch.
+pub fn row_at(layout: Layout, buffer: Buffer, r: usize) -> usize
+    requires { Sound layout }
+    ensures { RowGiven layout buffer r result }
+{
+    match buffer {
+        Buffer::Luma => slot_at(layout, 0, r),
+        Buffer::LumaSums => slot_at(layout, 1, r),
+        Buffer::SquareSums => slot_at(layout, 2, r),
+        Buffer::Cells(k) => slot_at(layout, first_of(k), r),
+        Buffer::ProductSums(k) => slot_at(layout, first_of(k) + 1, r),
+        Buffer::Slopes(k) => result_at(layout, result_of(k), r),
+        Buffer::Least(k) => result_at(layout, result_of(k) + 1, r),
+        Buffer::Greatest(k) => result_at(layout, result_of(k) + 2, r),
+    }
+}
+
+// Inner: where a buffer begins for chroma row j and the rows above and below it, edges repeated.
 #[tactic(auto, unfolding(crate::specs::Inner::Buffers::window_of))]
-pub fn window_at(layout: Layout, n: usize, j: usize) -> Window
-    requires { Sound layout × (n < 7) × (j < layout.ch) }
-    ensures { result ≡ window_of layout n j }
+pub fn window_at(layout: Layout, buffer: Buffer, j: usize) -> Window
+    requires { Sound layout × (j < layout.ch) }
+    ensures { result ≡ window_of layout buffer j }
 {
     Window {
-        up: slot_at(layout, n, prev(j)),
-        at: slot_at(layout, n, j),
-        down: slot_at(layout, n, next(j, layout.ch)),
+        up: row_at(layout, buffer, prev(j)),
+        at: row_at(layout, buffer, j),
+        down: row_at(layout, buffer, next(j, layout.ch)),
     }
 }
