@@ -3,8 +3,8 @@
 // What is summed, cells or products, is a type of `Terms`: products are formed as they are summed, so that no row of products is kept.
 ghost use Rattle.std.specs.Prelude.{◌≡◌, List, ℕ, ◌+◌, ◌-◌, ◌*◌, ◌≤◌, ◌<◌, Float, length};
 ghost use Rattle.laws.specs.Floats.{◌⊕◌};
-ghost use Rattle.guided_across.specs.Inner.Sums.{load_run, cells_at, products_at, three_run, three_row, Behind, behind_cells, behind_products};
-ghost use Rattle.std.proofs.Common.{arith};
+ghost use Rattle.guided_across.specs.Inner.Sums.{load_run, cells_at, products_at, three_run, three_row, Behind};
+ghost use Rattle.guided_across.specs.Inner.Terms.{fewer_cells, behind_cells, behind_products};
 
 use guided_window::{next, prev};
 
@@ -54,7 +54,7 @@ impl Terms for Cells {
         s[self.src + i]
     }
 
-    ghost fewer = { λ t n k at to h p q. Prim.omega arith };
+    ghost fewer = { λ t n k at to h p q. fewer_cells t.src n k at to h p q };
 
     ghost behind = { λ t n dst h. behind_cells t.src n dst h };
 }
@@ -75,7 +75,7 @@ impl Terms for Products {
         s[self.a + i] * s[self.b + i]
     }
 
-    ghost fewer = { λ t n k at to h p q. (Prim.omega arith, Prim.omega arith) };
+    ghost fewer = { λ t n k at to h p q. (fewer_cells t.a n k at to h.0 p q, fewer_cells t.b n k at to h.1 p q) };
 
     ghost behind = { λ t n dst h. behind_products t.a t.b n dst h.0 h.1 };
 }

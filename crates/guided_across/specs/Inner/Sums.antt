@@ -1,7 +1,6 @@
 -- The steps of a chroma row's sums over lent scratch, as the inner functions' contracts say them. Definitions only.
-use Rattle.std.specs.Prelude.{◌≡◌, List, ℕ, ◌+◌, ◌*◌, ◌≤◌, ◌<◌, Float, get_or}
+use Rattle.std.specs.Prelude.{◌≡◌, List, ℕ, ◌+◌, ◌*◌, ◌<◌, Float, get_or}
 use Rattle.std.specs.Float.{nan}
-use Rattle.std.proofs.Common.{refl, arith}
 use Rattle.laws.specs.Floats.{f32, ◌⊕◌, ◌⊗◌}
 use Rattle.laws.specs.Lists.{put}
 use Rattle.image.specs.Samples.{sample_of}
@@ -31,12 +30,3 @@ three_row g n dst s = put s dst n (three ◌⊕◌ n (g s))
 -- what is summed is made of what lies before dst: what is stored behind leaves it
 pub record Behind (g : List Float → ℕ → Float) (n dst : ℕ) : Type 0 where
   pub keeps : (xs ys : List Float) → ((k : ℕ) → k < dst → get_or ys k nan ≡ get_or xs k nan) → (i : ℕ) → i < n → g ys i ≡ g xs i
-
-pub behind_cells : (src n dst : ℕ) → src + n ≤ dst → Behind (cells_at src) n dst
-behind_cells src n dst h = record { keeps = λ xs ys e i l. e (src + i) (omega arith) }
-
-pub behind_products : (a b n dst : ℕ) → a + n ≤ dst → b + n ≤ dst → Behind (products_at a b) n dst
-behind_products a b n dst h k = record { keeps = λ xs ys e i l. alike xs ys i (e (a + i) (omega arith)) (e (b + i) (omega arith)) }
-  where
-    alike : (xs ys : List Float) (i : ℕ) → get_or ys (a + i) nan ≡ get_or xs (a + i) nan → get_or ys (b + i) nan ≡ get_or xs (b + i) nan → products_at a b ys i ≡ products_at a b xs i
-    alike xs ys i p q = rw (p, q) refl
