@@ -14,13 +14,14 @@ use image::{Components, Layout, Strides};
 use laws::Answer;
 
 // Refusal 7's test for luma and the one chroma plane: whether either is too short.
+#[tactic(auto, unfolding(crate::specs::Plane::short_pair, image::specs::Picture::short_plane))]
 fn bad_pair(layout: Layout, y: &[u8], y_stride: usize, c: &[u8], c_stride: usize) -> bool
     ensures { result ≡ short_pair layout (plane_of y.now y_stride) (plane_of c.now c_stride) }
 {
     let size = layout.sample_bytes;
     let bad_y = image::bad_plane(size, layout.w, layout.h, y_stride, y.len());
     let bad_c = image::bad_plane(size, layout.cw, layout.ch, c_stride, c.len());
-    laws::either(bad_y, bad_c)
+    bad_y || bad_c
 }
 
 // The lowest refusal of `guided_plane` that applies; `space` and `room` are the lengths of scratch and output. It writes nothing.
@@ -94,11 +95,8 @@ fn plane_rows(
         (picture_with layout (plane_of y.now y_stride) (plane_of c.now c_stride))
         (Cb ∷ []) 0 layout.h s.old }
 {
-    let h = layout.h;
-    let mut row = 0;
-    while row < h {
+    for row in 0..layout.h {
         plane_row(layout, y, y_stride, c, c_stride, row, s, out);
-        row += 1;
     }
 }
 
