@@ -8,17 +8,28 @@ use lib.ListN.{length, get_or}
 use Rattle.laws.specs.Floats.{f32}
 use Rattle.laws.specs.Lists.{put}
 use Rattle.guided_window.proofs.Puts.{put_block}
+use Rattle.laws.proofs.Rows.{row_fits}
 use Rattle.laws.proofs.Counts.{plus_plus}
+use Rattle.guided_window.specs.declared.buffers.Window.{Window}
+use Rattle.guided_window.specs.Inner.Buffers.{on}
+use Rattle.guided_down.specs.Inner.Slopes.{Inside}
 
-module _ (F : ℕ → ℕ → ℕ → ℕ) (u m d : ℕ) where
+module _ (F : Window → ℕ) (t : Window) where
   -- cell i, whose left neighbours begin i further on
   abbrev cell : ℕ → Float
-  cell i = f32 (F (u + i) (m + i) (d + i))
+  cell i = f32 (F (on t i))
 
-  further : (a k : ℕ) → F (u + a + k) (m + a + k) (d + a + k) ≡ F (u + (a + k)) (m + (a + k)) (d + (a + k))
-  further a k = rw (plus_plus u a k, plus_plus m a k, plus_plus d a k) refl
+  further : (a k : ℕ) → F (on (on t a) k) ≡ F (on t (a + k))
+  further a k = rw (plus_plus t.up a k, plus_plus t.at a k, plus_plus t.down a k) refl
 
   pub block_more : (xs ys zs : List Float) (at n b i : ℕ) (block : List ℕ) → ys ≡ put xs at (min (b * 16) n) cell → zs ≡ put ys (at + i) 16 (λ k. f32 (get_or block k 0))
-      → ((k : ℕ) → k < 16 → get_or block k 0 ≡ F (u + i + k) (m + i + k) (d + i + k)) → i ≡ min (b * 16) (n - 16) → 16 ≤ n → at + n ≤ length xs → zs ≡ put xs at (min ((b + 1) * 16) n) cell
+      → ((k : ℕ) → k < 16 → get_or block k 0 ≡ F (on (on t i) k)) → i ≡ min (b * 16) (n - 16) → 16 ≤ n → at + n ≤ length xs → zs ≡ put xs at (min ((b + 1) * 16) n) cell
   block_more xs ys zs at n b i block w e h p q l =
       put_block xs ys zs at (min (b * 16) n) i 16 _ cell _ nan w e (λ k r. ap f32 (h k r ∙ further i k)) (omega arith) (omega arith) (omega arith) (omega arith)
+
+-- cell i of n + 2, each of b bytes, and its two neighbours end within the plane
+pub nine_inside : (t : Window) (n i b len : ℕ) → Inside t ((n + 2) * b) len → i < n → Inside (on t (i * b)) (3 * b) len
+nine_inside t n i b len o h =
+    let f : i * b + b ≤ n * b = row_fits i n b h in
+    let e : (n + 2) * b ≡ n * b + 2 * b = omega arith in
+    record { up = omega (arith, o.up); at = omega (arith, o.at); down = omega (arith, o.down) }

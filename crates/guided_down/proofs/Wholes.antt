@@ -21,6 +21,7 @@ use Rattle.guided.specs.Events.{three_n}
 use Rattle.guided.proofs.Extremes.{least_of, greatest_of}
 use Rattle.guided_down.specs.Inner.Extremes.{op_of, extreme_run, extreme_row, whole_extreme}
 use Rattle.guided_down.specs.Inner.Nines.{whole_op, three_from, nine_from}
+use Rattle.guided_window.specs.Inner.Buffers.{on}
 use Rattle.guided_across.proofs.Areas.{row_within}
 use Rattle.laws.proofs.Counts.{plus_plus}
 
@@ -54,18 +55,18 @@ module _ (l : Layout) (p : Plane) (pick : Pick) where
   -- the nine round cell 1 + q of row j
   pub inner_whole : ((i : ℕ) → get_or p.bytes i 0 < 256) → (j q : ℕ) → q + 2 < l.cw
       → extreme_of l (op_of pick) (sample_at l.sample_bytes p) j (1 + q)
-      ≡ f32 (nine_from pick l.sample_bytes p.bytes ((j - 1) * p.stride + q * l.sample_bytes) (j * p.stride + q * l.sample_bytes) (min (j + 1) (l.ch - 1) * p.stride + q * l.sample_bytes))
+      ≡ f32 (nine_from pick l.sample_bytes p.bytes (record { up = (j - 1) * p.stride + q * l.sample_bytes; at = j * p.stride + q * l.sample_bytes; down = min (j + 1) (l.ch - 1) * p.stride + q * l.sample_bytes }))
   unfolding nine_from whole_extreme three_n
   inner_whole small j q h =
       whole_is l p pick small j (1 + q) ∙ ap f32 (steps_of (whole_op pick) _ _ _ _ _ _ (across_from (j - 1) q h) (across_from j q h) (across_from (min (j + 1) (l.ch - 1)) q h))
 
-nine_same : (pick : Pick) (plane : List ℕ) (b c u m d u' m' d' : ℕ) → b ≡ c → u ≡ u' → m ≡ m' → d ≡ d' → nine_from pick b plane u m d ≡ nine_from pick c plane u' m' d'
+nine_same : (pick : Pick) (plane : List ℕ) (b c u m d u' m' d' : ℕ) → b ≡ c → u ≡ u' → m ≡ m' → d ≡ d' → nine_from pick b plane (record { up = u; at = m; down = d }) ≡ nine_from pick c plane (record { up = u'; at = m'; down = d' })
 nine_same pick plane b c u m d u' m' d' e p q r = rw (e, p, q, r) refl
 
 -- a run of them between the first and the last cell; `step i` is how far cell i lies behind the first, in bytes
 pub inner_are : (l : Layout) (p : Plane) (pick : Pick) (j dst b u m d : ℕ) (step : ℕ → ℕ) (s : List Float) → ((i : ℕ) → get_or p.bytes i 0 < 256) → l.sample_bytes ≡ b → ((i : ℕ) → step i ≡ i * b)
     → u ≡ (j - 1) * p.stride → m ≡ j * p.stride → d ≡ min (j + 1) (l.ch - 1) * p.stride
-    → put s (dst + 1) (l.cw - 2) (λ i. f32 (nine_from pick b p.bytes (u + step i) (m + step i) (d + step i))) ≡ extreme_run l p pick j dst 1 (l.cw - 2) s
+    → put s (dst + 1) (l.cw - 2) (λ i. f32 (nine_from pick b p.bytes (on (record { up = u; at = m; down = d }) (step i)))) ≡ extreme_run l p pick j dst 1 (l.cw - 2) s
 unfolding extreme_run
 inner_are l p pick j dst b u m d step s small e far x y z =
     put_same s (dst + 1) (l.cw - 2) _ _ (λ i h.

@@ -10,7 +10,7 @@ ghost use Rattle.guided_down.specs.Inner.Nines.{whole_op};
 
 use crate::nines::{byte_run, nine_cells, pick3};
 use crate::picks::Pick;
-use guided_window::whole_at;
+use guided_window::{Window, next, prev, whole_at};
 use image::Layout;
 
 // The least, or the greatest, of cell i of row r and its two neighbours across.
@@ -23,9 +23,9 @@ fn across(layout: Layout, plane: &[u8], stride: usize, pick: Pick, r: usize, i: 
 {
     let w = layout.cw;
     let h = layout.ch;
-    let a = whole_at(layout, plane, stride, w, h, guided_window::prev(i), r);
+    let a = whole_at(layout, plane, stride, w, h, prev(i), r);
     let b = whole_at(layout, plane, stride, w, h, i, r);
-    let c = whole_at(layout, plane, stride, w, h, guided_window::next(i, w), r);
+    let c = whole_at(layout, plane, stride, w, h, next(i, w), r);
     pick3(pick, a, b, c)
 }
 
@@ -37,9 +37,9 @@ fn extreme_at(layout: Layout, plane: &[u8], stride: usize, pick: Pick, j: usize,
         (sample_at layout.sample_bytes (plane_of plane.now stride))
         j i }
 {
-    let a = across(layout, plane, stride, pick, guided_window::prev(j), i);
+    let a = across(layout, plane, stride, pick, prev(j), i);
     let b = across(layout, plane, stride, pick, j, i);
-    let d = guided_window::next(j, layout.ch);
+    let d = next(j, layout.ch);
     let c = across(layout, plane, stride, pick, d, i);
     pick3(pick, a, b, c)
 }
@@ -82,14 +82,16 @@ fn extreme_inner(
     ensures { s.new ≡ extreme_run layout (plane_of plane.now stride) pick j dst 1 (layout.cw - 2) s.old }
 {
     let n = layout.cw - 2;
-    let u = guided_window::prev(j) * stride;
-    let m = j * stride;
-    let d = guided_window::next(j, layout.ch) * stride;
+    let t = Window {
+        up: prev(j) * stride,
+        at: j * stride,
+        down: next(j, layout.ch) * stride,
+    };
     if layout.sample_bytes == 1 {
-        byte_run(plane, pick, u, m, d, n, s, dst + 1);
+        byte_run(plane, pick, t, n, s, dst + 1);
         return;
     }
-    nine_cells::<u16>(plane, pick, u, m, d, n, s, dst + 1);
+    nine_cells::<u16>(plane, pick, t, n, s, dst + 1);
 }
 
 // Inner: the least, or the greatest, sample round each cell of chroma row j, to s from dst on: the edges one by one, the rest by blocks.

@@ -1,14 +1,17 @@
 // The least or the greatest of nine samples, for the cells that have neighbours on both sides: no edge is looked at, so that these loops
 // compute many cells at a time. They are for samples of one byte and of two by their type, since bytes are compared more at a time.
 //
-// u, m and d are where a cell's left neighbours begin in the plane: in the row above (up), in its own (middle) and in the row below (down).
+// A window is here where a cell's left neighbours begin in the plane: in the row above, in its own and in the row below.
 ghost use Rattle.std.specs.Prelude.{◌≡◌, ℕ, ◌+◌, ◌*◌, ◌≤◌, ◌<◌, length, get_or};
 ghost use Rattle.laws.specs.Floats.{f32};
 ghost use Rattle.laws.specs.Lists.{put};
 ghost use Rattle.image.specs.Samples.{sample_of};
+ghost use Rattle.guided_window.specs.Inner.Buffers.{on};
 ghost use Rattle.guided_down.specs.Inner.Nines.{whole_op, three_from, nine_from};
+ghost use Rattle.guided_down.specs.Inner.Slopes.{Inside};
 
 use crate::picks::Pick;
+use guided_window::Window;
 use lanes::Lanes;
 
 // A sample as a plane holds it.
@@ -98,87 +101,71 @@ fn three<S: Sample>(plane: &[u8], pick: Pick, at: usize) -> S
     pick3(pick, a, b, c)
 }
 
-// The extreme of nine samples, three from each of u, m and d on.
+// The extreme of nine samples, three from each of a window's places on.
 #[tactic(auto, unfolding(crate::specs::Inner::Nines::nine_from))]
-fn nine<S: Sample>(plane: &[u8], pick: Pick, u: usize, m: usize, d: usize) -> S
-    requires { (u + 3 * S.BYTES ≤ length plane.now) × (m + 3 * S.BYTES ≤ length plane.now) × (d + 3 * S.BYTES ≤ length plane.now) }
-    ensures { S.number result ≡ nine_from pick S.BYTES plane.now u m d }
+fn nine<S: Sample>(plane: &[u8], pick: Pick, t: Window) -> S
+    requires { Inside t (3 * S.BYTES) (length plane.now) }
+    ensures { S.number result ≡ nine_from pick S.BYTES plane.now t }
 {
-    let a: S = three(plane, pick, u);
-    let b: S = three(plane, pick, m);
-    let c: S = three(plane, pick, d);
+    let a: S = three(plane, pick, t.up);
+    let b: S = three(plane, pick, t.at);
+    let c: S = three(plane, pick, t.down);
     pick3(pick, a, b, c)
 }
 
 // The extreme of nine samples as a float.
-fn nine_float<S: Sample>(plane: &[u8], pick: Pick, u: usize, m: usize, d: usize) -> f32
-    requires { (u + 3 * S.BYTES ≤ length plane.now) × (m + 3 * S.BYTES ≤ length plane.now) × (d + 3 * S.BYTES ≤ length plane.now) }
-    ensures { result ≡ f32 (nine_from pick S.BYTES plane.now u m d) }
+fn nine_float<S: Sample>(plane: &[u8], pick: Pick, t: Window) -> f32
+    requires { Inside t (3 * S.BYTES) (length plane.now) }
+    ensures { result ≡ f32 (nine_from pick S.BYTES plane.now t) }
 {
-    let v: S = nine(plane, pick, u, m, d);
+    let v: S = nine(plane, pick, t);
     v.float()
 }
 
-// Inner: the extremes round n cells one by one, to s from dst on; the first cell's left neighbours begin at u, m and d.
-#[tactic(auto, using(guided_window::proofs::Puts::put_more, laws::proofs::Rows::row_fits), unfolding(laws::specs::Lists::put))]
+// Inner: the extremes round n cells one by one, to s from dst on; the first cell's left neighbours begin at t.
+#[tactic(auto, using(guided_window::proofs::Puts::put_more, crate::proofs::Sixteens::nine_inside), unfolding(laws::specs::Lists::put))]
 pub fn nine_cells<S: Sample>(
     plane: &[u8],
     pick: Pick,
-    u: usize,
-    m: usize,
-    d: usize,
+    t: Window,
     n: usize,
     s: &mut [f32],
     dst: usize,
 )
-    requires { (u + (n + 2) * S.BYTES ≤ length plane.now) × (m + (n + 2) * S.BYTES ≤ length plane.now) × (d + (n + 2) * S.BYTES ≤ length plane.now)
-        × (dst + n ≤ length s.old) }
-    ensures { s.new ≡ put s.old dst n
-        (λ i. f32 (nine_from pick S.BYTES plane.now (u + i * S.BYTES) (m + i * S.BYTES) (d + i * S.BYTES))) }
+    requires { Inside t ((n + 2) * S.BYTES) (length plane.now) × (dst + n ≤ length s.old) }
+    ensures { s.new ≡ put s.old dst n (λ i. f32 (nine_from pick S.BYTES plane.now (on t (i * S.BYTES)))) }
 {
     for i in 0..n {
-        let k = i * S::BYTES;
-        s[dst + i] = nine_float::<S>(plane, pick, u + k, m + k, d + k);
+        s[dst + i] = nine_float::<S>(plane, pick, t.on(i * S::BYTES));
     }
 }
 
-// The extremes round sixteen cells of one-byte samples; the first cell's left neighbours begin at u, m and d.
-fn byte_block(plane: &[u8], pick: Pick, u: usize, m: usize, d: usize) -> [u8; Lanes::PIXELS]
-    requires { (u + 18 ≤ length plane.now) × (m + 18 ≤ length plane.now) × (d + 18 ≤ length plane.now) }
-    ensures { (k : ℕ) → k < 16 → get_or result k 0 ≡ nine_from pick 1 plane.now (u + k) (m + k) (d + k) }
+// The extremes round sixteen cells of one-byte samples; the first cell's left neighbours begin at t.
+fn byte_block(plane: &[u8], pick: Pick, t: Window) -> [u8; Lanes::PIXELS]
+    requires { Inside t 18 (length plane.now) }
+    ensures { (k : ℕ) → k < 16 → get_or result k 0 ≡ nine_from pick 1 plane.now (on t k) }
 {
     let mut block = [0; Lanes::PIXELS];
     for k in 0..Lanes::PIXELS {
-        block[k] = nine(plane, pick, u + k, m + k, d + k);
+        block[k] = nine(plane, pick, t.on(k));
     }
     block
 }
 
-// Inner: the extremes round n cells of one-byte samples, to s from dst on; the first cell's left neighbours begin at u, m and d. They are
-// made by blocks of sixteen, as many bytes as a vector of 128 bits holds, the last of which ends with the cells and overlaps the one before,
-// and fewer than sixteen one by one.
-pub fn byte_run(
-    plane: &[u8],
-    pick: Pick,
-    u: usize,
-    m: usize,
-    d: usize,
-    n: usize,
-    s: &mut [f32],
-    dst: usize,
-)
-    requires { (u + n + 2 ≤ length plane.now) × (m + n + 2 ≤ length plane.now) × (d + n + 2 ≤ length plane.now)
-        × (dst + n ≤ length s.old) }
-    ensures { s.new ≡ put s.old dst n
-        (λ i. f32 (nine_from pick 1 plane.now (u + i) (m + i) (d + i))) }
+// Inner: the extremes round n cells of one-byte samples, to s from dst on; the first cell's left neighbours begin at t. They are made by blocks
+// of sixteen, as many bytes as a vector of 128 bits holds, the last of which ends with the cells and overlaps the one before, and fewer than
+// sixteen one by one.
+pub fn byte_run(plane: &[u8], pick: Pick, t: Window, n: usize, s: &mut [f32], dst: usize)
+    requires { Inside t (n + 2) (length plane.now) × (dst + n ≤ length s.old) }
+    ensures { s.new ≡ put s.old dst n (λ i. f32 (nine_from pick 1 plane.now (on t i))) }
 {
     if n < Lanes::PIXELS {
-        nine_cells::<u8>(plane, pick, u, m, d, n, s, dst);
+        nine_cells::<u8>(plane, pick, t, n, s, dst);
         return;
     }
     for b in 0..n.div_ceil(Lanes::PIXELS) {
         let i = (b * Lanes::PIXELS).min(n - Lanes::PIXELS);
-        let block = byte_block(plane, pick, u + i, m + i, d + i);
+        let block = byte_block(plane, pick, t.on(i));
         lanes::put_bytes(s, dst + i, block);
     }
 }

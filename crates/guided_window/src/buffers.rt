@@ -1,13 +1,13 @@
 // Where the row buffers of the window lie in scratch.
-ghost use Rattle.std.specs.Prelude.{◌≡◌, ◌≤◌, ◌<◌};
+ghost use Rattle.std.specs.Prelude.{◌≡◌, ◌+◌, ◌^◌, ◌≤◌, ◌<◌};
 ghost use Rattle.image.specs.Inner.Tests.{Sound};
 ghost use Rattle.guided.specs.Scratch.{pitch, first_of, first_down};
-ghost use Rattle.guided_window.specs.Inner.Buffers.{BufferGiven, SlotGiven, ResultGiven, RowGiven, window_of};
+ghost use Rattle.guided_window.specs.Inner.Buffers.{BufferGiven, SlotGiven, ResultGiven, RowGiven, window_of, on};
 
 use crate::neighbours::{next, prev};
 use image::{Chroma, Layout};
 
-// Where one of the row buffers begins for chroma rows r - 1, r and r + 1, edges repeated.
+// Where a row begins for chroma rows r - 1, r and r + 1, edges repeated: one of the row buffers, or a row of a plane.
 #[derive(Clone, Copy)]
 pub struct Window {
     pub up: usize,
@@ -16,6 +16,18 @@ pub struct Window {
 }
 
 impl Window {
+    // The places n further on in these rows.
+    pub fn on(self, n: usize) -> Window
+        requires { (self.up + n < 2 ^ 64) × (self.at + n < 2 ^ 64) × (self.down + n < 2 ^ 64) }
+        ensures { result ≡ on self n }
+    {
+        Window {
+            up: self.up + n,
+            at: self.at + n,
+            down: self.down + n,
+        }
+    }
+
     // The buffers of a slot, which holds what is stored of one chroma row across: three of luma and two of each component.
     pub const SLOT: usize = 7;
 

@@ -41,3 +41,7 @@ pub record RowGiven (l : Layout) (b : Buffer) (r at : ℕ) : Type 0 where
 -- a buffer of the rows above, at and below chroma row j, edges repeated
 unfoldable pub window_of : Layout → Buffer → ℕ → Window
 window_of l b j = record { up = row_at l b (j - 1); at = row_at l b j; down = row_at l b (min (j + 1) (l.ch - 1)) }
+
+-- the places n further on in these rows
+abbrev pub on : Window → ℕ → Window
+on t n = record { up = t.up + n; at = t.at + n; down = t.down + n }

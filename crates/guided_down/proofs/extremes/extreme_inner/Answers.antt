@@ -6,22 +6,10 @@ use Rattle.guided_across.proofs.Areas.{row_within}
 use Rattle.guided_down.proofs.Wholes.{inner_are, three_rows}
 use Rattle.guided_down.proofs.extremes.extreme_inner.Goals as goal
 
-pub overflow_mul-u : goal.overflow_mul-u
-overflow_mul-u c =
-    let a = c.args in omega (arith, row_within a.layout a.plane.now a.stride a.layout.cw a.layout.ch c.prev.result c.requires.0.plane (omega arith))
-
-pub overflow_mul-m : goal.overflow_mul-m
-overflow_mul-m c =
-    let a = c.args in omega (arith, row_within a.layout a.plane.now a.stride a.layout.cw a.layout.ch a.j c.requires.0.plane (omega arith))
-
-pub overflow_mul-d : goal.overflow_mul-d
-overflow_mul-d c =
-    let a = c.args in omega (arith, row_within a.layout a.plane.now a.stride a.layout.cw a.layout.ch c.next.result c.requires.0.plane (omega arith))
-
 pub byte_run-requires : goal.byte_run-requires
 byte_run-requires c =
     let a = c.args in
-    let r = three_rows a.layout a.plane.now a.stride a.j _ _ 1 c.requires.0.plane (omega arith) c.if-layout-eq1.true c.prev.ensures c.next.ensures in omega arith
+    let r = three_rows a.layout a.plane.now a.stride a.j _ _ 1 c.requires.0.plane (omega arith) c.if-layout-eq1.true c.prev.ensures c.next.ensures in (record { up = omega arith; at = omega arith; down = omega arith }, omega arith)
 
 pub returns-then-layout-eq1 : goal.returns-then-layout-eq1
 returns-then-layout-eq1 c =
@@ -34,7 +22,7 @@ nine_cells-requires c =
     let a = c.args in
     let o = c.requires.0.sound in
     let two : a.layout.sample_bytes ≡ 2 = omega (arith, o.bytes_some, o.bytes_most, c.if-layout-eq1.false) in
-    let r = three_rows a.layout a.plane.now a.stride a.j _ _ 2 c.requires.0.plane (omega arith) two c.prev.ensures c.next.ensures in (omega arith, omega arith, omega arith, omega arith)
+    let r = three_rows a.layout a.plane.now a.stride a.j _ _ 2 c.requires.0.plane (omega arith) two c.prev.ensures c.next.ensures in (record { up = omega arith; at = omega arith; down = omega arith }, omega arith)
 
 pub returns : goal.returns
 returns c =

@@ -11,4 +11,5 @@ loop-b-init c =
 pub loop-b-preserved : goal.loop-b-preserved
 loop-b-preserved c =
     let a = c.args in
-    block_more (nine_from a.pick 1 a.plane.now) a.u a.m a.d _ _ _ a.dst a.n c.loop-b.b _ c.byte_block-block.result c.loop-b.invariant c.put_bytes.ensures c.byte_block-block.ensures (omega arith) (omega arith) (omega arith)
+    let made = rw c.on.ensures at c.byte_block-block.ensures in
+    block_more (nine_from a.pick 1 a.plane.now) a.t _ _ _ a.dst a.n c.loop-b.b _ c.byte_block-block.result c.loop-b.invariant c.put_bytes.ensures made (omega arith) (omega arith) (omega arith)
