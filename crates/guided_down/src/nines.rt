@@ -113,15 +113,6 @@ fn nine<S: Sample>(plane: &[u8], pick: Pick, t: Window) -> S
     pick3(pick, a, b, c)
 }
 
-// The extreme of nine samples as a float.
-fn nine_float<S: Sample>(plane: &[u8], pick: Pick, t: Window) -> f32
-    requires { Inside t (3 * S.BYTES) (length plane.now) }
-    ensures { result ≡ f32 (nine_from pick S.BYTES plane.now t) }
-{
-    let v: S = nine(plane, pick, t);
-    v.float()
-}
-
 // Inner: the extremes round n cells one by one, to s from dst on; the first cell's left neighbours begin at t.
 #[tactic(auto, using(guided_window::proofs::Puts::put_more, crate::proofs::Sixteens::nine_inside), unfolding(laws::specs::Lists::put))]
 pub fn nine_cells<S: Sample>(
@@ -136,7 +127,8 @@ pub fn nine_cells<S: Sample>(
     ensures { s.new ≡ put s.old dst n (λ i. f32 (nine_from pick S.BYTES plane.now (on t (i * S.BYTES)))) }
 {
     for i in 0..n {
-        s[dst + i] = nine_float::<S>(plane, pick, t.on(i * S::BYTES));
+        let v: S = nine(plane, pick, t.on(i * S::BYTES));
+        s[dst + i] = v.float();
     }
 }
 
