@@ -77,7 +77,7 @@ impl Line for Detail<'_> {
         cell_at(layout, s, self.src, phases, i)
     }
 
-    fn in_cell(self, layout: Layout, s: &[f32], cell: [f32; 4], i: usize, k: usize) -> f32 {
+    fn in_cell(self, layout: Layout, s: &[f32], cell: &[f32; 4], i: usize, k: usize) -> f32 {
         self.luma(layout, i * layout.rh + k) - cell[k]
     }
 

@@ -47,9 +47,9 @@ pub trait Line: Copy {
         requires { Sound layout × given self layout (length s.now) × (phases ≡ phases_of layout.rh) × (0 < i) × (i + 1 < layout.cw) }
         ensures { lerped self layout s.now i result };
 
-    // The value in pixel k of cell i, which was lerped across.
-    fn in_cell(self, layout: Layout, s: &[f32], cell: Self::Lerped, i: usize, k: usize) -> f32
-        requires { Sound layout × given self layout (length s.now) × lerped self layout s.now i cell × (k < layout.rh) × (i * layout.rh + layout.rh ≤ layout.w) }
+    // The value in pixel k of cell i, which was lerped across. It is lent, since it would be copied for each pixel.
+    fn in_cell(self, layout: Layout, s: &[f32], cell: &Self::Lerped, i: usize, k: usize) -> f32
+        requires { Sound layout × given self layout (length s.now) × lerped self layout s.now i cell.now × (k < layout.rh) × (i * layout.rh + layout.rh ≤ layout.w) }
         ensures { result ≡ value self layout s.now (i * layout.rh + k) };
 
     // What is written before `low` leaves the values, and a cell that was lerped.

@@ -45,7 +45,7 @@ fn cell<L: Line>(layout: Layout, line: L, phases: [Phase; 4], s: &mut [f32], dst
     let x = i * rh;
     let lerped = line.lerp(layout, phases, s, i);
     for k in 0..rh {
-        let v = line.in_cell(layout, s, lerped, i, k);
+        let v = line.in_cell(layout, s, &lerped, i, k);
         s[dst + x + k] = v;
     }
 }

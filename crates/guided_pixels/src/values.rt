@@ -65,7 +65,7 @@ impl Line for ValueInputs {
         }
     }
 
-    fn in_cell(self, layout: Layout, s: &[f32], cell: ValueCell, i: usize, k: usize) -> f32 {
+    fn in_cell(self, layout: Layout, s: &[f32], cell: &ValueCell, i: usize, k: usize) -> f32 {
         let x = i * layout.rh + k;
         let d = s[Window::DETAIL * layout.w + x];
         limited(
