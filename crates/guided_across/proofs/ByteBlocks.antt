@@ -1,7 +1,7 @@
 -- Cells of bytes by sixteens: their sums row by row, and a block more, which may overlap those before.
 use mathlib.Core.Path.{◌≡◌, refl, sym, ap, ◌∙◌}
 use mathlib.Core.List.{List}
-use Prim.Native.Nat.{ℕ, ◌+◌, ◌-◌, ◌*◌, ◌≤◌, ◌<◌, min}
+use Prim.Native.Nat.{ℕ, ◌+◌, ◌*◌, ◌≤◌, ◌<◌}
 use native.Mathlib.Numerals.{add-one}
 use native.Mathlib.Omega.{arith}
 use lib.ListN.{length, get_or, replicate}
@@ -9,7 +9,7 @@ use Rattle.std.proofs.lemmas.List.{get_or-replicate}
 use lib.Ieee.{Float, nan}
 use Rattle.laws.specs.Floats.{f32, ◌⊘◌}
 use Rattle.laws.specs.Lists.{put}
-use Rattle.guided_window.proofs.Puts.{put_block}
+use Rattle.laws.proofs.Lists.{put_same}
 use Rattle.laws.specs.Sums.{sum_to}
 use Rattle.guided_across.specs.Inner.ByteCells.{pair_sum, pairs_sum, cell_mean}
 use Rattle.laws.proofs.Sums.{sum_same}
@@ -50,8 +50,7 @@ from plane top stride m i k = sum_same m _ _ (λ dy h. pair dy)
     pair : (dy : ℕ) → pair_sum plane (top + 2 * i + dy * stride) k ≡ pair_sum plane (top + dy * stride) (i + k)
     pair dy = rw (first top (dy * stride) i k, second top (dy * stride) i k) refl
 
-pub block_more : (plane : List ℕ) (top stride m dst n b i : ℕ) (v : List Float) → ((k : ℕ) → k < 16 → get_or v k nan ≡ f32 (pairs_sum plane (top + 2 * i) stride m k) ⊘ f32 (2 * m))
-    → (xs ys zs : List Float) → ys ≡ put xs dst (min (b * 16) n) (cell_mean plane top stride m) → zs ≡ put ys (dst + i) 16 (λ k. get_or v k nan) → i ≡ min (b * 16) (n - 16) → 16 ≤ n → dst + n ≤ length xs
-    → zs ≡ put xs dst (min ((b + 1) * 16) n) (cell_mean plane top stride m)
-block_more plane top stride m dst n b i v h xs ys zs w e p q l =
-    put_block xs ys zs dst (min (b * 16) n) i 16 _ _ _ nan w e (λ k r. h k r ∙ ap (λ (s : ℕ). f32 s ⊘ f32 (2 * m)) (from plane top stride m i k)) (omega arith) (omega arith) (omega arith) (omega arith)
+-- sixteen cells from cell i on
+pub block_is : (plane : List ℕ) (top stride m at i : ℕ) (v ys zs : List Float) → ((k : ℕ) → k < 16 → get_or v k nan ≡ f32 (pairs_sum plane (top + 2 * i) stride m k) ⊘ f32 (2 * m))
+    → zs ≡ put ys at 16 (λ k. get_or v k nan) → zs ≡ put ys at 16 (λ k. cell_mean plane top stride m (i + k))
+block_is plane top stride m at i v ys zs h e = e ∙ put_same ys at 16 _ _ (λ k r. h k r ∙ ap (λ (s : ℕ). f32 s ⊘ f32 (2 * m)) (from plane top stride m i k))

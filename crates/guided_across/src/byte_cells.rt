@@ -2,7 +2,8 @@
 ghost use Rattle.std.specs.Prelude.{◌≡◌, ℕ, ◌+◌, ◌*◌, ◌≤◌, ◌<◌, length, get_or};
 ghost use Rattle.std.specs.Float.{nan};
 ghost use Rattle.laws.specs.Floats.{f32, ◌⊘◌};
-ghost use Rattle.guided_across.specs.Inner.ByteCells.{pair_sum, pairs_sum, cell_run};
+ghost use Rattle.laws.specs.Lists.{put};
+ghost use Rattle.guided_across.specs.Inner.ByteCells.{pair_sum, pairs_sum, cell_mean, cell_run};
 
 use lanes::{Lanes, put_block};
 
@@ -73,8 +74,19 @@ fn cell_block(plane: &[u8], at: usize, stride: usize, m: usize) -> [f32; Lanes::
     means(cell_sums(plane, at, stride, m), 2 * m)
 }
 
-// Inner: the means of n cells, two by m bytes each, of the rows of a plane from byte `top` on, to s from dst on: blocks of sixteen, the
-// last of which ends with the cells and overlaps the one before.
+// The means of sixteen cells, from cell i on, to s from dst + i on; the rows of cell 0 begin at byte `top`.
+fn put_cells(plane: &[u8], top: usize, stride: usize, m: usize, s: &mut [f32], dst: usize, i: usize)
+    requires { (1 ≤ m) × (m ≤ 4)
+        × ((dy : ℕ) → dy < m → top + dy * stride + 2 * (i + 16) ≤ length plane.now)
+        × (dst + i + 16 ≤ length s.old) }
+    ensures { s.new ≡ put s.old (dst + i) 16 (λ k. cell_mean plane.now top stride m (i + k)) }
+{
+    put_block(s, dst + i, cell_block(plane, top + 2 * i, stride, m));
+}
+
+// Inner: the means of n cells, two by m bytes each, of the rows of a plane from byte `top` on, to s from dst on: blocks of sixteen, and where
+// cells are left, one more that ends with them and overlaps the one before.
+#[tactic(auto, unfolding(laws::specs::Lists::put, crate::specs::Inner::ByteCells::cell_run))]
 pub fn cell_run(
     plane: &[u8],
     top: usize,
@@ -89,8 +101,11 @@ pub fn cell_run(
         × (dst + n ≤ length s.old) }
     ensures { s.new ≡ cell_run plane.now top stride m n dst s.old }
 {
-    for b in 0..n.div_ceil(Lanes::PIXELS) {
-        let i = (b * Lanes::PIXELS).min(n - Lanes::PIXELS);
-        put_block(s, dst + i, cell_block(plane, top + 2 * i, stride, m));
+    for b in 0..n / Lanes::PIXELS {
+        put_cells(plane, top, stride, m, s, dst, b * Lanes::PIXELS);
     }
+    if n % Lanes::PIXELS == 0 {
+        return;
+    }
+    put_cells(plane, top, stride, m, s, dst, n - Lanes::PIXELS);
 }

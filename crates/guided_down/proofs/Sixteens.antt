@@ -7,7 +7,7 @@ use lib.Ieee.{Float, nan}
 use lib.ListN.{length, get_or}
 use Rattle.laws.specs.Floats.{f32}
 use Rattle.laws.specs.Lists.{put}
-use Rattle.guided_window.proofs.Puts.{put_block}
+use Rattle.laws.proofs.Lists.{put_same}
 use Rattle.laws.proofs.Rows.{row_fits}
 use Rattle.laws.proofs.Counts.{plus_plus}
 use Rattle.guided_window.specs.declared.buffers.Window.{Window}
@@ -22,10 +22,9 @@ module _ (F : Window → ℕ) (t : Window) where
   further : (a k : ℕ) → F (on (on t a) k) ≡ F (on t (a + k))
   further a k = rw (plus_plus t.up a k, plus_plus t.at a k, plus_plus t.down a k) refl
 
-  pub block_more : (xs ys zs : List Float) (at n b i : ℕ) (block : List ℕ) → ys ≡ put xs at (min (b * 16) n) cell → zs ≡ put ys (at + i) 16 (λ k. f32 (get_or block k 0))
-      → ((k : ℕ) → k < 16 → get_or block k 0 ≡ F (on (on t i) k)) → i ≡ min (b * 16) (n - 16) → 16 ≤ n → at + n ≤ length xs → zs ≡ put xs at (min ((b + 1) * 16) n) cell
-  block_more xs ys zs at n b i block w e h p q l =
-      put_block xs ys zs at (min (b * 16) n) i 16 _ cell _ nan w e (λ k r. ap f32 (h k r ∙ further i k)) (omega arith) (omega arith) (omega arith) (omega arith)
+  -- sixteen cells from cell i on
+  pub block_is : (ys zs : List Float) (at i : ℕ) (block : List ℕ) → zs ≡ put ys at 16 (λ k. f32 (get_or block k 0)) → ((k : ℕ) → k < 16 → get_or block k 0 ≡ F (on (on t i) k)) → zs ≡ put ys at 16 (λ k. cell (i + k))
+  block_is ys zs at i block e h = e ∙ put_same ys at 16 _ _ (λ k r. ap f32 (h k r ∙ further i k))
 
 -- cell i of n + 2, each of b bytes, and its two neighbours end within the plane
 pub nine_inside : (t : Window) (n i b len : ℕ) → Inside t ((n + 2) * b) len → i < n → Inside (on t (i * b)) (3 * b) len

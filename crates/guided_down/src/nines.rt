@@ -144,9 +144,18 @@ fn byte_block(plane: &[u8], pick: Pick, t: Window) -> [u8; Lanes::PIXELS]
     block
 }
 
+// The extremes round sixteen cells of one-byte samples, from cell i on, to s from dst + i on; cell 0's left neighbours begin at t.
+fn put_nines(plane: &[u8], pick: Pick, t: Window, s: &mut [f32], dst: usize, i: usize)
+    requires { Inside t (i + 18) (length plane.now) × (dst + i + 16 ≤ length s.old) }
+    ensures { s.new ≡ put s.old (dst + i) 16 (λ k. f32 (nine_from pick 1 plane.now (on t (i + k)))) }
+{
+    lanes::put_bytes(s, dst + i, byte_block(plane, pick, t.on(i)));
+}
+
 // Inner: the extremes round n cells of one-byte samples, to s from dst on; the first cell's left neighbours begin at t. They are made by blocks
-// of sixteen, as many bytes as a vector of 128 bits holds, the last of which ends with the cells and overlaps the one before, and fewer than
-// sixteen one by one.
+// of sixteen, as many bytes as a vector of 128 bits holds, and where cells are left, by one more that ends with them and overlaps the one
+// before; fewer than sixteen one by one.
+#[tactic(auto, unfolding(laws::specs::Lists::put))]
 pub fn byte_run(plane: &[u8], pick: Pick, t: Window, n: usize, s: &mut [f32], dst: usize)
     requires { Inside t (n + 2) (length plane.now) × (dst + n ≤ length s.old) }
     ensures { s.new ≡ put s.old dst n (λ i. f32 (nine_from pick 1 plane.now (on t i))) }
@@ -155,9 +164,11 @@ pub fn byte_run(plane: &[u8], pick: Pick, t: Window, n: usize, s: &mut [f32], ds
         nine_cells::<u8>(plane, pick, t, n, s, dst);
         return;
     }
-    for b in 0..n.div_ceil(Lanes::PIXELS) {
-        let i = (b * Lanes::PIXELS).min(n - Lanes::PIXELS);
-        let block = byte_block(plane, pick, t.on(i));
-        lanes::put_bytes(s, dst + i, block);
+    for b in 0..n / Lanes::PIXELS {
+        put_nines(plane, pick, t, s, dst, b * Lanes::PIXELS);
     }
+    if n % Lanes::PIXELS == 0 {
+        return;
+    }
+    put_nines(plane, pick, t, s, dst, n - Lanes::PIXELS);
 }

@@ -1,8 +1,6 @@
 -- A row of pixels by runs of columns, whatever it is a row of: what is written lies before what its values are made of.
-use Rattle.std.proofs.Common.{◌≡◌, ℕ, ◌+◌, ◌-◌, ◌*◌, ◌≤◌, ◌<◌, min, List, Float, length, get_or, set, refl, sym, ap, ◌∙◌, arith}
+use Rattle.std.proofs.Common.{◌≡◌, ℕ, ◌+◌, ◌-◌, ◌*◌, ◌≤◌, ◌<◌, List, Float, length, get_or, set, refl, sym, ap, ◌∙◌, arith}
 use Rattle.std.specs.Float.{nan}
-use Rattle.std.specs.Int.{div_ceil}
-use Rattle.std.proofs.lemmas.Grind.{div_ceil_times}
 use Rattle.laws.specs.Lists.{put}
 use Rattle.laws.proofs.Lists.{put_same, put_after, put_chain}
 use Rattle.laws.proofs.Rows.{next_row, row_fits}
@@ -58,13 +56,22 @@ module _ (f : List Float → ℕ → Float) (low dst w : ℕ) (h : dst + w ≤ l
       ∙ line_chain 0 (r + m) (w - (r + m)) s (omega arith)
       ∙ ap (λ (n : ℕ). line_run f dst 0 n s) (part_rest (r + m) w k)
 
-  -- the block of cell i + 1 and the seven behind it, at ratio 2
-  pub twos_more : (n b i : ℕ) (xs ys zs block : List Float) → ys ≡ put xs (dst + 2) (2 * min (b * 8) n) (λ x. f xs (2 + x)) → zs ≡ put ys (dst + 2 + 2 * i) 16 (λ k. get_or block k nan)
-      → ((k : ℕ) → k < 16 → get_or block k nan ≡ f ys (2 + 2 * i + k)) → i ≡ min (b * 8) (n - 8) → 8 ≤ n → 2 + 2 * n ≤ w → low ≤ length xs
-      → zs ≡ put xs (dst + 2) (2 * min ((b + 1) * 8) n) (λ x. f xs (2 + x))
-  twos_more n b i xs ys zs block e z p q k l m =
-      put_block xs ys zs (dst + 2) (2 * min (b * 8) n) (2 * i) 16 (2 * min ((b + 1) * 8) n) (λ x. f xs (2 + x)) _ nan e z
-      (λ j t. p j t ∙ o.keeps xs ys (left xs ys 2 _ _ e (omega arith)) (2 + 2 * i + j) (omega arith) ∙ ap (f xs) (sym (plus_plus 2 (2 * i) j))) (omega arith) (omega arith) (omega arith) (omega arith)
+  -- the pixels of cell i + 1 and the seven behind it, at ratio 2, behind those of `done` cells or over the last of them
+  pub twos_more : (done i to : ℕ) (xs ys zs : List Float) → ys ≡ line_run f dst 2 (2 * done) xs → zs ≡ line_run f dst (2 + 2 * i) 16 ys
+      → i ≤ done → done ≤ i + 8 → to ≡ i + 8 → 2 + 2 * done ≤ w → 2 + 2 * to ≤ w → low ≤ length xs → zs ≡ line_run f dst 2 (2 * to) xs
+  unfolding line_run
+  twos_more done i to xs ys zs e z a b t k l m =
+      let place : dst + (2 + 2 * i) ≡ dst + 2 + 2 * i = omega arith in
+      put_block xs ys zs (dst + 2) (2 * done) (2 * i) 16 (2 * to) (λ x. f xs (2 + x)) (λ j. f ys (2 + 2 * i + j)) nan e (z ∙ ap (λ (p : ℕ). put ys p 16 (λ j. f ys (2 + 2 * i + j))) place)
+      (λ j q. o.keeps xs ys (left xs ys 2 _ _ e (omega arith)) (2 + 2 * i + j) (omega arith) ∙ ap (f xs) (sym (plus_plus 2 (2 * i) j))) (omega arith) (omega arith) (omega arith) (omega arith)
+
+-- a block, as it was made and stored
+pub block_is : (f : List Float → ℕ → Float) (dst i : ℕ) (ys zs block : List Float) → zs ≡ put ys (dst + 2 + 2 * i) 16 (λ k. get_or block k nan) → ((k : ℕ) → k < 16 → get_or block k nan ≡ f ys (2 + 2 * i + k))
+    → zs ≡ line_run f dst (2 + 2 * i) 16 ys
+unfolding line_run
+block_is f dst i ys zs block e h =
+    let place : dst + (2 + 2 * i) ≡ dst + 2 + 2 * i = omega arith in
+    rw place (e ∙ put_same ys (dst + 2 + 2 * i) 16 _ (λ k. f ys (2 + 2 * i + k)) h)
 
 pub each_none : (f : List Float → ℕ → Float) (dst r : ℕ) (xs : List Float) → xs ≡ line_run f dst r (0 * r) xs
 unfolding line_run put
@@ -72,10 +79,3 @@ each_none f dst r xs = let e : 0 * r ≡ 0 = omega arith in rw e refl
 
 pub ratio_run : (f : List Float → ℕ → Float) (dst r q n m : ℕ) (s : List Float) → r ≡ q → m ≡ n * q → line_run f dst q m s ≡ line_run f dst r (n * r) s
 ratio_run f dst r q n m s e h = rw (e, h) refl
-
-pub twos_end : (xs ys : List Float) (at n b c : ℕ) (f : ℕ → Float) → ys ≡ put xs at (2 * min (b * 8) n) f → c ≡ div_ceil n 8 → b ≤ c → c ≤ b → ys ≡ put xs at (2 * n) f
-twos_end xs ys at n b c f e q p r =
-    let z : b ≡ div_ceil n 8 = omega arith in
-    let d = div_ceil_times n 8 (omega arith) in
-    let m : 2 * min (b * 8) n ≡ 2 * n = rw z (omega arith) in
-    e ∙ ap (λ (j : ℕ). put xs at j f) m

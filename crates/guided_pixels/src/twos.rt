@@ -23,8 +23,18 @@ fn block<L: Line>(layout: Layout, line: L, s: &[f32], i: usize) -> [f32; Lanes::
     block
 }
 
-// Inner: the values in the pixels of n cells, from cell 1 on, at ratio 2: blocks of eight cells, the last of which ends with the cells and
-// overlaps the one before; fewer than eight pixel by pixel.
+// The values in the pixels of eight cells, from cell i + 1 on, stored at their columns of the row at dst.
+fn put_cells<L: Line>(layout: Layout, line: L, s: &mut [f32], dst: usize, i: usize)
+    requires { Sound layout × L.given line layout (length s.old) × (dst + layout.w ≤ L.low line layout)
+        × (layout.rh ≡ 2) × (i + 10 ≤ layout.cw) × (2 * i + 18 ≤ layout.w) }
+    ensures { s.new ≡ line_run (L.value line layout) dst (2 + 2 * i) 16 s.old }
+{
+    let pixels = block(layout, line, s, i);
+    put_block(s, dst + 2 + 2 * i, pixels);
+}
+
+// Inner: the values in the pixels of n cells, from cell 1 on, at ratio 2: blocks of eight cells, and where cells are left, one more that ends
+// with them and overlaps the one before; fewer than eight pixel by pixel.
 #[tactic(auto, unfolding(laws::specs::Lists::put, crate::specs::Inner::Lines::line_run))]
 pub fn twos<L: Line>(layout: Layout, line: L, s: &mut [f32], dst: usize, n: usize)
     requires { Sound layout × L.given line layout (length s.old) × (dst + layout.w ≤ L.low line layout)
@@ -35,9 +45,11 @@ pub fn twos<L: Line>(layout: Layout, line: L, s: &mut [f32], dst: usize, n: usiz
         run(layout, line, s, dst, 2, 2 * n);
         return;
     }
-    for b in 0..n.div_ceil(Lanes::CELLS) {
-        let i = (b * Lanes::CELLS).min(n - Lanes::CELLS);
-        let pixels = block(layout, line, s, i);
-        put_block(s, dst + 2 + 2 * i, pixels);
+    for b in 0..n / Lanes::CELLS {
+        put_cells(layout, line, s, dst, b * Lanes::CELLS);
     }
+    if n % Lanes::CELLS == 0 {
+        return;
+    }
+    put_cells(layout, line, s, dst, n - Lanes::CELLS);
 }
