@@ -12,6 +12,7 @@ pub fn mean_of(sum: u32, n: usize) -> f32
     requires { (sum ≤ 1048560) × (n ≤ 16) }
     ensures { result ≡ f32 sum ⊘ f32 n }
 {
+    // By `as`: there is no From, since a float doesn't hold every number of these types.
     sum as f32 / n as f32
 }
 

@@ -14,7 +14,8 @@ use crate::picks::Pick;
 use guided_window::Window;
 use lanes::Lanes;
 
-// A sample as a plane holds it.
+// A sample as a plane holds it. `pick` stands in both impls and isn't one for all: over `Ord` alone the smaller is known by the order of the
+// type, and not as a number.
 pub trait Sample: Copy {
     ghost BYTES: { ℕ };
 

@@ -24,6 +24,7 @@ pub fn epsilon_of(layout: Layout) -> f32
     requires { layout.maxval ≤ 65535 }
     ensures { result ≡ Geometry.EPSILON ⊗ (f32 layout.maxval ⊘ f32 255) ⊗ (f32 layout.maxval ⊘ f32 255) }
 {
+    // By `as`: there is no From, since a float doesn't hold every u32.
     let s = layout.maxval as f32 / 255.0;
     Geometry::EPSILON * s * s
 }
