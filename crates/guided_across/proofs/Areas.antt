@@ -3,6 +3,9 @@
 use mathlib.Core.Path.{◌≡◌, refl, sym, ap, ◌∙◌}
 use mathlib.Core.List.{List}
 use Prim.Native.Nat.{ℕ, ◌+◌, ◌-◌, ◌*◌, ◌/◌, ◌≤◌, ◌<◌, min}
+use native.Mathlib.Numerals.{add-one}
+use mathlib.Core.Bool.{false}
+use native.Mathlib.Nat.{mul-le-mul}
 use native.Mathlib.Omega.{arith}
 use lib.ListN.{length, get_or}
 use lib.Ieee.{Float}
@@ -10,9 +13,11 @@ use Rattle.laws.specs.Floats.{f32, ◌⊘◌}
 use Rattle.laws.specs.Lists.{put}
 use Rattle.laws.proofs.Lists.{put_same, put_chain}
 use Rattle.image.specs.declared.layout.Layout.{Layout}
-use Rattle.image.specs.Samples.{Plane, sample_of, sample_at, place}
-use Rattle.image.specs.Picture.{inside}
-use Rattle.image.proofs.Holding.{short_holds, sample_inside}
+use Rattle.image.specs.Samples.{Plane, plane_of, sample_of, sample_at}
+use Rattle.image.specs.Inner.Tests.{Sound}
+use Rattle.image.specs.Picture.{inside, short_plane}
+use Rattle.image.proofs.Layouts.{begins}
+use Rattle.image.proofs.Holding.{short_holds, sample_inside, row_inside}
 use Rattle.image.proofs.Pictures.{inside_is}
 use Rattle.laws.specs.Sums.{sum_to}
 use Rattle.guided.specs.Guided.{luma_of}
@@ -24,8 +29,8 @@ use Rattle.laws.proofs.Counts.{plus_none, none_plus, part_rest}
 -- ---- the pixels of a cell
 
 -- a sample inside the picture lies inside the plane
-pub within_plane : (l : Layout) (p : Plane) → LumaPixels l p → (x y : ℕ) → x < l.w → y < l.h → place l.sample_bytes p.stride y x + l.sample_bytes ≤ length p.bytes
-within_plane l p o x y h k = sample_inside (short_holds l l.w l.h p o.plane) x y h k
+pub pixel_inside : (l : Layout) (plane : List ℕ) (stride x y : ℕ) → LumaPixels l (plane_of plane stride) → x < l.w → y < l.h → y * stride + x * l.sample_bytes + l.sample_bytes ≤ length plane
+pixel_inside l plane stride x y o h k = sample_inside (short_holds l l.w l.h (plane_of plane stride) o.plane) x y h k
 
 -- a cell's luma from its sum and the number of its pixels
 pub cell_is : (l : Layout) (p : Plane) (j i nx ny sum : ℕ) (v : Float) → nx ≡ min l.rh (l.w - i * l.rh) → ny ≡ min l.rv (l.h - j * l.rv)
@@ -90,3 +95,34 @@ luma_parts l p j dst n s h =
     ap (λ (xs : List Float). put xs (dst + n) (l.cw - n) (λ i. f (n + i)))
     (ap (λ (a : ℕ). put s a n (λ i. f (0 + i))) (plus_none dst) ∙ put_same s dst n _ _ (λ i k. ap f (none_plus i)))
     ∙ put_chain s dst n (l.cw - n) f ∙ ap (λ (k : ℕ). put s dst k f) (part_rest n l.cw h)
+
+-- ---- sums, value by value
+
+pub sum_next : (f : ℕ → ℕ) (n t v : ℕ) → t ≡ sum_to n f → v ≡ f n → t + v ≡ sum_to (n + 1) f
+unfolding sum_to
+sum_next f n t v e h = rw (add-one n, e, h) refl
+
+-- ---- what the code asks
+
+pub cell_right : (l : Layout) → Sound l → (i : ℕ) → i < l.cw → i * l.rh < l.w
+cell_right l o i h = (begins l o 0 i o.ch_some h).across
+
+pub cell_down : (l : Layout) → Sound l → (j : ℕ) → j < l.ch → j * l.rv < l.h
+cell_down l o j h = (begins l o j 0 h o.cw_some).down
+
+pub few_pixels : (l : Layout) → Sound l → (nx ny : ℕ) → nx ≤ l.rh → ny ≤ l.rv → nx * ny ≤ 16
+few_pixels l o nx ny p q =
+    let a = mul-le-mul p q in
+    let b = mul-le-mul o.rh_most o.rv_most in
+    omega arith
+
+-- row j of a plane of w columns and h rows
+pub row_within : (l : Layout) (plane : List ℕ) (stride w h j : ℕ) → short_plane l w h (plane_of plane stride) ≡ false → j < h → j * stride + w * l.sample_bytes ≤ length plane
+row_within l plane stride w h j e k = row_inside (short_holds l w h (plane_of plane stride) e) j k
+
+-- at ratio 2 the full cells are among the row's
+pub full_cells : (l : Layout) → Sound l → l.rh ≡ 2 → l.w / 2 ≤ l.cw
+full_cells l o e =
+    let m : l.cw * l.rh ≡ l.cw * 2 = ap (λ (k : ℕ). l.cw * k) e in
+    let c = o.cells in
+    omega arith

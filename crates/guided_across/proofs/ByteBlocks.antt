@@ -4,11 +4,12 @@ use mathlib.Core.List.{List}
 use Prim.Native.Nat.{ℕ, ◌+◌, ◌*◌, ◌≤◌, ◌<◌}
 use native.Mathlib.Numerals.{add-one}
 use native.Mathlib.Omega.{arith}
-use lib.ListN.{length, get_or}
+use lib.ListN.{length, get_or, replicate}
+use Rattle.std.proofs.lemmas.List.{get_or-replicate}
 use lib.Ieee.{Float, nan}
 use Rattle.laws.specs.Floats.{f32, ◌⊘◌}
 use Rattle.laws.specs.Lists.{put}
-use Rattle.laws.proofs.Lists.{put_same, Run, run_over}
+use Rattle.laws.proofs.Lists.{put_same}
 use Rattle.laws.specs.Sums.{sum_to}
 use Rattle.guided_across.specs.Inner.ByteCells.{pair_sum, pairs_sum, cell_mean}
 use Rattle.laws.proofs.Sums.{sum_same}
@@ -20,9 +21,12 @@ abbrev pub Sums : List ℕ → ℕ → ℕ → ℕ → List ℕ → Type 0
 Sums plane at stride dy v = (k : ℕ) → k < 16 → (get_or v k 0 ≡ pairs_sum plane at stride dy k) × (get_or v k 0 ≤ 510 * dy)
 
 module _ (plane : List ℕ) (at stride : ℕ) where
-  pub sums_one : (v : List ℕ) → ((k : ℕ) → k < 16 → (get_or v k 0 ≡ pair_sum plane at k) × (get_or v k 0 ≤ 510)) → Sums plane at stride 1 v
+  pub sums_none : Sums plane at stride 0 (replicate 16 0)
   unfolding sum_to
-  sums_one v h = λ k l. (let z : at + 0 * stride ≡ at = omega arith in rw z (let e = (h k l).0 in omega arith), let b = (h k l).1 in omega arith)
+  sums_none = λ k l. let e = get_or-replicate 16 k 0 0 l in (e, small _ e)
+    where
+      small : (x : ℕ) → x ≡ 0 → x ≤ 510 * 0
+      small x e = omega arith
 
   pub sums_more : (dy p : ℕ) (v u w : List ℕ) → p ≡ at + dy * stride → Sums plane at stride dy v → ((k : ℕ) → k < 16 → (get_or u k 0 ≡ pair_sum plane p k) × (get_or u k 0 ≤ 510)) → ((k : ℕ) → k < 16 → get_or w k 0 ≡ get_or v k 0 + get_or u k 0) → Sums plane at stride (dy + 1) w
   unfolding sum_to
@@ -30,9 +34,6 @@ module _ (plane : List ℕ) (at stride : ℕ) where
     rw (add-one dy) (hw k l ∙ ap (λ (n : ℕ). n + get_or u k 0) (hv k l).0 ∙ ap (λ (n : ℕ). pairs_sum plane at stride dy k + n) ((hu k l).0 ∙ ap (λ (n : ℕ). pair_sum plane n k) e)),
     let a = (hv k l).1 in let b = (hu k l).1 in let c = hw k l in omega arith,
   )
-
-  pub sums_all : (dy m : ℕ) (v : List ℕ) → Sums plane at stride dy v → m ≡ dy → dy ≤ 4 → (k : ℕ) → k < 16 → (get_or v k 0 ≡ pairs_sum plane at stride m k) × (get_or v k 0 ≤ 2040)
-  sums_all dy m v h e f = λ k l. ((h k l).0 ∙ ap (λ (n : ℕ). pairs_sum plane at stride n k) (sym e), let b = (h k l).1 in omega arith)
 
 -- ---- blocks
 
@@ -49,7 +50,7 @@ from plane top stride m i k = sum_same m _ _ (λ dy h. pair dy)
     pair : (dy : ℕ) → pair_sum plane (top + 2 * i + dy * stride) k ≡ pair_sum plane (top + dy * stride) (i + k)
     pair dy = rw (first top (dy * stride) i k, second top (dy * stride) i k) refl
 
-pub block_more : (plane : List ℕ) (top stride m dst i : ℕ) (v : List Float) → ((k : ℕ) → k < 16 → get_or v k nan ≡ f32 (pairs_sum plane (top + 2 * i) stride m k) ⊘ f32 (2 * m))
-    → {xs ys : List Float} {done : ℕ} → Run xs ys dst done (cell_mean plane top stride m) → (zs : List Float) → zs ≡ put ys (dst + i) 16 (λ k. get_or v k nan) → i ≤ done → done ≤ i + 16 → dst + done ≤ length xs → Run xs zs dst (i + 16) (cell_mean plane top stride m)
-block_more plane top stride m dst i v h {ys = ys} w zs e a b o =
-    run_over w zs i 16 nan (e ∙ put_same ys (dst + i) 16 _ (λ k. cell_mean plane top stride m (i + k)) (λ k l. h k l ∙ ap (λ (n : ℕ). f32 n ⊘ f32 (2 * m)) (from plane top stride m i k))) a b o
+-- sixteen cells from cell i on
+pub block_is : (plane : List ℕ) (top stride m at i : ℕ) (v ys zs : List Float) → ((k : ℕ) → k < 16 → get_or v k nan ≡ f32 (pairs_sum plane (top + 2 * i) stride m k) ⊘ f32 (2 * m))
+    → zs ≡ put ys at 16 (λ k. get_or v k nan) → zs ≡ put ys at 16 (λ k. cell_mean plane top stride m (i + k))
+block_is plane top stride m at i v ys zs h e = e ∙ put_same ys at 16 _ _ (λ k r. h k r ∙ ap (λ (s : ℕ). f32 s ⊘ f32 (2 * m)) (from plane top stride m i k))

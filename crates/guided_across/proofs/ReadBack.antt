@@ -22,8 +22,7 @@ use Rattle.guided.specs.Guided.{three, luma_of, cell_luma, cell_of, across_val}
 use Rattle.guided.specs.Scratch.{slot_at, first_of, chroma_parts, parts, across_over, horizontal}
 use Rattle.guided_across.specs.Inner.Sums.{load_run, cells_at, products_at, three_row}
 use Rattle.guided_across.specs.Inner.Luma.{luma_row}
-use Rattle.guided_across.specs.declared.across.LumaRows.{LumaRows}
-use Rattle.guided_across.specs.Inner.Parts.{LumaRowsGiven, stat_rows, pair_rows, luma_part, chroma_part}
+use Rattle.guided_across.specs.Inner.Parts.{stat_rows, pair_rows, luma_part, chroma_part}
 use Rattle.image.specs.declared.chroma.Components.TheVariants.{CbAlone, Both}
 use Rattle.guided_window.specs.Inner.Lent.{components_of}
 use Rattle.guided_across.proofs.Threes.{three_same}
@@ -61,16 +60,18 @@ products_are {s} {a} {b} {n} {f} {g} o p dst =
 
 -- ---- luma's three buffers, and a component's two
 
-pub luma_steps : (l : Layout) (p : Plane) (j : ℕ) (t : LumaRows) (s : List Float) → LumaRowsGiven l j t → scratch_need l ≤ length s
-    → three_row (products_at t.at t.at) l.cw t.squares (three_row (cells_at t.at) l.cw t.sums (luma_row l p j t.at s)) ≡ luma_part l (sample_at l.sample_bytes p) j s
+pub luma_steps : (l : Layout) (p : Plane) (j y sums squares : ℕ) (s : List Float) → y ≡ slot_at l 0 j → sums ≡ slot_at l 1 j → squares ≡ slot_at l 2 j → l.cw ≤ l.w → scratch_need l ≤ length s
+    → three_row (products_at y y) l.cw squares (three_row (cells_at y) l.cw sums (luma_row l p j y s)) ≡ luma_part l (sample_at l.sample_bytes p) j s
 unfolding luma_row luma_part stat_rows
-luma_steps l p j t s o h =
+luma_steps l p j y sums squares s a b d c h =
     let f = luma_of l (sample_at l.sample_bytes p) j in
-    let fits : t.at + l.cw ≤ length s = omega arith in
-    let cells = row_put s t.at l.cw f fits in
-    let kept = row_kept cells t.sums l.cw (three ◌⊕◌ l.cw f) o.sums_behind in
-    ap (three_row (products_at t.at t.at) l.cw t.squares) (sums_are cells t.sums) ∙ products_are kept kept t.squares
-    ∙ rw (o.at, o.sums, o.squares) refl
+    let within = slot_fits l 0 j (lit< tt) c in
+    let fits : y + l.cw ≤ length s = omega arith in
+    let behind = slot_order l 0 1 j (omega arith) in
+    let cells = row_put s y l.cw f fits in
+    let kept = row_kept cells sums l.cw (three ◌⊕◌ l.cw f) (omega arith) in
+    ap (three_row (products_at y y) l.cw squares) (sums_are cells sums) ∙ products_are kept kept squares
+    ∙ rw (a, b, d) refl
 
 -- the products read the row at y, which lies before the component's buffers
 pub chroma_steps : (l : Layout) (p : Plane) (k : Chroma) (j n y c products : ℕ) (s : List Float) → n ≡ first_of k → y ≡ slot_at l 0 j → c ≡ slot_at l n j → products ≡ slot_at l (n + 1) j

@@ -8,9 +8,10 @@ use lib.ListN.{get_or, set}
 use lib.Ieee.{Float, nan}
 use Rattle.laws.specs.Floats.{◌⊕◌}
 use Rattle.laws.specs.Lists.{put}
-use Rattle.laws.proofs.Lists.{put_same, put_before, put_chain, Run, run_more, run_before}
+use Rattle.laws.proofs.Lists.{put_same, put_before, put_chain}
 use Rattle.guided.specs.Guided.{three}
-use Rattle.guided_across.specs.Inner.Sums.{cells_at, products_at, three_run, three_row}
+use Rattle.guided_across.specs.Inner.Sums.{three_run, three_row, Behind}
+use Rattle.guided_window.proofs.Puts.{put_more}
 use Rattle.laws.proofs.Counts.{plus_none, none_plus, plus_plus}
 
 -- a value by its own three cells
@@ -23,19 +24,6 @@ pub three_same : (op : Float → Float → Float) (n : ℕ) (g h : ℕ → Float
 unfolding three
 three_same op n g h i l e = rw (e (i - 1) (omega arith), e i l, e (min (i + 1) (n - 1)) (omega arith)) refl
 
--- what is summed lies before dst
-pub record Behind (g : List Float → ℕ → Float) (n dst : ℕ) : Type 0 where
-  pub keeps : (xs ys : List Float) → ((k : ℕ) → k < dst → get_or ys k nan ≡ get_or xs k nan) → (i : ℕ) → i < n → g ys i ≡ g xs i
-
-pub behind_cells : (src n dst : ℕ) → src + n ≤ dst → Behind (cells_at src) n dst
-behind_cells src n dst h = record { keeps = λ xs ys e i l. e (src + i) (omega arith) }
-
-pub behind_products : (a b n dst : ℕ) → a + n ≤ dst → b + n ≤ dst → Behind (products_at a b) n dst
-behind_products a b n dst h k = record { keeps = λ xs ys e i l. alike xs ys i (e (a + i) (omega arith)) (e (b + i) (omega arith)) }
-  where
-    alike : (xs ys : List Float) (i : ℕ) → get_or ys (a + i) nan ≡ get_or xs (a + i) nan → get_or ys (b + i) nan ≡ get_or xs (b + i) nan → products_at a b ys i ≡ products_at a b xs i
-    alike xs ys i p q = rw (p, q) refl
-
 -- an edge's store
 pub three_one : (g : List Float → ℕ → Float) (n dst i : ℕ) (s : List Float) (v : Float) → v ≡ three ◌⊕◌ n (g s) i → set s (dst + i) v ≡ three_run g n dst i 1 s
 unfolding three_run put
@@ -43,11 +31,12 @@ three_one g n dst i s v e = rw (plus_none (dst + i), plus_none i) (ap (set s (ds
 
 module _ {g : List Float → ℕ → Float} {n dst : ℕ} (o : Behind g n dst) where
   -- a turn's store inside the row: value 1 + i, which is at no edge
-  pub inner_more : {xs ys : List Float} {i : ℕ} → Run xs ys (dst + 1) i (λ k. three ◌⊕◌ n (g xs) (1 + k)) → i < n - 2 → (v : Float) → v ≡ g ys i ⊕ g ys (i + 1) ⊕ g ys (i + 2)
-      → Run xs (set ys (dst + 1 + i) v) (dst + 1) (i + 1) (λ k. three ◌⊕◌ n (g xs) (1 + k))
-  inner_more {xs} {ys} {i} w h v e =
-      let same : (k : ℕ) → k < n → g ys k ≡ g xs k = o.keeps xs ys (λ k q. run_before w k nan (omega arith)) in
-      run_more w v (three_is n (g xs) (1 + i) i (i + 2) v (omega arith) (omega arith)
+  pub inner_more : (xs ys : List Float) (i : ℕ) → ys ≡ put xs (dst + 1) i (λ k. three ◌⊕◌ n (g xs) (1 + k)) → i < n - 2 → (v : Float) → v ≡ g ys i ⊕ g ys (i + 1) ⊕ g ys (i + 2)
+      → set ys (dst + 1 + i) v ≡ put xs (dst + 1) (i + 1) (λ k. three ◌⊕◌ n (g xs) (1 + k))
+  inner_more xs ys i w h v e =
+      let f : ℕ → Float = λ k. three ◌⊕◌ n (g xs) (1 + k) in
+      let same : (k : ℕ) → k < n → g ys k ≡ g xs k = λ k l. ap (λ (s : List Float). g s k) w ∙ o.keeps xs (put xs (dst + 1) i f) (λ q r. put_before xs (dst + 1) i f q nan (omega arith)) k l in
+      put_more xs ys (dst + 1) i f v w (three_is n (g xs) (1 + i) i (i + 2) v (omega arith) (omega arith)
       (e ∙ alike (g ys i) (g ys (i + 1)) (g ys (i + 2)) (g xs i) (g xs (1 + i)) (g xs (i + 2)) (same i (omega arith)) (same (i + 1) (omega arith) ∙ ap (g xs) (flip i)) (same (i + 2) (omega arith))))
     where
       flip : (i : ℕ) → i + 1 ≡ 1 + i

@@ -9,34 +9,15 @@ ghost use Rattle.image.specs.Scratch.{scratch_need};
 ghost use Rattle.guided.specs.Scratch.{horizontal};
 ghost use Rattle.guided_across.specs.Inner.Luma.{LumaPixels};
 ghost use Rattle.guided_window.specs.Inner.Lent.{ChromaCells, Lent, components_of};
-ghost use Rattle.guided_across.specs.Inner.Parts.{LumaRowsGiven, luma_part, chroma_part};
+ghost use Rattle.guided_across.specs.Inner.Parts.{luma_part, chroma_part};
 
 use crate::luma::luma_row;
-use crate::sums::{load_row, product_sum_row, sum_row};
-use guided_window::{ChromaBuffer, LumaBuffer, first_of, slot_at};
+use crate::sums::{Cells, Products, load_row, sum_row};
+use guided_window::{Buffer, row_at};
 use image::{Chroma, Components, Layout, Strides};
 
-// Where luma's three row buffers begin: of its cells, of their sums, and of the sums of their squares.
-#[derive(Clone, Copy)]
-pub struct LumaRows {
-    pub at: usize,
-    pub sums: usize,
-    pub squares: usize,
-}
-
-// Luma's three buffers of chroma row j.
-fn luma_rows_at(layout: Layout, j: usize) -> LumaRows
-    requires { Sound layout }
-    ensures { LumaRowsGiven layout j result }
-{
-    LumaRows {
-        at: slot_at(layout, LumaBuffer::CELL, j),
-        sums: slot_at(layout, LumaBuffer::SUM, j),
-        squares: slot_at(layout, LumaBuffer::SQUARE_SUM, j),
-    }
-}
-
 // Luma's rows of chroma row j: cell luma, its sums, and the sums of its squares.
+#[tactic(auto, using(guided::proofs::Places::slot_order))]
 fn luma_part(layout: Layout, plane: &[u8], stride: usize, j: usize, s: &mut [f32])
     requires luma_pixels { LumaPixels layout (plane_of plane.now stride) }
     requires j_lt_ch { (j < layout.ch) × (scratch_need layout ≤ length s.old) }
@@ -44,15 +25,16 @@ fn luma_part(layout: Layout, plane: &[u8], stride: usize, j: usize, s: &mut [f32
         (sample_at layout.sample_bytes (plane_of plane.now stride))
         j s.old }
 {
-    let t = luma_rows_at(layout, j);
-    let y = t.at;
-    let cw = layout.cw;
-    luma_row(layout, plane, stride, j, s, y);
-    sum_row(s, y, cw, t.sums);
-    product_sum_row(s, y, y, cw, t.squares);
+    let luma = row_at(layout, Buffer::Luma, j);
+    let sums = row_at(layout, Buffer::LumaSums, j);
+    let squares = row_at(layout, Buffer::SquareSums, j);
+    luma_row(layout, plane, stride, j, s, luma);
+    sum_row(s, Cells { src: luma }, layout.cw, sums);
+    sum_row(s, Products { a: luma, b: luma }, layout.cw, squares);
 }
 
 // A component's rows of chroma row j: the samples, and the sums of their products with the luma that scratch holds.
+#[tactic(auto, using(crate::proofs::Areas::row_within, guided::proofs::Places::slot_order))]
 fn chroma_part(layout: Layout, plane: &[u8], stride: usize, k: Chroma, j: usize, s: &mut [f32])
     requires chroma_cells { ChromaCells layout (plane_of plane.now stride) }
     requires j_lt_ch { (j < layout.ch) × (scratch_need layout ≤ length s.old) }
@@ -60,13 +42,11 @@ fn chroma_part(layout: Layout, plane: &[u8], stride: usize, k: Chroma, j: usize,
         (sample_at layout.sample_bytes (plane_of plane.now stride))
         k j s.old }
 {
-    let y = slot_at(layout, LumaBuffer::CELL, j);
-    let n = first_of(k);
-    let c = slot_at(layout, n, j);
-    let products = slot_at(layout, n + ChromaBuffer::PRODUCT_SUM, j);
-    let cw = layout.cw;
-    load_row(plane, layout.sample_bytes, j * stride, cw, s, c);
-    product_sum_row(s, y, c, cw, products);
+    let y = row_at(layout, Buffer::Luma, j);
+    let c = row_at(layout, Buffer::Cells(k), j);
+    let products = row_at(layout, Buffer::ProductSums(k), j);
+    load_row(plane, layout.sample_bytes, j * stride, layout.cw, s, c);
+    sum_row(s, Products { a: y, b: c }, layout.cw, products);
 }
 
 // Inner: chroma row j across: luma's rows, those of Cb, and those of Cr where both are asked for.

@@ -2,47 +2,41 @@
 ghost use Rattle.std.specs.Prelude.{◌≡◌, ℕ, ◌+◌, ◌*◌, ◌≤◌, ◌<◌, length, get_or};
 ghost use Rattle.std.specs.Float.{nan};
 ghost use Rattle.laws.specs.Floats.{f32, ◌⊘◌};
-ghost use Rattle.guided_across.specs.Inner.ByteCells.{pair_sum, pairs_sum, cell_run};
+ghost use Rattle.laws.specs.Lists.{put};
+ghost use Rattle.guided_across.specs.Inner.ByteCells.{pair_sum, pairs_sum, cell_mean, cell_run};
 
 use lanes::{Lanes, put_block};
-
-// A byte with room for sums: sixteen bits hold the eight bytes of a cell, and a vector holds more of them than of wider numbers.
-fn wide(x: u8) -> u16
-    ensures { (result ≡ x) × (result < 256) }
-{
-    x as u16
-}
 
 // Inner: a cell's luma: the sum of its pixels, divided by their number. The limit is that of sixteen pixels of 65,535.
 pub fn mean_of(sum: u32, n: usize) -> f32
     requires { (sum ≤ 1048560) × (n ≤ 16) }
     ensures { result ≡ f32 sum ⊘ f32 n }
 {
+    // By `as`: there is no From, since a float doesn't hold every number of these types.
     sum as f32 / n as f32
 }
 
-// The sums of the sixteen pairs of bytes from byte `at` on: one row of sixteen cells.
+// The sums of the sixteen pairs of bytes from byte `at` on: one row of sixteen cells. Sixteen bits hold the eight bytes of a cell, and a vector
+// holds more of them than of wider numbers.
 fn pair_sums(plane: &[u8], at: usize) -> [u16; Lanes::PIXELS]
     requires { at + 32 ≤ length plane.now }
     ensures { (k : ℕ) → k < 16 → (get_or result k 0 ≡ pair_sum plane.now at k) × (get_or result k 0 ≤ 510) }
 {
     let mut v = [0u16; Lanes::PIXELS];
     for k in 0..Lanes::PIXELS {
-        v[k] = wide(plane[at + 2 * k]) + wide(plane[at + (2 * k + 1)]);
+        v[k] = u16::from(plane[at + 2 * k]) + u16::from(plane[at + (2 * k + 1)]);
     }
     v
 }
 
-// Two blocks added, number by number.
-fn added(a: [u16; Lanes::PIXELS], b: [u16; Lanes::PIXELS]) -> [u16; Lanes::PIXELS]
-    requires { (k : ℕ) → k < 16 → get_or a k 0 + get_or b k 0 ≤ 65535 }
-    ensures { (k : ℕ) → k < 16 → get_or result k 0 ≡ get_or a k 0 + get_or b k 0 }
+// A row of sixteen numbers added to as many, number by number.
+fn add_row(sums: &mut [u16; Lanes::PIXELS], row: [u16; Lanes::PIXELS])
+    requires { (k : ℕ) → k < 16 → get_or sums.old k 0 + get_or row k 0 ≤ 65535 }
+    ensures { (k : ℕ) → k < 16 → get_or sums.new k 0 ≡ get_or sums.old k 0 + get_or row k 0 }
 {
-    let mut v = [0u16; Lanes::PIXELS];
     for k in 0..Lanes::PIXELS {
-        v[k] = a[k] + b[k];
+        sums[k] += row[k];
     }
-    v
 }
 
 // The sums of sixteen cells, m pairs of bytes one below another each, the first of which begins at `at`.
@@ -50,19 +44,11 @@ fn cell_sums(plane: &[u8], at: usize, stride: usize, m: usize) -> [u16; Lanes::P
     requires { (1 ≤ m) × (m ≤ 4) × ((dy : ℕ) → dy < m → at + dy * stride + 32 ≤ length plane.now) }
     ensures { (k : ℕ) → k < 16 → (get_or result k 0 ≡ pairs_sum plane.now at stride m k) × (get_or result k 0 ≤ 2040) }
 {
-    let one = pair_sums(plane, at);
-    if m == 1 {
-        return one;
+    let mut sums = [0u16; Lanes::PIXELS];
+    for dy in 0..m {
+        add_row(&mut sums, pair_sums(plane, at + dy * stride));
     }
-    let two = added(one, pair_sums(plane, at + stride));
-    if m == 2 {
-        return two;
-    }
-    let three = added(two, pair_sums(plane, at + 2 * stride));
-    if m == 3 {
-        return three;
-    }
-    added(three, pair_sums(plane, at + 3 * stride))
+    sums
 }
 
 // The means of sixteen cells of n pixels each, given their sums.
@@ -72,7 +58,7 @@ fn means(sums: [u16; Lanes::PIXELS], n: usize) -> [f32; Lanes::PIXELS]
 {
     let mut v = [0.0; Lanes::PIXELS];
     for k in 0..Lanes::PIXELS {
-        v[k] = mean_of(sums[k] as u32, n);
+        v[k] = mean_of(u32::from(sums[k]), n);
     }
     v
 }
@@ -89,8 +75,19 @@ fn cell_block(plane: &[u8], at: usize, stride: usize, m: usize) -> [f32; Lanes::
     means(cell_sums(plane, at, stride, m), 2 * m)
 }
 
-// Inner: the means of n cells, two by m bytes each, of the rows of a plane from byte `top` on, to s from dst on: blocks of sixteen, the
-// last of which ends with the cells and overlaps the one before.
+// The means of sixteen cells, from cell i on, to s from dst + i on; the rows of cell 0 begin at byte `top`.
+fn put_cells(plane: &[u8], top: usize, stride: usize, m: usize, s: &mut [f32], dst: usize, i: usize)
+    requires { (1 ≤ m) × (m ≤ 4)
+        × ((dy : ℕ) → dy < m → top + dy * stride + 2 * (i + 16) ≤ length plane.now)
+        × (dst + i + 16 ≤ length s.old) }
+    ensures { s.new ≡ put s.old (dst + i) 16 (λ k. cell_mean plane.now top stride m (i + k)) }
+{
+    put_block(s, dst + i, cell_block(plane, top + 2 * i, stride, m));
+}
+
+// Inner: the means of n cells, two by m bytes each, of the rows of a plane from byte `top` on, to s from dst on: blocks of sixteen, and where
+// cells are left, one more that ends with them and overlaps the one before.
+#[tactic(auto, unfolding(laws::specs::Lists::put, crate::specs::Inner::ByteCells::cell_run))]
 pub fn cell_run(
     plane: &[u8],
     top: usize,
@@ -105,10 +102,11 @@ pub fn cell_run(
         × (dst + n ≤ length s.old) }
     ensures { s.new ≡ cell_run plane.now top stride m n dst s.old }
 {
-    let mut done = 0;
-    while done < n {
-        let i = laws::least(done, n - Lanes::PIXELS);
-        put_block(s, dst + i, cell_block(plane, top + 2 * i, stride, m));
-        done = i + Lanes::PIXELS;
+    for b in 0..n / Lanes::PIXELS {
+        put_cells(plane, top, stride, m, s, dst, b * Lanes::PIXELS);
     }
+    if n % Lanes::PIXELS == 0 {
+        return;
+    }
+    put_cells(plane, top, stride, m, s, dst, n - Lanes::PIXELS);
 }

@@ -9,22 +9,22 @@ use image::Layout;
 use lanes::Lanes;
 
 // The sum of the n samples of row y from column x on.
+#[tactic(auto, using(crate::proofs::Areas::sum_next, crate::proofs::Areas::pixel_inside), unfolding(laws::specs::Sums::sum_to, crate::specs::Inner::Luma::row_sum, image::specs::Samples::sample_at))]
 fn row_sum(layout: Layout, plane: &[u8], stride: usize, x: usize, y: usize, n: usize) -> u32
     requires luma_pixels { LumaPixels layout (plane_of plane.now stride) }
     requires n_bound { (x + n ≤ layout.w) × (y < layout.h) × (n ≤ 4) }
     ensures { (result ≡ row_sum layout (plane_of plane.now stride) x y n) × (result ≤ 65535 * n) }
 {
     let bytes = layout.sample_bytes;
-    let mut t: u32 = 0;
-    let mut i = 0;
-    while i < n {
-        t += image::sample(plane, bytes, y * stride + (x + i) * bytes) as u32;
-        i += 1;
+    let mut t = 0;
+    for i in 0..n {
+        t += u32::from(image::sample(plane, bytes, y * stride + (x + i) * bytes));
     }
     t
 }
 
 // The sum of n samples from column x on in each of the m rows from row y on. The limit of a row, 262,140, is that of four samples of 65,535.
+#[tactic(auto, using(crate::proofs::Areas::sum_next), unfolding(laws::specs::Sums::sum_to, crate::specs::Inner::Luma::cell_sum))]
 fn cell_sum(
     layout: Layout,
     plane: &[u8],
@@ -38,16 +38,15 @@ fn cell_sum(
     requires n_bound { (x + n ≤ layout.w) × (y + m ≤ layout.h) × (n ≤ 4) × (m ≤ 4) }
     ensures { (result ≡ cell_sum layout (plane_of plane.now stride) x y n m) × (result ≤ 262140 * m) }
 {
-    let mut t: u32 = 0;
-    let mut i = 0;
-    while i < m {
+    let mut t = 0;
+    for i in 0..m {
         t += row_sum(layout, plane, stride, x, y + i, n);
-        i += 1;
     }
     t
 }
 
 // The luma of cell i of chroma row j, by the pixels that it has inside the picture.
+#[tactic(auto, using(crate::proofs::Areas::cell_is, crate::proofs::Areas::cell_right, crate::proofs::Areas::cell_down, crate::proofs::Areas::few_pixels))]
 fn cell_luma(layout: Layout, plane: &[u8], stride: usize, j: usize, i: usize) -> f32
     requires luma_pixels { LumaPixels layout (plane_of plane.now stride) }
     requires j_lt_ch { (j < layout.ch) × (i < layout.cw) }
@@ -57,12 +56,13 @@ fn cell_luma(layout: Layout, plane: &[u8], stride: usize, j: usize, i: usize) ->
     let rv = layout.rv;
     let x = i * rh;
     let y = j * rv;
-    let nx = laws::least(rh, layout.w - x);
-    let ny = laws::least(rv, layout.h - y);
+    let nx = rh.min(layout.w - x);
+    let ny = rv.min(layout.h - y);
     mean_of(cell_sum(layout, plane, stride, x, y, nx, ny), nx * ny)
 }
 
 // The luma of n cells of chroma row j, from cell `from` on, one by one.
+#[tactic(auto, using(guided_window::proofs::Puts::put_more), unfolding(laws::specs::Lists::put, crate::specs::Inner::Luma::luma_run))]
 fn luma_cells(
     layout: Layout,
     plane: &[u8],
@@ -77,15 +77,14 @@ fn luma_cells(
     requires j_lt_ch { (j < layout.ch) × (from + n ≤ layout.cw) × (dst + from + n ≤ length s.old) }
     ensures { s.new ≡ luma_run layout (plane_of plane.now stride) j dst from n s.old }
 {
-    let mut i = 0;
-    while i < n {
+    for i in 0..n {
         s[dst + from + i] = cell_luma(layout, plane, stride, j, from + i);
-        i += 1;
     }
 }
 
 // The luma of the cells at the row's beginning that are made by blocks, and how many those are. Blocks are for ratio 2 across, samples of
 // one byte and sixteen full cells or more; none are made otherwise, and the last cell of an odd width is left to `luma_cells`.
+#[tactic(auto, using(crate::proofs::Areas::luma_none, crate::proofs::Areas::cell_down, crate::proofs::Areas::full_cells, crate::proofs::Areas::row_within))]
 fn luma_head(
     layout: Layout,
     plane: &[u8],
@@ -98,19 +97,12 @@ fn luma_head(
     requires j_lt_ch { (j < layout.ch) × (dst + layout.cw ≤ length s.old) }
     ensures { (result ≤ layout.cw) × (s.new ≡ luma_run layout (plane_of plane.now stride) j dst 0 result s.old) }
 {
-    let rv = layout.rv;
-    let y = j * rv;
-    if layout.rh != 2 {
-        return 0;
-    }
-    if layout.sample_bytes != 1 {
-        return 0;
-    }
     let n = layout.w / 2;
-    if n < Lanes::PIXELS {
+    if layout.rh != 2 || layout.sample_bytes != 1 || n < Lanes::PIXELS {
         return 0;
     }
-    let m = laws::least(rv, layout.h - y);
+    let y = j * layout.rv;
+    let m = layout.rv.min(layout.h - y);
     cell_run(plane, y * stride, stride, m, n, s, dst);
     n
 }

@@ -1,6 +1,6 @@
 -- The steps of a chroma row down are the definition's: no sample outside the planes is looked at.
 use mathlib.Core.Path.{◌≡◌, refl, sym, ap, ◌∙◌}
-use mathlib.Core.Bool.{true, false}
+use Rattle.guided_down.specs.declared.picks.Pick.TheVariants.{Smaller, Greater}
 use mathlib.Core.List.{List, [], ◌∷◌}
 use Prim.Native.Nat.{ℕ, ◌+◌, ◌<◌}
 use lib.Ieee.{Float}
@@ -23,9 +23,9 @@ use Rattle.guided_down.specs.Inner.Slopes.{slope_row, slope_rows}
 use Rattle.guided_down.specs.Inner.Down.{extreme_rows}
 
 -- the extremes, by where they go
-pub extreme_rows_are : (l : Layout) (p : Plane) (k : Chroma) (j n a b : ℕ) (s : List Float) → n ≡ first_down k → a ≡ result_at l (n + 1) j → b ≡ result_at l (n + 2) j → extreme_row l p true j b (extreme_row l p false j a s) ≡ extreme_rows l p k j s
+pub extreme_rows_are : (l : Layout) (p : Plane) (k : Chroma) (j a b : ℕ) (s : List Float) → a ≡ result_at l (first_down k + 1) j → b ≡ result_at l (first_down k + 2) j → extreme_row l p Greater j b (extreme_row l p Smaller j a s) ≡ extreme_rows l p k j s
 unfolding extreme_rows
-extreme_rows_are l p k j n a b s e f g = rw (f, g, e) refl
+extreme_rows_are l p k j a b s f g = rw (f, g) refl
 
 -- ---- the picture's samples
 

@@ -3,6 +3,6 @@ use mathlib.Core.Path.{◌≡◌, refl, sym, ◌∙◌}
 use Prim.Native.Nat.{ℕ, ◌+◌, ◌-◌, min}
 use Rattle.guided.specs.Events.{three_n}
 
-pub three_of : (op : ℕ → ℕ → ℕ) (n : ℕ) (g : ℕ → ℕ) (i l r a b c u v : ℕ) → l ≡ i - 1 → r ≡ min (i + 1) (n - 1) → a ≡ g l → b ≡ g i → c ≡ g r → u ≡ op a b → v ≡ op u c → v ≡ three_n op n g i
+pub three_of : (op : ℕ → ℕ → ℕ) (n : ℕ) (g : ℕ → ℕ) (i l r a b c v : ℕ) → l ≡ i - 1 → r ≡ min (i + 1) (n - 1) → a ≡ g l → b ≡ g i → c ≡ g r → v ≡ op (op a b) c → v ≡ three_n op n g i
 unfolding three_n
-three_of op n g i l r a b c u v p q x y z e f = rw (sym p, sym q) (f ∙ rw (e, x, y, z) refl)
+three_of op n g i l r a b c v p q x y z f = rw (sym p, sym q) (f ∙ rw (x, y, z) refl)

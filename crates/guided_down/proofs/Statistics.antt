@@ -10,20 +10,22 @@ use lib.ListN.{length, get_or, set}
 use lib.Ieee.{Float, nan}
 use Rattle.laws.specs.Floats.{f32, ◌⊕◌, ◌⊗◌, ◌⊘◌}
 use Rattle.laws.specs.Lists.{put}
-use Rattle.laws.proofs.Lists.{Run, run_none, run_before, run_run, run_over, run_end, put_same, put_before}
+use Rattle.laws.proofs.Lists.{Run, run_none, run_of, run_before, run_run, run_over, run_end, put_same, put_before}
 use Rattle.image.specs.Scratch.{cell_at, scratch_need}
 use Rattle.guided_window.specs.declared.buffers.Window.{Window}
+use Rattle.guided_window.specs.declared.buffers.Buffer.TheVariants.{Slopes}
 use Rattle.guided_down.specs.declared.slopes.Stats.{Stats}
-use Rattle.guided_down.specs.Inner.Slopes.{slope_by, mean_at, mean_over, slope_with, slope_at, sum_inside, mean_inside, slope_inside, slope_run, slopes_from, slopes_inside, Inside, AllInside, ClearOf, Clear, Alike, PairLent, pair_run, pairs_from, pairs_inside, stats_of, slope_row, slope_rows}
+use Rattle.guided_down.specs.Inner.Slopes.{slope_by, mean_at, mean_over, sum_round, mean_round, slope_round, slope_with, slope_at, sum_inside, mean_inside, slope_inside, slope_run, slopes_from, slopes_inside, Inside, AllInside, ClearOf, Clear, Alike, PairLent, pair_run, pairs_from, pairs_inside, stats_of, slope_row, slope_rows}
 use lib.Dec.{lit<}
 use Rattle.image.specs.declared.layout.Layout.{Layout}
 use Rattle.image.specs.declared.chroma.Chroma.{Chroma}
 use Rattle.image.specs.declared.chroma.Chroma.TheVariants.{Cb, Cr}
 use Rattle.guided.specs.Guided.{three, mean, slope_of, epsilon}
 use Rattle.guided.specs.Scratch.{result_at, first_of, Slope, num_down, read_stored, read_across}
-use Rattle.guided_window.specs.Inner.Buffers.{window_of, ResultGiven}
+use Rattle.guided_window.specs.Inner.Buffers.{window_of, RowGiven}
 use Rattle.guided.proofs.Places.{first_few, buffers_apart}
 use Rattle.guided.proofs.Congruence.{three_cong}
+use Rattle.guided_window.proofs.Puts.{put_more}
 use Rattle.guided_down.proofs.Buffers.{window_inside, window_clear}
 use Rattle.guided_down.proofs.Pairs.{Pair, pair_none, pair_before, pair_over, pair_end}
 
@@ -92,6 +94,15 @@ pub inside_is : (s : List Float) (t : Stats) (eps : Float) (n i : ℕ) → i + 1
 unfolding slope_inside slope_at slope_with mean_inside mean_over
 inside_is s t eps n i h = rw (sum_is s t.c.up n i h, sum_is s t.c.at n i h, sum_is s t.c.down n i h) refl
 
+-- both by their neighbours
+pub at_round : (s : List Float) (t : Stats) (n : ℕ) (eps : Float) (l i r : ℕ) → l ≡ i - 1 → r ≡ min (i + 1) (n - 1) → slope_round s t eps l i r ≡ slope_at s t n eps i
+unfolding slope_at slope_round mean_round sum_round mean_over three
+at_round s t n eps l i r p q = rw (p, q) refl
+
+pub inside_round : (s : List Float) (t : Stats) (eps : Float) (i : ℕ) → slope_round s t eps (i - 1) i (i + 1) ≡ slope_inside s t eps i
+unfolding slope_inside slope_round mean_round sum_round mean_inside sum_inside
+inside_round s t eps i = refl
+
 pub inside_same : (dst n : ℕ) (xs ys : List Float) → ((k : ℕ) → k < dst → get_or ys k nan ≡ get_or xs k nan) → (t : Stats) (eps : Float) → Clear t dst n → (i : ℕ) → i + 1 < n → slope_inside ys t eps i ≡ slope_inside xs t eps i
 inside_same dst n xs ys e t eps o i h = inside_is ys t eps n i h ∙ slope_same dst n xs ys e t eps o i (omega arith) ∙ sym (inside_is xs t eps n i h)
 
@@ -150,15 +161,21 @@ cell_is s t eps n dst i v h =
     let f : i + 0 ≡ i = omega arith in
     rw (e, f, h) refl
 
+-- a slope more
+pub slopes_more : (t : Stats) (eps : Float) (n dst i : ℕ) → Clear t dst n → (xs ys : List Float) → ys ≡ put xs dst i (slope_at xs t n eps) → i < n → (v : Float) → v ≡ slope_at ys t n eps i → set ys (dst + i) v ≡ put xs dst (i + 1) (slope_at xs t n eps)
+slopes_more t eps n dst i o xs ys w h v e =
+    put_more xs ys dst i (slope_at xs t n eps) v w (e ∙ slope_same dst n xs ys (λ k g. run_before (run_of xs ys dst i _ w) k nan g) t eps o i h)
+
 -- a block of eight behind those before
-pub eights_more : (t : Stats) (eps : Float) (dst from b m : ℕ) → Clear t dst m → {xs ys : List Float} → Run xs ys (dst + from) (8 * b) (λ k. slope_inside xs t eps (from + k)) → (zs v : List Float)
+pub eights_more : (t : Stats) (eps : Float) (dst from b m : ℕ) → Clear t dst m → (xs ys : List Float) → ys ≡ put xs (dst + from) (8 * b) (λ k. slope_inside xs t eps (from + k)) → (zs v : List Float)
     → ((k : ℕ) → k < 8 → get_or v k nan ≡ slope_inside ys t eps (from + 8 * b + k)) → zs ≡ put ys (dst + (from + 8 * b)) 8 (λ k. get_or v k nan) → from + 8 * b + 9 ≤ m
-    → Run xs zs (dst + from) (8 * (b + 1)) (λ k. slope_inside xs t eps (from + k))
-eights_more t eps dst from b m o {xs} {ys} w zs v e z h =
-    run_run w zs (dst + (from + 8 * b)) (8 * (b + 1)) 8
+    → zs ≡ put xs (dst + from) (8 * (b + 1)) (λ k. slope_inside xs t eps (from + k))
+eights_more t eps dst from b m o xs ys d zs v e z h =
+    let w = run_of xs ys (dst + from) (8 * b) (λ k. slope_inside xs t eps (from + k)) d in
+    (run_run w zs (dst + (from + 8 * b)) (8 * (b + 1)) 8
     (z ∙ put_same ys (dst + (from + 8 * b)) 8 _ (λ k. slope_inside xs t eps (from + (8 * b + k)))
     (λ k q. e k q ∙ inside_same dst m xs ys (λ j g. run_before w j nan (omega arith)) t eps o (from + 8 * b + k) (omega arith) ∙ ap (slope_inside xs t eps) (assoc from (8 * b) k)))
-    (omega arith) (omega arith)
+    (omega arith) (omega arith)).eq
 
 -- the same of two components
 pub pair_eights_more : (t u : Stats) (eps : Float) (a b from n m : ℕ) {xs ys : List Float} → PairLent t u a b m (length xs) → Pair xs ys (a + from) (b + from) (8 * n) (λ k. slope_inside xs t eps (from + k)) (λ k. slope_inside xs u eps (from + k)) → (zs v x : List Float)
@@ -219,13 +236,13 @@ pair_cell_is t u eps n a b i s p z o h e f =
 
 -- its sums end within scratch, and its slopes' buffer meets none of them
 pub stats_inside : (l : Layout) (k : Chroma) (j : ℕ) → l.cw ≤ l.w → AllInside (stats_of l k j) l.cw (scratch_need l)
-unfolding stats_of
+unfolding stats_of window_of
 stats_inside l k j b =
     let h = first_few k in
     record { y = window_inside l 1 j (lit< tt) b; yy = window_inside l 2 j (lit< tt) b; c = window_inside l (first_of k) j (omega arith) b; yc = window_inside l (first_of k + 1) j (omega arith) b }
 
 pub stats_clear : (l : Layout) (k : Chroma) (j : ℕ) → Clear (stats_of l k j) (result_at l (num_down (Slope k)) j) l.cw
-unfolding stats_of
+unfolding stats_of window_of
 stats_clear l k j =
     let h = first_few k in
     record {
@@ -249,15 +266,9 @@ pub row_is : (l : Layout) (k : Chroma) (j : ℕ) (s : List Float) → slope_run 
 unfolding slope_run slope_row
 row_is l k j s = put_same s (result_at l (num_down (Slope k)) j) l.cw _ _ (λ i h. slope_is l k j s i)
 
--- a component's sums, by its first buffer's number
-pub stats_are : (l : Layout) (k : Chroma) (j f : ℕ) (y yy c yc : Window) → f ≡ first_of k → y ≡ window_of l 1 j → yy ≡ window_of l 2 j → c ≡ window_of l f j → yc ≡ window_of l (f + 1) j
-    → record { y = y; yy = yy; c = c; yc = yc } ≡ stats_of l k j
-unfolding stats_of
-stats_are l k j f y yy c yc e p q r s = rw (sym e, sym p, sym q, sym r, sym s) refl
-
 -- ---- what a row of slopes asks, and gives, by what it was handed
 
-module _ (l : Layout) (k : Chroma) (j dst : ℕ) (t : Stats) (p : t ≡ stats_of l k j) (q : ResultGiven l (num_down (Slope k)) j dst) where
+module _ (l : Layout) (k : Chroma) (j dst : ℕ) (t : Stats) (p : t ≡ stats_of l k j) (q : RowGiven l (Slopes k) j dst) where
   pub row_ready : (len : ℕ) → scratch_need l ≤ len → l.cw ≤ l.w → AllInside t l.cw len × Clear t dst l.cw × (dst + l.cw ≤ len)
   row_ready len h c = (rw p (all_less (stats_inside l k j c) l.cw len (omega arith) h), rw (p, q.is) (stats_clear l k j), le_trans q.fits h)
 
@@ -265,13 +276,13 @@ module _ (l : Layout) (k : Chroma) (j dst : ℕ) (t : Stats) (p : t ≡ stats_of
   row_slopes eps s g = let e = q.is in rw (p, g, e) (row_is l k j s)
 
 -- Cb's slopes lie before Cr's, and all that they are made of before both
-module _ (l : Layout) (j a b : ℕ) (t u : Stats) (p : t ≡ stats_of l Cb j) (q : u ≡ stats_of l Cr j) (e : ResultGiven l (num_down (Slope Cb)) j a) (f : ResultGiven l (num_down (Slope Cr)) j b) where
+module _ (l : Layout) (j a b : ℕ) (t u : Stats) (p : t ≡ stats_of l Cb j) (q : u ≡ stats_of l Cr j) (e : RowGiven l (Slopes Cb) j a) (f : RowGiven l (Slopes Cr) j b) where
   alike : Alike t u
   unfolding stats_of
   alike = rw (p, q) (record { y = refl; yy = refl })
 
   clear_cr : Clear (stats_of l Cr j) (result_at l (num_down (Slope Cb)) j) l.cw
-  unfolding stats_of
+  unfolding stats_of window_of
   clear_cr = record {
     y = window_clear l 1 (num_down (Slope Cb)) j (lit< tt);
     yy = window_clear l 2 (num_down (Slope Cb)) j (lit< tt);

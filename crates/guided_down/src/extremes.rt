@@ -8,52 +8,49 @@ ghost use Rattle.guided_window.specs.Inner.Lent.{ChromaCells};
 ghost use Rattle.guided_down.specs.Inner.Extremes.{extreme_run, extreme_row, whole_extreme};
 ghost use Rattle.guided_down.specs.Inner.Nines.{whole_op};
 
-use crate::nines::{byte_run, pick_word, word_run};
-use guided_window::whole_at;
+use crate::nines::{byte_run, nine_cells, pick3};
+use crate::picks::Pick;
+use guided_window::{Window, next, prev, whole_at};
 use image::Layout;
 
 // The least, or the greatest, of cell i of row r and its two neighbours across.
-fn across(layout: Layout, plane: &[u8], stride: usize, greatest: bool, r: usize, i: usize) -> u16
+#[tactic(auto, using(crate::proofs::NineSamples::three_of))]
+fn across(layout: Layout, plane: &[u8], stride: usize, pick: Pick, r: usize, i: usize) -> u16
     requires { ChromaCells layout (plane_of plane.now stride) × (i < layout.cw) × (r < layout.ch) }
-    ensures { result ≡ three_n (whole_op greatest) layout.cw
+    ensures { result ≡ three_n (whole_op pick) layout.cw
         (λ q. sample_at layout.sample_bytes (plane_of plane.now stride) r q)
         i }
 {
     let w = layout.cw;
     let h = layout.ch;
-    let a = whole_at(layout, plane, stride, w, h, guided_window::prev(i), r);
+    let a = whole_at(layout, plane, stride, w, h, prev(i), r);
     let b = whole_at(layout, plane, stride, w, h, i, r);
-    let c = whole_at(layout, plane, stride, w, h, guided_window::next(i, w), r);
-    pick_word(greatest, pick_word(greatest, a, b), c)
+    let c = whole_at(layout, plane, stride, w, h, next(i, w), r);
+    pick3(pick, a, b, c)
 }
 
 // The least, or the greatest, of the nine samples round cell i of row j: of three rows' least or greatest in turn.
-fn extreme_at(
-    layout: Layout,
-    plane: &[u8],
-    stride: usize,
-    greatest: bool,
-    j: usize,
-    i: usize,
-) -> u16
+#[tactic(auto, using(crate::proofs::NineSamples::three_of), unfolding(crate::specs::Inner::Extremes::whole_extreme))]
+fn extreme_at(layout: Layout, plane: &[u8], stride: usize, pick: Pick, j: usize, i: usize) -> u16
     requires { ChromaCells layout (plane_of plane.now stride) × (i < layout.cw) × (j < layout.ch) }
-    ensures { result ≡ whole_extreme layout greatest
+    ensures { result ≡ whole_extreme layout pick
         (sample_at layout.sample_bytes (plane_of plane.now stride))
         j i }
 {
-    let a = across(layout, plane, stride, greatest, guided_window::prev(j), i);
-    let b = across(layout, plane, stride, greatest, j, i);
-    let d = guided_window::next(j, layout.ch);
-    let c = across(layout, plane, stride, greatest, d, i);
-    pick_word(greatest, pick_word(greatest, a, b), c)
+    let a = across(layout, plane, stride, pick, prev(j), i);
+    let b = across(layout, plane, stride, pick, j, i);
+    let d = next(j, layout.ch);
+    let c = across(layout, plane, stride, pick, d, i);
+    pick3(pick, a, b, c)
 }
 
 // The extremes round n cells of chroma row j, from cell `from` on, one by one with edges repeated.
+#[tactic(auto, unfolding(laws::specs::Lists::put, crate::specs::Inner::Extremes::extreme_run))]
 fn extreme_run(
     layout: Layout,
     plane: &[u8],
     stride: usize,
-    greatest: bool,
+    pick: Pick,
     j: usize,
     s: &mut [f32],
     dst: usize,
@@ -62,59 +59,61 @@ fn extreme_run(
 )
     requires chroma_cells { ChromaCells layout (plane_of plane.now stride) × (j < layout.ch) }
     requires n_bound { (from + n ≤ layout.cw) × (dst + layout.cw ≤ length s.old) }
-    ensures { s.new ≡ extreme_run layout (plane_of plane.now stride) greatest j dst from n s.old }
+    ensures { s.new ≡ extreme_run layout (plane_of plane.now stride) pick j dst from n s.old }
 {
-    let mut i = 0;
-    while i < n {
-        s[dst + from + i] = extreme_at(layout, plane, stride, greatest, j, from + i) as f32;
-        i += 1;
+    for i in 0..n {
+        s[dst + from + i] = f32::from(extreme_at(layout, plane, stride, pick, j, from + i));
     }
 }
 
 // The extremes round the cells of chroma row j that have neighbours on both sides, by the loop for their number of bytes.
+#[tactic(auto, using(guided_across::proofs::Areas::row_within))]
 fn extreme_inner(
     layout: Layout,
     plane: &[u8],
     stride: usize,
-    greatest: bool,
+    pick: Pick,
     j: usize,
     s: &mut [f32],
     dst: usize,
 )
     requires { ChromaCells layout (plane_of plane.now stride)
         × (j < layout.ch) × (2 ≤ layout.cw) × (dst + layout.cw ≤ length s.old) }
-    ensures { s.new ≡ extreme_run layout (plane_of plane.now stride) greatest j dst 1 (layout.cw - 2) s.old }
+    ensures { s.new ≡ extreme_run layout (plane_of plane.now stride) pick j dst 1 (layout.cw - 2) s.old }
 {
     let n = layout.cw - 2;
-    let u = guided_window::prev(j) * stride;
-    let m = j * stride;
-    let d = guided_window::next(j, layout.ch) * stride;
+    let t = Window {
+        up: prev(j) * stride,
+        at: j * stride,
+        down: next(j, layout.ch) * stride,
+    };
     if layout.sample_bytes == 1 {
-        byte_run(plane, greatest, u, m, d, n, s, dst + 1);
+        byte_run(plane, pick, t, n, s, dst + 1);
         return;
     }
-    word_run(plane, greatest, u, m, d, n, s, dst + 1);
+    nine_cells::<u16>(plane, pick, t, n, s, dst + 1);
 }
 
 // Inner: the least, or the greatest, sample round each cell of chroma row j, to s from dst on: the edges one by one, the rest by blocks.
+#[tactic(auto, using(crate::proofs::Wholes::run_whole, crate::proofs::Wholes::run_parts))]
 pub fn extreme_row(
     layout: Layout,
     plane: &[u8],
     stride: usize,
-    greatest: bool,
+    pick: Pick,
     j: usize,
     s: &mut [f32],
     dst: usize,
 )
     requires { ChromaCells layout (plane_of plane.now stride) × (j < layout.ch) × (dst + layout.cw ≤ length s.old) }
-    ensures { s.new ≡ extreme_row layout (plane_of plane.now stride) greatest j dst s.old }
+    ensures { s.new ≡ extreme_row layout (plane_of plane.now stride) pick j dst s.old }
 {
     let n = layout.cw;
     if n < 2 {
-        extreme_run(layout, plane, stride, greatest, j, s, dst, 0, n);
+        extreme_run(layout, plane, stride, pick, j, s, dst, 0, n);
         return;
     }
-    extreme_run(layout, plane, stride, greatest, j, s, dst, 0, 1);
-    extreme_inner(layout, plane, stride, greatest, j, s, dst);
-    extreme_run(layout, plane, stride, greatest, j, s, dst, n - 1, 1);
+    extreme_run(layout, plane, stride, pick, j, s, dst, 0, 1);
+    extreme_inner(layout, plane, stride, pick, j, s, dst);
+    extreme_run(layout, plane, stride, pick, j, s, dst, n - 1, 1);
 }

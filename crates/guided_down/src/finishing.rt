@@ -8,21 +8,22 @@ ghost use Rattle.guided_window.specs.Inner.Lent.{ChromaCells, components_of};
 ghost use Rattle.guided_down.specs.Inner.Down.{extreme_rows};
 
 use crate::extremes::extreme_row;
+use crate::picks::Pick;
 use crate::slope_pairs::slope_rows;
 use crate::slope_rows::slope_row;
-use guided_window::{ResultBuffer, result_at};
+use guided_window::{Buffer, row_at};
 use image::{Chroma, Components, Layout, Strides};
 
 // A component's least and greatest samples round each cell of chroma row j, to their buffers.
+#[tactic(auto, using(crate::proofs::DownSteps::extreme_rows_are))]
 fn extreme_rows(layout: Layout, plane: &[u8], stride: usize, k: Chroma, j: usize, s: &mut [f32])
     requires { ChromaCells layout (plane_of plane.now stride) × (j < layout.ch) × (scratch_need layout ≤ length s.old) }
     ensures { s.new ≡ extreme_rows layout (plane_of plane.now stride) k j s.old }
 {
-    let n = guided_window::result_of(k);
-    let least = result_at(layout, n + ResultBuffer::LEAST, j);
-    let greatest = result_at(layout, n + ResultBuffer::GREATEST, j);
-    extreme_row(layout, plane, stride, false, j, s, least);
-    extreme_row(layout, plane, stride, true, j, s, greatest);
+    let least = row_at(layout, Buffer::Least(k), j);
+    let greatest = row_at(layout, Buffer::Greatest(k), j);
+    extreme_row(layout, plane, stride, Pick::Smaller, j, s, least);
+    extreme_row(layout, plane, stride, Pick::Greater, j, s, greatest);
 }
 
 // Inner: chroma row j down, of Cb, and of Cr where both are asked for. Luma's plane isn't looked at, so that the promise is for any.

@@ -7,6 +7,7 @@
 mod extremes;
 mod finishing;
 mod nines;
+mod picks;
 mod slope_pairs;
 mod slope_rows;
 mod slopes;

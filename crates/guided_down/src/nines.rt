@@ -1,167 +1,175 @@
 // The least or the greatest of nine samples, for the cells that have neighbours on both sides: no edge is looked at, so that these loops
-// compute many cells at a time. Samples of one and of two bytes have loops of their own, since bytes are compared more at a time.
+// compute many cells at a time. They are for samples of one byte and of two by their type, since bytes are compared more at a time.
 //
-// u, m and d are where a cell's left neighbours begin in the plane: in the row above (up), in its own (middle) and in the row below (down).
+// A window is here where a cell's left neighbours begin in the plane: in the row above, in its own and in the row below.
 ghost use Rattle.std.specs.Prelude.{◌≡◌, ℕ, ◌+◌, ◌*◌, ◌≤◌, ◌<◌, length, get_or};
 ghost use Rattle.laws.specs.Floats.{f32};
 ghost use Rattle.laws.specs.Lists.{put};
+ghost use Rattle.image.specs.Samples.{sample_of};
+ghost use Rattle.guided_window.specs.Inner.Buffers.{on};
 ghost use Rattle.guided_down.specs.Inner.Nines.{whole_op, three_from, nine_from};
+ghost use Rattle.guided_down.specs.Inner.Slopes.{Inside};
 
-// The cells of a chroma row, as these loops take them.
-#[derive(Clone, Copy)]
-pub struct Cells;
+use crate::picks::Pick;
+use guided_window::Window;
+use lanes::Lanes;
 
-impl Cells {
-    // How many cells are computed at once: as many bytes as a vector of 128 bits holds.
-    pub const BLOCK: usize = 16;
+// A sample as a plane holds it. `pick` stands in both impls and isn't one for all: over `Ord` alone the smaller is known by the order of the
+// type, and not as a number.
+pub trait Sample: Copy {
+    ghost BYTES: { ℕ };
+
+    // How many bytes it has.
+    const BYTES: usize;
+
+    ghost number: { Self → ℕ };
+
+    // The sample that begins at byte `at`.
+    fn read(plane: &[u8], at: usize) -> Self
+        requires { at + BYTES ≤ length plane.now }
+        ensures { number result ≡ sample_of BYTES plane.now at };
+
+    fn pick(self, other: Self, pick: Pick) -> Self
+        ensures { number result ≡ whole_op pick (number self) (number other) };
+
+    fn float(self) -> f32
+        ensures { result ≡ f32 (number self) };
 }
 
-// The greater or the smaller of two bytes.
-fn pick_byte(greatest: bool, a: u8, b: u8) -> u8
-    ensures { result ≡ whole_op greatest a b }
-{
-    if greatest {
-        return if a < b { b } else { a };
+impl Sample for u8 {
+    ghost BYTES = { 1 };
+
+    const BYTES: usize = 1;
+
+    ghost number = { λ x. x };
+
+    #[tactic(auto, unfolding(image::specs::Samples::sample_of))]
+    fn read(plane: &[u8], at: usize) -> u8 {
+        plane[at]
     }
-    if a < b { a } else { b }
+
+    fn pick(self, other: u8, pick: Pick) -> u8 {
+        match pick {
+            Pick::Smaller => self.min(other),
+            Pick::Greater => self.max(other),
+        }
+    }
+
+    fn float(self) -> f32 {
+        f32::from(self)
+    }
 }
 
-// The least, or the greatest, of the three bytes from `at` on.
-fn byte_three(plane: &[u8], greatest: bool, at: usize) -> u8
-    requires { at + 3 ≤ length plane.now }
-    ensures { result ≡ three_from greatest 1 plane.now at }
+impl Sample for u16 {
+    ghost BYTES = { 2 };
+
+    const BYTES: usize = 2;
+
+    ghost number = { λ x. x };
+
+    fn read(plane: &[u8], at: usize) -> u16 {
+        image::sample(plane, 2, at)
+    }
+
+    fn pick(self, other: u16, pick: Pick) -> u16 {
+        match pick {
+            Pick::Smaller => self.min(other),
+            Pick::Greater => self.max(other),
+        }
+    }
+
+    fn float(self) -> f32 {
+        f32::from(self)
+    }
+}
+
+// Inner: the extreme of three samples.
+pub fn pick3<S: Sample>(pick: Pick, a: S, b: S, c: S) -> S
+    ensures { S.number result ≡ whole_op pick (whole_op pick (S.number a) (S.number b)) (S.number c) }
 {
-    let a = pick_byte(greatest, plane[at], plane[at + 1]);
-    pick_byte(greatest, a, plane[at + 2])
+    a.pick(b, pick).pick(c, pick)
 }
 
-// The least, or the greatest, of nine bytes, three from each of u, m and d on.
-fn byte_nine(plane: &[u8], greatest: bool, u: usize, m: usize, d: usize) -> u8
-    requires { (u + 3 ≤ length plane.now) × (m + 3 ≤ length plane.now) × (d + 3 ≤ length plane.now) }
-    ensures { result ≡ nine_from greatest 1 plane.now u m d }
+// The extreme of the three samples from byte `at` on.
+#[tactic(auto, unfolding(crate::specs::Inner::Nines::three_from))]
+fn three<S: Sample>(plane: &[u8], pick: Pick, at: usize) -> S
+    requires { at + 3 * S.BYTES ≤ length plane.now }
+    ensures { S.number result ≡ three_from pick S.BYTES plane.now at }
 {
-    let a = byte_three(plane, greatest, u);
-    let b = byte_three(plane, greatest, m);
-    let c = byte_three(plane, greatest, d);
-    pick_byte(greatest, pick_byte(greatest, a, b), c)
+    let a = S::read(plane, at);
+    let b = S::read(plane, at + S::BYTES);
+    let c = S::read(plane, at + 2 * S::BYTES);
+    pick3(pick, a, b, c)
 }
 
-// The extremes round n cells of one-byte samples one by one, to s from dst on; the first cell's left neighbours begin at u, m and d.
-fn byte_cells(
+// The extreme of nine samples, three from each of a window's places on.
+#[tactic(auto, unfolding(crate::specs::Inner::Nines::nine_from))]
+fn nine<S: Sample>(plane: &[u8], pick: Pick, t: Window) -> S
+    requires { Inside t (3 * S.BYTES) (length plane.now) }
+    ensures { S.number result ≡ nine_from pick S.BYTES plane.now t }
+{
+    let a: S = three(plane, pick, t.up);
+    let b: S = three(plane, pick, t.at);
+    let c: S = three(plane, pick, t.down);
+    pick3(pick, a, b, c)
+}
+
+// Inner: the extremes round n cells one by one, to s from dst on; the first cell's left neighbours begin at t.
+#[tactic(auto, using(guided_window::proofs::Puts::put_more, crate::proofs::Sixteens::nine_inside), unfolding(laws::specs::Lists::put))]
+pub fn nine_cells<S: Sample>(
     plane: &[u8],
-    greatest: bool,
-    u: usize,
-    m: usize,
-    d: usize,
+    pick: Pick,
+    t: Window,
     n: usize,
     s: &mut [f32],
     dst: usize,
 )
-    requires { (u + n + 2 ≤ length plane.now) × (m + n + 2 ≤ length plane.now) × (d + n + 2 ≤ length plane.now)
-        × (dst + n ≤ length s.old) }
-    ensures { s.new ≡ put s.old dst n
-        (λ i. f32 (nine_from greatest 1 plane.now (u + i) (m + i) (d + i))) }
+    requires { Inside t ((n + 2) * S.BYTES) (length plane.now) × (dst + n ≤ length s.old) }
+    ensures { s.new ≡ put s.old dst n (λ i. f32 (nine_from pick S.BYTES plane.now (on t (i * S.BYTES)))) }
 {
-    let mut i = 0;
-    while i < n {
-        s[dst + i] = byte_nine(plane, greatest, u + i, m + i, d + i) as f32;
-        i += 1;
+    for i in 0..n {
+        let v: S = nine(plane, pick, t.on(i * S::BYTES));
+        s[dst + i] = v.float();
     }
 }
 
-// The extremes round sixteen cells of one-byte samples; the first cell's left neighbours begin at u, m and d.
-fn byte_block(plane: &[u8], greatest: bool, u: usize, m: usize, d: usize) -> [u8; Cells::BLOCK]
-    requires { (u + 18 ≤ length plane.now) × (m + 18 ≤ length plane.now) × (d + 18 ≤ length plane.now) }
-    ensures { (k : ℕ) → k < 16 → get_or result k 0 ≡ nine_from greatest 1 plane.now (u + k) (m + k) (d + k) }
+// The extremes round sixteen cells of one-byte samples; the first cell's left neighbours begin at t.
+fn byte_block(plane: &[u8], pick: Pick, t: Window) -> [u8; Lanes::PIXELS]
+    requires { Inside t 18 (length plane.now) }
+    ensures { (k : ℕ) → k < 16 → get_or result k 0 ≡ nine_from pick 1 plane.now (on t k) }
 {
-    let mut block = [0u8; Cells::BLOCK];
-    for k in 0..Cells::BLOCK {
-        block[k] = byte_nine(plane, greatest, u + k, m + k, d + k);
+    let mut block = [0; Lanes::PIXELS];
+    for k in 0..Lanes::PIXELS {
+        block[k] = nine(plane, pick, t.on(k));
     }
     block
 }
 
-// Inner: the extremes round n cells of one-byte samples, to s from dst on; the first cell's left neighbours begin at u, m and d. They are
-// made by blocks of sixteen, the last of which ends with the cells and overlaps the one before, and fewer than sixteen one by one.
-pub fn byte_run(
-    plane: &[u8],
-    greatest: bool,
-    u: usize,
-    m: usize,
-    d: usize,
-    n: usize,
-    s: &mut [f32],
-    dst: usize,
-)
-    requires { (u + n + 2 ≤ length plane.now) × (m + n + 2 ≤ length plane.now) × (d + n + 2 ≤ length plane.now)
-        × (dst + n ≤ length s.old) }
-    ensures { s.new ≡ put s.old dst n
-        (λ i. f32 (nine_from greatest 1 plane.now (u + i) (m + i) (d + i))) }
+// The extremes round sixteen cells of one-byte samples, from cell i on, to s from dst + i on; cell 0's left neighbours begin at t.
+fn put_nines(plane: &[u8], pick: Pick, t: Window, s: &mut [f32], dst: usize, i: usize)
+    requires { Inside t (i + 18) (length plane.now) × (dst + i + 16 ≤ length s.old) }
+    ensures { s.new ≡ put s.old (dst + i) 16 (λ k. f32 (nine_from pick 1 plane.now (on t (i + k)))) }
 {
-    if n < Cells::BLOCK {
-        byte_cells(plane, greatest, u, m, d, n, s, dst);
+    lanes::put_bytes(s, dst + i, byte_block(plane, pick, t.on(i)));
+}
+
+// Inner: the extremes round n cells of one-byte samples, to s from dst on; the first cell's left neighbours begin at t. They are made by blocks
+// of sixteen, as many bytes as a vector of 128 bits holds, and where cells are left, by one more that ends with them and overlaps the one
+// before; fewer than sixteen one by one.
+#[tactic(auto, unfolding(laws::specs::Lists::put))]
+pub fn byte_run(plane: &[u8], pick: Pick, t: Window, n: usize, s: &mut [f32], dst: usize)
+    requires { Inside t (n + 2) (length plane.now) × (dst + n ≤ length s.old) }
+    ensures { s.new ≡ put s.old dst n (λ i. f32 (nine_from pick 1 plane.now (on t i))) }
+{
+    if n < Lanes::PIXELS {
+        nine_cells::<u8>(plane, pick, t, n, s, dst);
         return;
     }
-    let mut done = 0;
-    while done < n {
-        let i = laws::least(done, n - Cells::BLOCK);
-        let block = byte_block(plane, greatest, u + i, m + i, d + i);
-        lanes::put_bytes(s, dst + i, block);
-        done = i + Cells::BLOCK;
+    for b in 0..n / Lanes::PIXELS {
+        put_nines(plane, pick, t, s, dst, b * Lanes::PIXELS);
     }
-}
-
-// Inner: the greater or the smaller of two samples.
-pub fn pick_word(greatest: bool, a: u16, b: u16) -> u16
-    ensures { result ≡ whole_op greatest a b }
-{
-    if greatest {
-        return if a < b { b } else { a };
+    if n % Lanes::PIXELS == 0 {
+        return;
     }
-    if a < b { a } else { b }
-}
-
-// The least, or the greatest, of the three two-byte samples from byte `at` on.
-fn word_three(plane: &[u8], greatest: bool, at: usize) -> u16
-    requires { at + 6 ≤ length plane.now }
-    ensures { result ≡ three_from greatest 2 plane.now at }
-{
-    let a = image::sample(plane, 2, at);
-    let b = image::sample(plane, 2, at + 2);
-    let c = image::sample(plane, 2, at + 4);
-    pick_word(greatest, pick_word(greatest, a, b), c)
-}
-
-// The least, or the greatest, of nine two-byte samples, three from each of u, m and d on.
-fn word_nine(plane: &[u8], greatest: bool, u: usize, m: usize, d: usize) -> u16
-    requires { (u + 6 ≤ length plane.now) × (m + 6 ≤ length plane.now) × (d + 6 ≤ length plane.now) }
-    ensures { result ≡ nine_from greatest 2 plane.now u m d }
-{
-    let a = word_three(plane, greatest, u);
-    let b = word_three(plane, greatest, m);
-    let c = word_three(plane, greatest, d);
-    pick_word(greatest, pick_word(greatest, a, b), c)
-}
-
-// Inner: the extremes round n cells of two-byte samples, to s from dst on; the first cell's left neighbours begin at u, m and d.
-pub fn word_run(
-    plane: &[u8],
-    greatest: bool,
-    u: usize,
-    m: usize,
-    d: usize,
-    n: usize,
-    s: &mut [f32],
-    dst: usize,
-)
-    requires { (u + n * 2 + 4 ≤ length plane.now) × (m + n * 2 + 4 ≤ length plane.now) × (d + n * 2 + 4 ≤ length plane.now)
-        × (dst + n ≤ length s.old) }
-    ensures { s.new ≡ put s.old dst n
-        (λ i. f32 (nine_from greatest 2 plane.now (u + i * 2) (m + i * 2) (d + i * 2))) }
-{
-    let mut i = 0;
-    while i < n {
-        s[dst + i] = word_nine(plane, greatest, u + i * 2, m + i * 2, d + i * 2) as f32;
-        i += 1;
-    }
+    put_nines(plane, pick, t, s, dst, n - Lanes::PIXELS);
 }

@@ -1,4 +1,7 @@
 // Both components' rows of slopes side by side, so that luma's means are made once for the two.
+//
+// What slope_rows has for one component is here again for two: alike is only the order of four calls in `pair_cells`, and a trait of one and of
+// two components would have more lines than both.
 ghost use Rattle.std.specs.Prelude.{◌≡◌, [], ℕ, ◌+◌, ◌*◌, ◌≤◌, ◌<◌, length, get_or};
 ghost use Rattle.std.specs.Float.{nan};
 ghost use Rattle.guided_down.specs.Inner.Slopes.{slope_inside, AllInside, Alike, PairLent, pair_run, pairs_from, pairs_inside, slope_rows};
@@ -6,10 +9,13 @@ ghost use Rattle.image.specs.Inner.Tests.{Sound};
 ghost use Rattle.image.specs.Scratch.{scratch_need};
 
 use crate::slope_rows::slope_cell;
-use crate::slopes::{Stats, epsilon_of, slope_inside, slope_run, slopes_at, stats_at};
+use crate::slopes::{Stats, epsilon_of, slope_inside, slope_run, stats_at};
+use guided_window::{Buffer, row_at};
 use image::{Chroma, Layout};
+use lanes::Lanes;
 
 // The slopes of two components at cell i of n, to s from a + i and from b + i on.
+#[tactic(auto, using(crate::proofs::Statistics::all_less, crate::proofs::Statistics::pair_cell_is))]
 fn pair_cell(s: &mut [f32], t: Stats, u: Stats, eps: f32, n: usize, a: usize, b: usize, i: usize)
     requires { (i < n) × PairLent t u a b n (length s.old) }
     ensures { s.new ≡ pairs_from t u eps n a b i 1 s.old }
@@ -24,32 +30,26 @@ fn beside(t: Stats, u: Stats) -> Stats
     requires { Alike t u }
     ensures { result ≡ u }
 {
-    let y = t.y;
-    let yy = t.yy;
-    let c = u.c;
-    let yc = u.yc;
     Stats {
-        y: y,
-        yy: yy,
-        c: c,
-        yc: yc,
+        y: t.y,
+        yy: t.yy,
+        ..u
     }
 }
 
 // The slopes of two components at the eight cells from i on, by value.
-fn pair_eight(s: &[f32], t: Stats, u: Stats, eps: f32, i: usize) -> [[f32; 8]; 2]
+#[tactic(auto, using(crate::proofs::Statistics::all_less))]
+fn pair_eight(s: &[f32], t: Stats, u: Stats, eps: f32, i: usize) -> [[f32; Lanes::CELLS]; 2]
     requires { (0 < i) × AllInside t (i + 9) (length s.now) × AllInside u (i + 9) (length s.now) × Alike t u }
     ensures { (k : ℕ) → k < 8 → (get_or (get_or result 0 []) k nan ≡ slope_inside s.now t eps (i + k))
         × (get_or (get_or result 1 []) k nan ≡ slope_inside s.now u eps (i + k)) }
 {
     let w = beside(t, u);
-    let mut v = [0.0; 8];
-    let mut x = [0.0; 8];
-    let mut k = 0;
-    while k < 8 {
+    let mut v = [0.0; Lanes::CELLS];
+    let mut x = [0.0; Lanes::CELLS];
+    for k in 0..Lanes::CELLS {
         v[k] = slope_inside(s, t, eps, i + k);
         x[k] = slope_inside(s, w, eps, i + k);
-        k += 1;
     }
     [v, x]
 }
@@ -68,17 +68,16 @@ fn pair_eights(
     requires { (0 < from) × PairLent t u a b (from + 8 * count + 1) (length s.old) }
     ensures { s.new ≡ pairs_inside t u eps a b from (8 * count) s.old }
 {
-    let mut n = 0;
-    while n < count {
+    for n in 0..count {
         let i = from + 8 * n;
-        let v = pair_eight(s, t, u, eps, i);
-        lanes::put_eight(s, a + i, v[0]);
-        lanes::put_eight(s, b + i, v[1]);
-        n += 1;
+        let [v, x] = pair_eight(s, t, u, eps, i);
+        lanes::put_eight(s, a + i, v);
+        lanes::put_eight(s, b + i, x);
     }
 }
 
 // The slopes of two components at n cells, to s from a and from b on: cells and blocks as `slope_cells` has them.
+#[tactic(auto, using(crate::proofs::Statistics::all_less, crate::proofs::Statistics::pair_less, crate::proofs::Statistics::behind_clear, crate::proofs::Statistics::pairs_are, crate::proofs::Statistics::pair_run_is))]
 fn pair_cells(s: &mut [f32], t: Stats, u: Stats, eps: f32, n: usize, a: usize, b: usize)
     requires { PairLent t u a b n (length s.old) }
     ensures { s.new ≡ pair_run t u eps a b n s.old }
@@ -101,7 +100,7 @@ pub fn slope_rows(layout: Layout, j: usize, s: &mut [f32])
 {
     let t = stats_at(layout, Chroma::Cb, j);
     let u = stats_at(layout, Chroma::Cr, j);
-    let a = slopes_at(layout, Chroma::Cb, j);
-    let b = slopes_at(layout, Chroma::Cr, j);
+    let a = row_at(layout, Buffer::Slopes(Chroma::Cb), j);
+    let b = row_at(layout, Buffer::Slopes(Chroma::Cr), j);
     pair_cells(s, t, u, epsilon_of(layout), layout.cw, a, b);
 }

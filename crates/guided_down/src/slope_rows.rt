@@ -5,10 +5,13 @@ ghost use Rattle.guided_down.specs.Inner.Slopes.{slope_inside, slope_run, slopes
 ghost use Rattle.image.specs.Inner.Tests.{Sound};
 ghost use Rattle.image.specs.Scratch.{scratch_need};
 
-use crate::slopes::{Stats, epsilon_of, slope_at, slope_inside, slope_run, slopes_at, stats_at};
+use crate::slopes::{Stats, epsilon_of, slope_at, slope_inside, slope_run, stats_at};
+use guided_window::{Buffer, row_at};
 use image::{Chroma, Layout};
+use lanes::Lanes;
 
 // Inner: the slope at cell i of n, to s from dst + i on.
+#[tactic(auto, using(crate::proofs::Statistics::cell_is))]
 pub fn slope_cell(s: &mut [f32], t: Stats, eps: f32, n: usize, dst: usize, i: usize)
     requires { (i < n) × AllInside t n (length s.old) × (dst + n ≤ length s.old) }
     ensures { s.new ≡ slopes_from t eps n dst i 1 s.old }
@@ -18,37 +21,36 @@ pub fn slope_cell(s: &mut [f32], t: Stats, eps: f32, n: usize, dst: usize, i: us
 }
 
 // The slopes at the eight cells from i on, by value: a block is read before any of it is stored.
-fn slope_eight(s: &[f32], t: Stats, eps: f32, i: usize) -> [f32; 8]
+#[tactic(auto, using(crate::proofs::Statistics::all_less))]
+fn slope_eight(s: &[f32], t: Stats, eps: f32, i: usize) -> [f32; Lanes::CELLS]
     requires { (0 < i) × AllInside t (i + 9) (length s.now) }
     ensures { (k : ℕ) → k < 8 → get_or result k nan ≡ slope_inside s.now t eps (i + k) }
 {
-    let mut v = [0.0; 8];
-    let mut k = 0;
-    while k < 8 {
+    let mut v = [0.0; Lanes::CELLS];
+    for k in 0..Lanes::CELLS {
         v[k] = slope_inside(s, t, eps, i + k);
-        k += 1;
     }
     v
 }
 
 // The slopes at `count` blocks of eight cells from cell `from` on, to s from dst + from on. A block's first cell is a multiple of the
 // counter, which spares an address for each load.
+#[tactic(auto, using(crate::proofs::Statistics::all_less, crate::proofs::Statistics::eights_more), unfolding(laws::specs::Lists::put, crate::specs::Inner::Slopes::slopes_inside))]
 fn slope_eights(s: &mut [f32], t: Stats, eps: f32, from: usize, count: usize, dst: usize)
     requires { (0 < from) × AllInside t (from + 8 * count + 1) (length s.old)
         × Clear t dst (from + 8 * count + 1) × (dst + (from + 8 * count) ≤ length s.old) }
     ensures { s.new ≡ slopes_inside t eps dst from (8 * count) s.old }
 {
-    let mut b = 0;
-    while b < count {
+    for b in 0..count {
         let i = from + 8 * b;
         let v = slope_eight(s, t, eps, i);
         lanes::put_eight(s, dst + i, v);
-        b += 1;
     }
 }
 
 // The slopes at n cells, to s from dst on: the first, blocks of eight, one more block that ends with the last but one and overlaps those
 // before, and the last; fewer than ten one by one.
+#[tactic(auto, using(crate::proofs::Statistics::all_less, crate::proofs::Statistics::clear_less, crate::proofs::Statistics::cells_are))]
 fn slope_cells(s: &mut [f32], t: Stats, eps: f32, n: usize, dst: usize)
     requires { AllInside t n (length s.old) × Clear t dst n × (dst + n ≤ length s.old) }
     ensures { s.new ≡ slope_run t eps dst n s.old }
@@ -69,6 +71,6 @@ pub fn slope_row(layout: Layout, k: Chroma, j: usize, s: &mut [f32])
     ensures { s.new ≡ slope_row layout k j s.old }
 {
     let t = stats_at(layout, k, j);
-    let dst = slopes_at(layout, k, j);
+    let dst = row_at(layout, Buffer::Slopes(k), j);
     slope_cells(s, t, epsilon_of(layout), layout.cw, dst);
 }

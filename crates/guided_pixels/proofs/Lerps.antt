@@ -11,16 +11,7 @@ use Rattle.guided.specs.Guided.{across_to}
 use Rattle.guided.proofs.Taken.{own_column}
 use Rattle.guided_pixels.specs.Inner.Across.{phased}
 
--- rows that are alike in their n cells are lerped alike
-pub phased_same : (g h : ℕ → Float) (n : ℕ) (p : Phase) (i : ℕ) → i < n → ((k : ℕ) → k < n → g k ≡ h k) → phased g n p i ≡ phased h n p i
-unfolding phased
-phased_same g h n p i l e = rw (e (i - 1) (omega arith), e i l, e (min (i + 1) (n - 1)) (omega arith)) refl
-
 -- a pixel's phase is lerped at its own cell
 pub across_is : (l : Layout) (g : ℕ → Float) (x : ℕ) (p : Phase) (v : Float) → p ≡ phase_of l.rh (x % l.rh) → v ≡ phased g l.cw p (x / l.rh) → v ≡ across_to l g x
 unfolding across_to phased
 across_is l g x p v e q = q ∙ ap (λ (u : Phase). phased g l.cw u (x / l.rh)) e
-
-pub across_same : (l : Layout) → Sound l → (g h : ℕ → Float) (x : ℕ) → x < l.w → ((k : ℕ) → k < l.cw → g k ≡ h k) → across_to l g x ≡ across_to l h x
-unfolding across_to phased
-across_same l o g h x k e = phased_same g h l.cw (phase_of l.rh (x % l.rh)) (x / l.rh) (own_column l o x k) e

@@ -5,6 +5,7 @@ pub mod DownLerps
 pub mod Lerps
 pub mod Phases
 pub mod RowSteps
-pub mod Twos
+pub mod LineRows
+pub mod TwoPixels
 pub mod ValuePairs
 pub mod ValueRows

@@ -1,5 +1,5 @@
 -- The pixels of a cell by its phases, and rows cell by cell.
--- `pixel_is` is the heart: pixel k of cell i has quotient i and rest k by the ratio. `Runs` and `Each` are over any run of columns, so that detail and values share them.
+-- `pixel_is` is the heart: pixel k of cell i has quotient i and rest k by the ratio.
 use mathlib.Core.Path.{◌≡◌, refl, sym, ap, ◌∙◌}
 use mathlib.Core.Bool.{Bool, true, false, cond}
 use mathlib.Core.List.{List, [], ◌∷◌}
@@ -71,60 +71,3 @@ cells_inside l o h =
     let b : (n + 1) * l.rh < l.w = (begins l o 0 (n + 1) (omega arith) (omega arith)).across in
     let e : (n + 1) * l.rh ≡ n * l.rh + l.rh = next_row n l.rh in
     omega arith
-
--- ---- rows by runs: `run from n` writes columns from, .. from + n - 1
-
--- what one of no columns leaves, and two of neighbouring columns
-pub record Runs (run : ℕ → ℕ → List Float → List Float) (w : ℕ) : Type 0 where
-  pub none : (from : ℕ) (s : List Float) → run from 0 s ≡ s
-  pub chain : (from m k : ℕ) (s : List Float) → from + m + k ≤ w → run (from + m) k (run from m s) ≡ run from (m + k) s
-
--- ys is xs after the n cells from cell 1 on, of r columns each
-pub record Each (run : ℕ → ℕ → List Float → List Float) (r : ℕ) (xs ys : List Float) (n : ℕ) : Type 0 where
-  pub len : length ys ≡ length xs
-  pub eq : ys ≡ run r (n * r) xs
-
--- cell i + 1 of n + 2 ends inside the row
-pub each_inside : (r w i n : ℕ) → i < n → r + n * r ≤ w → (i + 1) * r + r ≤ w
-each_inside r w i n h k =
-    let a : i * r + r ≤ n * r = row_fits i n r h in
-    let b : (i + 1) * r ≡ i * r + r = next_row i r in
-    omega arith
-
-module _ {run : ℕ → ℕ → List Float → List Float} {w : ℕ} (f : Runs run w) (r : ℕ) where
-  -- a loop over cells: its invariant is `Each`, and its steps are `each_none`, `each_more` and `each_end`
-  pub each_none : (xs : List Float) → Each run r xs xs 0
-  each_none xs = record { len = refl; eq = sym (ap (λ (k : ℕ). run r k xs) (zero-mul r) ∙ f.none r xs) }
-
-  pub each_more : {xs ys : List Float} {n : ℕ} → Each run r xs ys n → (zs : List Float) → length zs ≡ length ys → zs ≡ run ((n + 1) * r) r ys → (n + 1) * r + r ≤ w → Each run r xs zs (n + 1)
-  each_more {xs} {ys} {n} e zs q h k =
-      let a : (n + 1) * r ≡ n * r + r = next_row n r in
-      let b : (n + 1) * r ≡ r + n * r = omega arith in
-      record {
-        len = q ∙ e.len;
-        eq = h ∙ ap (run ((n + 1) * r) r) e.eq ∙ ap (λ (x : ℕ). run x r (run r (n * r) xs)) b ∙ f.chain r (n * r) r xs (omega arith) ∙ ap (λ (m : ℕ). run r m xs) (sym a);
-      }
-
-  -- a row: the first cell's columns, m more, and the rest
-  runs_whole : (m : ℕ) (s : List Float) → r + m ≤ w → run (r + m) (w - (r + m)) (run r m (run 0 r s)) ≡ run 0 w s
-  runs_whole m s h =
-      ap (λ (x : ℕ). run (r + m) (w - (r + m)) (run x m (run 0 r s))) (sym (none_plus r))
-      ∙ ap (run (r + m) (w - (r + m))) (f.chain 0 r m s (omega arith))
-      ∙ ap (λ (x : ℕ). run x (w - (r + m)) (run 0 (r + m) s)) (sym (none_plus (r + m)))
-      ∙ f.chain 0 (r + m) (w - (r + m)) s (omega arith)
-      ∙ ap (λ (k : ℕ). run 0 k s) (part_rest (r + m) w h)
-
-  -- as the callees say that write them
-  pub runs_made : (m : ℕ) (s a b c : List Float) → r + m ≤ w → a ≡ run 0 r s → b ≡ run r m a → c ≡ run (r + m) (w - (r + m)) b → c ≡ run 0 w s
-  runs_made m s a b c h p q t = t ∙ ap (run (r + m) (w - (r + m))) (q ∙ ap (run r m) p) ∙ runs_whole m s h
-
-pub each_end : {run : ℕ → ℕ → List Float → List Float} {r : ℕ} {xs ys : List Float} {n : ℕ} → Each run r xs ys n → (m : ℕ) → n ≤ m → m ≤ n → ys ≡ run r (m * r) xs
-each_end {run} {r} {xs} {ys} {n} e m h g = let q : n ≡ m = omega arith in e.eq ∙ ap (λ (k : ℕ). run r (k * r) xs) q
-
--- ---- cells by the loop of a ratio that has its own
-
-pub ratio_inside : (r q n w : ℕ) → r ≡ q → r + n * r ≤ w → q + n * q ≤ w
-ratio_inside r q n w e h = rw e at h
-
-pub ratio_run : (run : ℕ → ℕ → List Float → List Float) (r q n m : ℕ) (s : List Float) → r ≡ q → m ≡ n * q → run q m s ≡ run r (n * r) s
-ratio_run run r q n m s e h = rw (e, h) refl

@@ -14,22 +14,18 @@ use Rattle.image.specs.Picture.{Planes}
 use Rattle.image.proofs.Pictures.{inside_is}
 use Rattle.image.specs.Scratch.{cell_at}
 use Rattle.guided.specs.Guided.{detail_of}
-use Rattle.guided.specs.Scratch.{first_of, first_down, column_at, detail_at, read_stored, read_across, read_down, luma_column, detail_row, component_columns, finished_row, components_over}
-use Rattle.guided_pixels.specs.Inner.Columns.{down_column, down_result}
+use Rattle.guided_window.specs.declared.buffers.Buffer.TheVariants.{Luma}
+use Rattle.guided.specs.Scratch.{column_at, detail_at, read_stored, read_across, read_down, luma_column, detail_row, component_columns, finished_row, components_over}
+use Rattle.guided_pixels.specs.Inner.Columns.{down_row}
 use Rattle.guided_pixels.specs.Inner.Pixels.{detail_line}
 use Rattle.guided_pixels.specs.Inner.Row.{down_columns, component_row, window_row}
 use Rattle.guided_pixels.specs.Inner.Values.{inputs_of, value_at, value_row}
 
--- a component's rows lerped down, by the numbers of its first row and its first result
-pub down_columns_are : (l : Layout) (k : Chroma) (y n m : ℕ) (s : List Float) → n ≡ first_of k → m ≡ first_down k → down_result l m 1 y (down_column l n 0 y s) ≡ down_columns l k y s
-unfolding down_columns
-down_columns_are l k y n m s p q = rw (p, q) refl
-
 -- ---- the picture's samples
 
 module _ (l : Layout) (ps : Planes) (y : ℕ) where
-  pub luma_is : (s : List Float) → down_column l 0 0 y s ≡ luma_column (picture_of l ps) y s
-  unfolding down_column luma_column read_across read_stored picture_of
+  pub luma_is : (s : List Float) → down_row l Luma 0 y s ≡ luma_column (picture_of l ps) y s
+  unfolding down_row luma_column read_across read_stored picture_of
   luma_is s = refl
 
   pub detail_row_is : (s : List Float) → y < l.h → detail_line l ps.y y s ≡ detail_row (picture_of l ps) y s
@@ -38,12 +34,12 @@ module _ (l : Layout) (ps : Planes) (y : ℕ) where
       put_same s (detail_at l) l.w _ _ (λ x k. ap (λ (n : ℕ). detail_of l (cell_at s (column_at l 0)) (f32 n) x) (sym (inside_is l.w l.h (sample_at l.sample_bytes ps.y) x y k h)))
 
   pub component_is : (k : Chroma) (s : List Float) → component_row l k y s ≡ finished_row (picture_of l ps) k y (component_columns (picture_of l ps) k y s)
-  unfolding component_row down_columns down_column down_result value_row value_at inputs_of finished_row component_columns read_across read_stored read_down picture_of
+  unfolding component_row down_columns down_row value_row value_at inputs_of finished_row component_columns read_across read_stored read_down picture_of
   component_is k s = refl
 
   -- ---- the whole row, from what each step leaves
 
-  module _ (h : y < l.h) (s0 s1 s2 s3 : List Float) (a : s1 ≡ down_column l 0 0 y s0) (b : s2 ≡ detail_line l ps.y y s1) (c : s3 ≡ component_row l Cb y s2) where
+  module _ (h : y < l.h) (s0 s1 s2 s3 : List Float) (a : s1 ≡ down_row l Luma 0 y s0) (b : s2 ≡ detail_line l ps.y y s1) (c : s3 ≡ component_row l Cb y s2) where
     front : s2 ≡ detail_row (picture_of l ps) y (luma_column (picture_of l ps) y s0)
     front = b ∙ detail_row_is s1 h ∙ ap (detail_row (picture_of l ps) y) (a ∙ luma_is s0)
 

@@ -5,16 +5,11 @@ use native.Mathlib.Omega.{arith}
 use lib.Ieee.{Float}
 use Rattle.laws.specs.Floats.{◌⊕◌, ◌⊗◌}
 use Rattle.image.specs.declared.layout.Layout.{Layout}
-use Rattle.image.specs.Inner.Tests.{Sound}
 use Rattle.guided.specs.Guided.{value_of}
-use Rattle.guided_pixels.specs.declared.value_inputs.ValueInputs.{ValueInputs}
 use Rattle.guided_pixels.specs.declared.pairs.Pair.{Pair}
 use Rattle.fround.specs.Rounding.{fmin, fmax}
 use Rattle.guided_pixels.specs.Inner.Across.{pair_of}
-use Rattle.guided_pixels.proofs.Twos.{pair_left, pair_right, runs_by}
-use Rattle.guided_pixels.specs.Inner.Values.{InputsInside, value_at, value_run}
-use Rattle.guided_pixels.proofs.ValueRows.{value_same}
-use Rattle.guided_pixels.proofs.Phases.{Runs}
+use Rattle.guided_pixels.proofs.TwoPixels.{pair_left, pair_right}
 
 module _ (l : Layout) (gc ga lo hi : ℕ → Float) (d : Float) (i : ℕ) (c a : Pair) (v : Float) (e : l.rh ≡ 2) (p : c ≡ pair_of gc i) (q : a ≡ pair_of ga i) where
   pub value_left : v ≡ fmin (fmax (c.left ⊕ a.left ⊗ d) (lo (i + 1))) (hi (i + 1)) → v ≡ value_of l gc ga lo hi d (2 + 2 * i)
@@ -28,7 +23,3 @@ module _ (l : Layout) (gc ga lo hi : ℕ → Float) (d : Float) (i : ℕ) (c a :
   value_right k r =
       let n : (2 + (2 * i + 1)) / 2 ≡ i + 1 = omega arith in
       r ∙ rw (pair_right l gc i c e k p, pair_right l ga i a e k q, ap (λ (k : ℕ). (2 + (2 * i + 1)) / k) e ∙ n) refl
-
-pub value_runs : (l : Layout) (o : Sound l) (t : ValueInputs) (len dst : ℕ) → InputsInside t (3 * l.w) l.cw len → dst ≤ l.w → Runs (value_run l t dst) l.w
-unfolding value_run
-value_runs l o t len dst b h = runs_by (λ s x. value_at l s t x) (2 * l.w) dst l.w (omega arith) (λ xs ys e i r. value_same l o t xs ys len i b r e)

@@ -3,3 +3,5 @@ pub mod Columns
 pub mod Pixels
 pub mod Row
 pub mod Values
+pub mod Laws
+pub mod Lines

@@ -11,6 +11,7 @@ use image::Layout;
 use taps::Phase;
 
 // Cell i of the cw cells at src, lerped across by a phase: towards the left neighbour or the right one, edges repeated.
+#[tactic(auto, unfolding(crate::specs::Inner::Across::phased))]
 fn across_at(s: &[f32], src: usize, cw: usize, p: Phase, i: usize) -> f32
     requires { (i < cw) × (src + cw ≤ length s.now) }
     ensures { result ≡ phased (cell_at s.now src) cw p i }
@@ -24,6 +25,7 @@ fn across_at(s: &[f32], src: usize, cw: usize, p: Phase, i: usize) -> f32
 }
 
 // Inner: what the cells at src lerp to in column x, by the pixel's phase within its cell.
+#[tactic(auto, using(crate::proofs::Lerps::across_is, guided::proofs::Taken::own_column))]
 pub fn across_pixel(layout: Layout, s: &[f32], src: usize, x: usize) -> f32
     requires { Sound layout × (x < layout.w) × (src + layout.cw ≤ length s.now) }
     ensures { result ≡ across_to layout (cell_at s.now src) x }
@@ -37,10 +39,7 @@ fn start_of(p: Phase, i: usize) -> usize
     requires { 0 < i }
     ensures { (result ≡ cond p.left (i - 1) i) × (result ≤ i) }
 {
-    if p.left {
-        return i - 1;
-    }
-    i
+    if p.left { i - 1 } else { i }
 }
 
 // Cell i of the cells at src, which has both neighbours, lerped across by a phase: no edge is looked at.

@@ -9,34 +9,24 @@ ghost use Rattle.guided_across.specs.Inner.Luma.{LumaPixels};
 ghost use Rattle.guided_window.specs.Inner.Lent.{components_of};
 ghost use Rattle.guided_pixels.specs.Inner.Row.{down_columns, component_row, window_row};
 
-use crate::columns::{RowOfCells, down_column, down_result};
+use crate::columns::{RowOfCells, down_row};
 use crate::details::detail_row;
 use crate::values::value_row;
-use guided_window::LumaBuffer;
+use guided_window::Buffer;
 use image::{Chroma, Components, Layout};
 
 // A component's samples and slopes, lerped down for row y into its two rows of cells.
+#[tactic(auto, unfolding(crate::specs::Inner::Row::down_columns))]
 fn down_columns(layout: Layout, k: Chroma, y: usize, s: &mut [f32])
     requires { Sound layout × (y < layout.h) × (scratch_need layout ≤ length s.old) }
     ensures { s.new ≡ down_columns layout k y s.old }
 {
-    down_column(
-        layout,
-        guided_window::first_of(k),
-        RowOfCells::SAMPLES,
-        y,
-        s,
-    );
-    down_result(
-        layout,
-        guided_window::result_of(k),
-        RowOfCells::SLOPES,
-        y,
-        s,
-    );
+    down_row(layout, Buffer::Cells(k), RowOfCells::Samples, y, s);
+    down_row(layout, Buffer::Slopes(k), RowOfCells::Slopes, y, s);
 }
 
 // A component's rows of cells of row y, and its finished row made of them.
+#[tactic(auto, unfolding(crate::specs::Inner::Row::component_row))]
 fn component(layout: Layout, k: Chroma, y: usize, s: &mut [f32])
     requires { Sound layout × (y < layout.h) × (scratch_need layout ≤ length s.old) }
     ensures { s.new ≡ component_row layout k y s.old }
@@ -61,7 +51,7 @@ pub fn guided_row(
         (picture_of layout (record { y = plane_of y.entry.now y_stride; cb = cb; cr = cr }))
         (components_of components) row s.old }
 {
-    down_column(layout, LumaBuffer::CELL, RowOfCells::SAMPLES, row, s);
+    down_row(layout, Buffer::Luma, RowOfCells::Samples, row, s);
     detail_row(layout, y, y_stride, row, s);
     component(layout, Chroma::Cb, row, s);
     let Components::Both = components else {

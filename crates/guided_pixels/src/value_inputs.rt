@@ -6,7 +6,7 @@ ghost use Rattle.guided.specs.Scratch.{finished_at};
 ghost use Rattle.guided_pixels.specs.Inner.Values.{inputs_of};
 
 use crate::columns::{RowOfCells, column_at};
-use guided_window::ResultBuffer;
+use guided_window::{Buffer, row_at};
 use image::{Chroma, Layout};
 
 // Where the rows begin that a component's values are made of: its cells and slopes, lerped down for a picture row, and the least and
@@ -17,6 +17,15 @@ pub struct ValueInputs {
     pub slopes: usize,
     pub least: usize,
     pub greatest: usize,
+}
+
+// A cell of a component, lerped across in each of its pixels, and its limits.
+#[derive(Clone, Copy)]
+pub struct ValueCell {
+    pub cells: [f32; 4],
+    pub slopes: [f32; 4],
+    pub least: f32,
+    pub greatest: f32,
 }
 
 // Inner: where a component's finished row begins in scratch: Cb's at its beginning, Cr's behind it.
@@ -30,16 +39,16 @@ pub fn finished_at(layout: Layout, k: Chroma) -> usize
 }
 
 // Inner: where the rows begin that a component's values in the cells of chroma row j are made of.
+#[tactic(auto, unfolding(crate::specs::Inner::Values::inputs_of))]
 pub fn inputs_of(layout: Layout, k: Chroma, j: usize) -> ValueInputs
     requires { Sound layout }
     ensures { result ≡ inputs_of layout k j }
 {
-    let n = guided_window::result_of(k);
     ValueInputs {
-        cells: column_at(layout, RowOfCells::SAMPLES),
-        slopes: column_at(layout, RowOfCells::SLOPES),
-        least: guided_window::result_at(layout, n + ResultBuffer::LEAST, j),
-        greatest: guided_window::result_at(layout, n + ResultBuffer::GREATEST, j),
+        cells: column_at(layout, RowOfCells::Samples),
+        slopes: column_at(layout, RowOfCells::Slopes),
+        least: row_at(layout, Buffer::Least(k), j),
+        greatest: row_at(layout, Buffer::Greatest(k), j),
     }
 }
 

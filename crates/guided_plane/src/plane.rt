@@ -108,11 +108,8 @@ fn plane_rows(
         (picture_with layout (plane_of y.now y_stride) (plane_of c.now c_stride))
         (Cb ∷ []) 0 layout.h s.old }
 {
-    let h = layout.h;
-    let mut row = 0;
-    while row < h {
+    for row in 0..layout.h {
         plane_row(layout, y, y_stride, c, c_stride, row, s, out);
-        row += 1;
     }
 }
 

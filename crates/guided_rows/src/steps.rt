@@ -1,5 +1,5 @@
 // Catching up: the chroma rows that a picture row needs, summed across and finished in turn.
-ghost use Rattle.std.specs.Prelude.{◌≡◌, ◌+◌, ◌-◌, ◌≤◌, ◌<◌, max, length};
+ghost use Rattle.std.specs.Prelude.{◌≡◌, ◌+◌, ◌-◌, ◌≤◌, ◌<◌, length};
 ghost use Rattle.image.specs.Inner.Tests.{Sound};
 ghost use Rattle.image.specs.Picture.{picture_of, planes_of};
 ghost use Rattle.image.specs.Scratch.{scratch_need};
@@ -31,17 +31,9 @@ fn across_rows(
         (picture_of layout (planes_of y.now cb.now cr.now strides))
         (components_of components) from (to - from) s.old }
 {
-    let mut j = from;
-    while j < to {
+    for j in from..to {
         guided_across::horizontal(layout, y, cb, cr, strides, components, j, s);
-        j += 1;
     }
-}
-
-fn greatest(a: usize, b: usize) -> usize
-    ensures { result ≡ max a b }
-{
-    if a < b { b } else { a }
 }
 
 // Inner: finishes the chroma rows f, .. to - 1, h being the next row to sum across. Before a row is finished the rows round it are
@@ -64,15 +56,12 @@ pub fn catch_up(
         (picture_of layout (planes_of y.now cb.now cr.now strides))
         (components_of components) h f (to - f) s.old }
 {
-    let ch = layout.ch;
     let mut h_next = h;
-    let mut j = f;
-    while j < to {
-        let end = laws::least(j + 2, ch);
+    for j in f..to {
+        let end = (j + 2).min(layout.ch);
         across_rows(layout, y, cb, cr, strides, components, h_next, end, s);
         finish(layout, cb, cr, strides, components, j, s);
-        h_next = greatest(h_next, end);
-        j += 1;
+        h_next = h_next.max(end);
     }
 }
 

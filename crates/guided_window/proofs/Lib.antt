@@ -1,2 +1,3 @@
--- A law that a proof cites.
-mod Windows
+-- Laws that proofs cite.
+pub mod Puts
+pub mod Windows

@@ -1,13 +1,13 @@
 // Where the row buffers of the window lie in scratch.
-ghost use Rattle.std.specs.Prelude.{◌≡◌, ◌≤◌, ◌<◌};
+ghost use Rattle.std.specs.Prelude.{◌≡◌, ◌+◌, ◌^◌, ◌≤◌, ◌<◌};
 ghost use Rattle.image.specs.Inner.Tests.{Sound};
 ghost use Rattle.guided.specs.Scratch.{pitch, first_of, first_down};
-ghost use Rattle.guided_window.specs.Inner.Buffers.{BufferGiven, SlotGiven, ResultGiven, window_of};
+ghost use Rattle.guided_window.specs.Inner.Buffers.{BufferGiven, SlotGiven, ResultGiven, RowGiven, window_of, on};
 
 use crate::neighbours::{next, prev};
 use image::{Chroma, Layout};
 
-// Where one of the row buffers begins for chroma rows r - 1, r and r + 1, edges repeated.
+// Where a row begins for chroma rows r - 1, r and r + 1, edges repeated: one of the row buffers, or a row of a plane.
 #[derive(Clone, Copy)]
 pub struct Window {
     pub up: usize,
@@ -16,6 +16,18 @@ pub struct Window {
 }
 
 impl Window {
+    // The places n further on in these rows.
+    pub fn on(self, n: usize) -> Window
+        requires { (self.up + n < 2 ^ 64) × (self.at + n < 2 ^ 64) × (self.down + n < 2 ^ 64) }
+        ensures { result ≡ on self n }
+    {
+        Window {
+            up: self.up + n,
+            at: self.at + n,
+            down: self.down + n,
+        }
+    }
+
     // The buffers of a slot, which holds what is stored of one chroma row across: three of luma and two of each component.
     pub const SLOT: usize = 7;
 
@@ -35,42 +47,25 @@ impl Window {
     pub const FRONT: usize = 3;
 }
 
-// The buffers of a slot that are luma's, by their number in it.
+// What the window holds of a chroma row, a row buffer each: what is stored across, then what is made down.
 #[derive(Clone, Copy)]
-pub struct LumaBuffer;
-
-impl LumaBuffer {
-    pub const CELL: usize = 0;
-
-    pub const SUM: usize = 1;
-
-    pub const SQUARE_SUM: usize = 2;
-}
-
-// The buffers of a slot that are a component's, counted from its first, which `first_of` gives.
-#[derive(Clone, Copy)]
-pub struct ChromaBuffer;
-
-impl ChromaBuffer {
-    pub const CELL: usize = 0;
-
-    pub const PRODUCT_SUM: usize = 1;
-}
-
-// A component's results, counted from its first, which `result_of` gives.
-#[derive(Clone, Copy)]
-pub struct ResultBuffer;
-
-impl ResultBuffer {
-    pub const SLOPE: usize = 0;
-
-    pub const LEAST: usize = 1;
-
-    pub const GREATEST: usize = 2;
+pub enum Buffer {
+    // Luma's cells, the sums of three of them, and the sums of three of their squares.
+    Luma,
+    LumaSums,
+    SquareSums,
+    // A component's cells, and the sums of three of its products with luma.
+    Cells(Chroma),
+    ProductSums(Chroma),
+    // A component's slopes, and the least and the greatest sample round each cell.
+    Slopes(Chroma),
+    Least(Chroma),
+    Greatest(Chroma),
 }
 
 // How far apart row buffers begin. Rows of 256 cells and more are padded, so that they don't fall on the same lines of a cache: by 48
 // values, or by what scratch leaves to each of the 35 buffers.
+#[tactic(auto, unfolding(guided::specs::Scratch::pitch))]
 fn pitch_of(layout: Layout) -> usize
     requires { Sound layout }
     ensures { result ≡ pitch layout }
@@ -79,11 +74,11 @@ fn pitch_of(layout: Layout) -> usize
     if cw < 256 {
         return cw;
     }
-    cw + laws::least(48, (5 * layout.w - 3 * cw) / 35)
+    cw + ((5 * layout.w - 3 * cw) / 35).min(48)
 }
 
-// Inner: the number of a component's first row buffer in a slot: luma's three come first, then Cb's two, then Cr's.
-pub fn first_of(k: Chroma) -> usize
+// The number of a component's first row buffer in a slot: luma's three come first, then Cb's two, then Cr's.
+fn first_of(k: Chroma) -> usize
     ensures { (result ≡ first_of k) × (result ≤ 5) }
 {
     match k {
@@ -92,8 +87,8 @@ pub fn first_of(k: Chroma) -> usize
     }
 }
 
-// Inner: the number of a component's first result: Cb's three come first.
-pub fn result_of(k: Chroma) -> usize
+// The number of a component's first result: Cb's three come first.
+fn result_of(k: Chroma) -> usize
     ensures { (result ≡ first_down k) × (result ≤ 3) }
 {
     match k {
@@ -103,6 +98,7 @@ pub fn result_of(k: Chroma) -> usize
 }
 
 // Inner: where row buffer n begins in scratch: behind the window's stand two more, for the picture row at hand.
+#[tactic(auto, using(crate::proofs::Windows::buffer_room), unfolding(guided::specs::Scratch::buffer_at, image::specs::Scratch::scratch_need))]
 pub fn buffer_at(layout: Layout, n: usize) -> usize
     requires { Sound layout × (n < 35) }
     ensures { BufferGiven layout n result }
@@ -110,30 +106,50 @@ pub fn buffer_at(layout: Layout, n: usize) -> usize
     Window::FRONT * layout.w + n * pitch_of(layout)
 }
 
-// Inner: where buffer n of chroma row r begins in scratch: the row lies in slot r mod 3.
-pub fn slot_at(layout: Layout, n: usize, r: usize) -> usize
+// Where buffer n of chroma row r begins in scratch: the row lies in slot r mod 3.
+#[tactic(auto, unfolding(guided::specs::Scratch::slot_at))]
+fn slot_at(layout: Layout, n: usize, r: usize) -> usize
     requires { Sound layout × (n < 7) }
     ensures { SlotGiven layout n r result }
 {
     buffer_at(layout, r % 3 * Window::SLOT + n)
 }
 
-// Inner: where result n of chroma row r begins in scratch: a picture row reads two chroma rows' results, row r's in slot r mod 2.
-pub fn result_at(layout: Layout, n: usize, r: usize) -> usize
+// Where result n of chroma row r begins in scratch: a picture row reads two chroma rows' results, row r's in slot r mod 2.
+#[tactic(auto, unfolding(guided::specs::Scratch::result_at))]
+fn result_at(layout: Layout, n: usize, r: usize) -> usize
     requires { Sound layout × (n < 6) }
     ensures { ResultGiven layout n r result }
 {
     buffer_at(layout, Window::RESULTS + (r % 2 * Window::RESULT_SLOT + n))
 }
 
-// Inner: where buffer n begins for chroma row j and the rows above and below it, edges repeated.
-pub fn window_at(layout: Layout, n: usize, j: usize) -> Window
-    requires { Sound layout × (n < 7) × (j < layout.ch) }
-    ensures { result ≡ window_of layout n j }
+// Inner: where a buffer of chroma row r begins in scratch.
+pub fn row_at(layout: Layout, buffer: Buffer, r: usize) -> usize
+    requires { Sound layout }
+    ensures { RowGiven layout buffer r result }
+{
+    match buffer {
+        Buffer::Luma => slot_at(layout, 0, r),
+        Buffer::LumaSums => slot_at(layout, 1, r),
+        Buffer::SquareSums => slot_at(layout, 2, r),
+        Buffer::Cells(k) => slot_at(layout, first_of(k), r),
+        Buffer::ProductSums(k) => slot_at(layout, first_of(k) + 1, r),
+        Buffer::Slopes(k) => result_at(layout, result_of(k), r),
+        Buffer::Least(k) => result_at(layout, result_of(k) + 1, r),
+        Buffer::Greatest(k) => result_at(layout, result_of(k) + 2, r),
+    }
+}
+
+// Inner: where a buffer begins for chroma row j and the rows above and below it, edges repeated.
+#[tactic(auto, unfolding(crate::specs::Inner::Buffers::window_of))]
+pub fn window_at(layout: Layout, buffer: Buffer, j: usize) -> Window
+    requires { Sound layout × (j < layout.ch) }
+    ensures { result ≡ window_of layout buffer j }
 {
     Window {
-        up: slot_at(layout, n, prev(j)),
-        at: slot_at(layout, n, j),
-        down: slot_at(layout, n, next(j, layout.ch)),
+        up: row_at(layout, buffer, prev(j)),
+        at: row_at(layout, buffer, j),
+        down: row_at(layout, buffer, next(j, layout.ch)),
     }
 }

@@ -5,7 +5,7 @@ ghost use Rattle.std.specs.Prelude.{◌≡◌, ◌+◌, ◌-◌, ◌<◌, min};
 pub fn prev(i: usize) -> usize
     ensures { result ≡ i - 1 }
 {
-    if i == 0 { 0 } else { i - 1 }
+    i.saturating_sub(1)
 }
 
 // Inner: the cell after cell i of n, which is the last one itself at the end.
@@ -13,5 +13,5 @@ pub fn next(i: usize, n: usize) -> usize
     requires { i < n }
     ensures { result ≡ min (i + 1) (n - 1) }
 {
-    if i + 1 < n { i + 1 } else { i }
+    (i + 1).min(n - 1)
 }

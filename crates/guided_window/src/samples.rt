@@ -8,6 +8,7 @@ ghost use Rattle.image.specs.Picture.{short_plane};
 use image::Layout;
 
 // Inner: the sample in column x of row y of a plane of w columns and h rows, as a whole number.
+#[tactic(auto, using(crate::proofs::Windows::whole_inside), unfolding(image::specs::Samples::sample_at))]
 pub fn whole_at(
     layout: Layout,
     plane: &[u8],
@@ -37,5 +38,5 @@ pub fn sample_at(
     requires { Sound layout × (short_plane layout w h (plane_of plane.now stride) ≡ false) × (x < w) × (y < h) }
     ensures { result ≡ f32 (sample_at layout.sample_bytes (plane_of plane.now stride) y x) }
 {
-    whole_at(layout, plane, stride, w, h, x, y) as f32
+    f32::from(whole_at(layout, plane, stride, w, h, x, y))
 }

@@ -1,22 +1,12 @@
 -- The steps of a chroma row over lent scratch, as the inner functions' contracts say them. Definitions only.
-use Rattle.std.specs.Prelude.{◌≡◌, List, ℕ, ◌+◌, ◌≤◌, Float}
+use Rattle.std.specs.Prelude.{List, ℕ, ◌+◌, Float}
 use Rattle.laws.specs.Floats.{f32, ◌⊕◌, ◌⊗◌}
 use Rattle.laws.specs.Lists.{put}
 use Rattle.image.specs.declared.layout.Layout.{Layout}
 use Rattle.image.specs.declared.chroma.Chroma.{Chroma}
-use Rattle.image.specs.Scratch.{scratch_need, cell_at}
+use Rattle.image.specs.Scratch.{cell_at}
 use Rattle.guided.specs.Guided.{three, luma_of}
 use Rattle.guided.specs.Scratch.{slot_at, first_of}
-use Rattle.guided_across.specs.declared.across.LumaRows.{LumaRows}
-
--- what `luma_rows_at` promises: luma's three buffers of chroma row j, apart and within scratch
-pub record LumaRowsGiven (l : Layout) (j : ℕ) (t : LumaRows) : Type 0 where
-  pub at : t.at ≡ slot_at l 0 j
-  pub sums : t.sums ≡ slot_at l 1 j
-  pub squares : t.squares ≡ slot_at l 2 j
-  pub sums_behind : t.at + l.cw ≤ t.sums
-  pub squares_behind : t.sums + l.cw ≤ t.squares
-  pub fits : t.squares + l.cw ≤ scratch_need l
 
 -- luma's cells f of chroma row j, their sums, and the sums of their squares, put into luma's buffers
 unfoldable pub stat_rows : Layout → (ℕ → Float) → ℕ → List Float → List Float

@@ -1,5 +1,6 @@
 -- The steps of a chroma row's sums over lent scratch, as the inner functions' contracts say them. Definitions only.
-use Rattle.std.specs.Prelude.{List, ℕ, ◌+◌, ◌*◌, Float}
+use Rattle.std.specs.Prelude.{◌≡◌, List, ℕ, ◌+◌, ◌*◌, ◌<◌, Float, get_or}
+use Rattle.std.specs.Float.{nan}
 use Rattle.laws.specs.Floats.{f32, ◌⊕◌, ◌⊗◌}
 use Rattle.laws.specs.Lists.{put}
 use Rattle.image.specs.Samples.{sample_of}
@@ -25,3 +26,7 @@ three_run g n dst from m s = put s (dst + from) m (λ i. three ◌⊕◌ n (g s)
 -- all n sums of three neighbours, edges repeated, put at dst
 unfoldable pub three_row : (List Float → ℕ → Float) → ℕ → ℕ → List Float → List Float
 three_row g n dst s = put s dst n (three ◌⊕◌ n (g s))
+
+-- what is summed is made of what lies before dst: what is stored behind leaves it
+pub record Behind (g : List Float → ℕ → Float) (n dst : ℕ) : Type 0 where
+  pub keeps : (xs ys : List Float) → ((k : ℕ) → k < dst → get_or ys k nan ≡ get_or xs k nan) → (i : ℕ) → i < n → g ys i ≡ g xs i

@@ -8,9 +8,10 @@ use Rattle.image.specs.declared.layout.Layout.{Layout}
 use Rattle.image.specs.declared.chroma.Chroma.{Chroma}
 use Rattle.image.specs.declared.chroma.Chroma.TheVariants.{Cb, Cr}
 use Rattle.guided.specs.Guided.{three, slope_of}
-use Rattle.guided.specs.Scratch.{result_at, LumaSums, SquareSums, Cells, ProductSums, Slope, num_stored, num_down, read_across}
+use Rattle.guided.specs.Scratch.{result_at, Slope, num_down, read_across}
 use Rattle.guided_window.specs.Inner.Buffers.{window_of}
 use Rattle.guided_window.specs.declared.buffers.Window.{Window}
+use Rattle.guided_window.specs.declared.buffers.Buffer.TheVariants.{LumaSums, SquareSums, Cells, ProductSums}
 use Rattle.guided_down.specs.declared.slopes.Stats.{Stats}
 
 -- "D = max(mean yy − my·my, 0) + eps. Slope a = (mean yc − my·mc)/D.", by the means
@@ -42,6 +43,16 @@ mean_inside s t i = (sum_inside s t.up i ⊕ sum_inside s t.at i ⊕ sum_inside 
 
 unfoldable pub slope_inside : List Float → Stats → Float → ℕ → Float
 slope_inside s t eps i = slope_with s t eps (mean_inside s t.c i) i
+
+-- the same of a cell i whose neighbours across are l and r
+unfoldable pub sum_round : List Float → ℕ → ℕ → ℕ → ℕ → Float
+sum_round s src l i r = cell_at s src l ⊕ cell_at s src i ⊕ cell_at s src r
+
+unfoldable pub mean_round : List Float → Window → ℕ → ℕ → ℕ → Float
+mean_round s t l i r = (sum_round s t.up l i r ⊕ sum_round s t.at l i r ⊕ sum_round s t.down l i r) ⊗ (f32 1 ⊘ f32 9)
+
+unfoldable pub slope_round : List Float → Stats → Float → ℕ → ℕ → ℕ → Float
+slope_round s t eps l i r = slope_with s t eps (mean_round s t.c l i r) i
 
 -- the slopes at n cells, put at dst
 unfoldable pub slope_run : Stats → Float → ℕ → ℕ → List Float → List Float
@@ -112,10 +123,10 @@ pairs_inside t u eps a b i m s = put (put s (a + i) m (λ k. slope_inside s t ep
 -- the sums round chroma row j that a component's slopes are made of
 unfoldable pub stats_of : Layout → Chroma → ℕ → Stats
 stats_of l k j = record {
-  y = window_of l (num_stored LumaSums) j;
-  yy = window_of l (num_stored SquareSums) j;
-  c = window_of l (num_stored (Cells k)) j;
-  yc = window_of l (num_stored (ProductSums k)) j;
+  y = window_of l LumaSums j;
+  yy = window_of l SquareSums j;
+  c = window_of l (Cells k) j;
+  yc = window_of l (ProductSums k) j;
 }
 
 -- a component's slopes of chroma row j, put into their buffer

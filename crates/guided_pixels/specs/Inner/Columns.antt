@@ -5,7 +5,16 @@ use Rattle.image.specs.declared.layout.Layout.{Layout}
 use Rattle.taps.specs.Taps.{lerp_of}
 use Rattle.image.specs.Scratch.{scratch_need, cell_at}
 use Rattle.guided.specs.Guided.{down_to}
-use Rattle.guided.specs.Scratch.{slot_at, result_at, column_at}
+use Rattle.guided.specs.Scratch.{column_at}
+use Rattle.guided_window.specs.declared.buffers.Buffer.{Buffer}
+use Rattle.guided_window.specs.Inner.Buffers.{row_at}
+use Rattle.guided_pixels.specs.declared.columns.RowOfCells.{RowOfCells}
+use Rattle.guided_pixels.specs.declared.columns.RowOfCells.TheVariants.{Samples, Slopes}
+
+-- a row of cells by its number
+abbrev pub num_row : RowOfCells → ℕ
+num_row Samples = 0
+num_row Slopes = 1
 
 -- the n cells at a and at b, lerped by f, put at dst
 unfoldable pub lerp_run : ℕ → ℕ → Float → ℕ → ℕ → List Float → List Float
@@ -16,10 +25,6 @@ pub record ColumnGiven (l : Layout) (m at : ℕ) : Type 0 where
   pub is : at ≡ column_at l m
   pub fits : at + l.cw ≤ scratch_need l
 
--- buffer n of the window, lerped down for picture row y, put into row of cells m
-unfoldable pub down_column : Layout → ℕ → ℕ → ℕ → List Float → List Float
-down_column l n m y s = put s (column_at l m) l.cw (down_to l (λ r i. cell_at s (slot_at l n r) i) y)
-
--- and result n of it
-unfoldable pub down_result : Layout → ℕ → ℕ → ℕ → List Float → List Float
-down_result l n m y s = put s (column_at l m) l.cw (down_to l (λ r i. cell_at s (result_at l n r) i) y)
+-- a buffer of the window, lerped down for picture row y, put into row of cells m
+unfoldable pub down_row : Layout → Buffer → ℕ → ℕ → List Float → List Float
+down_row l b m y s = put s (column_at l m) l.cw (down_to l (λ r i. cell_at s (row_at l b r) i) y)

@@ -12,10 +12,6 @@ use Rattle.guided.specs.Scratch.{detail_at, column_at}
 abbrev pub detail_in : Layout → Plane → ℕ → List Float → ℕ → ℕ → Float
 detail_in l p y s src x = detail_of l (cell_at s src) (f32 (sample_at l.sample_bytes p y x)) x
 
--- the detail of columns from, .. from + n - 1 of row y, put at dst + from
-unfoldable pub detail_run : Layout → Plane → ℕ → ℕ → ℕ → ℕ → ℕ → List Float → List Float
-detail_run l p y src dst from n s = put s (dst + from) n (λ i. detail_in l p y s src (from + i))
-
 -- the detail of all columns of row y by luma's row of cells, put where the detail lies
 unfoldable pub detail_line : Layout → Plane → ℕ → List Float → List Float
 detail_line l p y s = put s (detail_at l) l.w (λ x. detail_of l (cell_at s (column_at l 0)) (f32 (sample_at l.sample_bytes p y x)) x)

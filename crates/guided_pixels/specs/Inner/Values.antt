@@ -1,12 +1,14 @@
 -- A component's values over lent scratch, as the inner functions' contracts say them. Definitions only.
-use Rattle.std.specs.Prelude.{List, ℕ, ◌+◌, ◌≤◌, Float}
+use Rattle.std.specs.Prelude.{◌≡◌, List, ℕ, ◌+◌, ◌*◌, ◌≤◌, ◌<◌, Float, get_or}
+use Rattle.std.specs.Float.{nan}
 use Rattle.laws.specs.Lists.{put}
 use Rattle.image.specs.declared.layout.Layout.{Layout}
 use Rattle.image.specs.declared.chroma.Chroma.{Chroma}
 use Rattle.image.specs.Scratch.{cell_at}
-use Rattle.guided.specs.Guided.{value_of}
+use Rattle.guided.specs.Guided.{across_to, value_of}
 use Rattle.guided.specs.Scratch.{detail_at, finished_at, result_at, Least, Greatest, num_down, column_at}
 use Rattle.guided_pixels.specs.declared.value_inputs.ValueInputs.{ValueInputs}
+use Rattle.guided_pixels.specs.declared.value_inputs.ValueCell.{ValueCell}
 
 -- where the rows begin that a component's values in chroma row j are made of: the two rows of cells, and its extremes
 unfoldable pub inputs_of : Layout → Chroma → ℕ → ValueInputs
@@ -28,9 +30,12 @@ pub record InputsInside (t : ValueInputs) (low n len : ℕ) : Type 0 where
 unfoldable pub value_at : Layout → List Float → ValueInputs → ℕ → Float
 value_at l s t x = value_of l (cell_at s t.cells) (cell_at s t.slopes) (cell_at s t.least) (cell_at s t.greatest) (cell_at s (detail_at l) x) x
 
--- a component's values in columns from, .. from + n - 1, put at dst + from
-unfoldable pub value_run : Layout → ValueInputs → ℕ → ℕ → ℕ → List Float → List Float
-value_run l t dst from n s = put s (dst + from) n (λ i. value_at l s t (from + i))
+-- what is known of cell i that was lerped: its pixels' cells and slopes, and its limits
+pub record CellGiven (l : Layout) (t : ValueInputs) (s : List Float) (i : ℕ) (c : ValueCell) : Type 0 where
+  pub cells : (k : ℕ) → k < l.rh → get_or c.cells k nan ≡ across_to l (cell_at s t.cells) (i * l.rh + k)
+  pub slopes : (k : ℕ) → k < l.rh → get_or c.slopes k nan ≡ across_to l (cell_at s t.slopes) (i * l.rh + k)
+  pub least : c.least ≡ cell_at s t.least i
+  pub greatest : c.greatest ≡ cell_at s t.greatest i
 
 -- a component's values in all columns, put where its finished row lies
 unfoldable pub value_row : Layout → Chroma → ℕ → List Float → List Float

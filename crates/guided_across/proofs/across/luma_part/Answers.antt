@@ -1,7 +1,6 @@
 use Rattle.guided_across.proofs.ReadBack.{luma_steps}
 use Rattle.guided_across.specs.Inner.Sums.{cells_at, products_at, three_row}
-use mathlib.Core.Path.{ap, ◌∙◌}
-use native.Mathlib.Omega.{arith}
+use Rattle.std.proofs.Common.{ap, ◌∙◌, arith}
 use Rattle.image.specs.Samples.{plane_of}
 use Rattle.guided_across.proofs.across.luma_part.Goals as goal
 
@@ -9,7 +8,9 @@ pub returns : goal.returns
 returns c =
     let a = c.args in
     let l = a.layout in
-    let t = c.luma_rows_at-t.result in
-    c.product_sum_row.ensures
-    ∙ ap (three_row (products_at t.at t.at) l.cw t.squares) (c.sum_row.ensures ∙ ap (three_row (cells_at t.at) l.cw t.sums) c.luma_row.ensures)
-    ∙ luma_steps l (plane_of a.plane.now a.stride) a.j t a.s.now c.luma_rows_at-t.ensures (omega arith)
+    let y = c.row_at-luma in
+    let sums = c.row_at-sums in
+    let squares = c.row_at-squares in
+    c.sum_row-2.ensures
+    ∙ ap (three_row (products_at y.result y.result) l.cw squares.result) (c.sum_row.ensures ∙ ap (three_row (cells_at y.result) l.cw sums.result) c.luma_row.ensures)
+    ∙ luma_steps l (plane_of a.plane.now a.stride) a.j _ _ _ a.s.now y.ensures.is sums.ensures.is squares.ensures.is c.requires.luma_pixels.sound.cw_most c.requires.j_lt_ch.1

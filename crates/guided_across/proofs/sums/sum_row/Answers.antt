@@ -1,14 +1,12 @@
-use Rattle.guided_across.proofs.Threes.{behind_cells, row_one, row_made}
-use Rattle.guided_across.specs.Inner.Sums.{cells_at}
-use mathlib.Core.Path.{◌∙◌}
-use native.Mathlib.Omega.{arith}
+use Rattle.std.proofs.Common.{◌∙◌, arith}
+use Rattle.guided_across.proofs.Threes.{row_one, row_made}
 use Rattle.guided_across.proofs.sums.sum_row.Goals as goal
 
 pub returns-then-n-eq1 : goal.returns-then-n-eq1
-returns-then-n-eq1 c =
-    let a = c.args in c.sum_at.ensures ∙ row_one (cells_at a.src) a.n a.dst a.s.now c.if-n-eq1.true
+returns-then-n-eq1 g c =
+    let a = c.args in c.sum_at.ensures ∙ row_one (g.T.Terms.term a.terms) a.n a.dst a.s.now c.if-n-eq1.true
 
 pub returns : goal.returns
-returns c =
+returns g c =
     let a = c.args in
-    row_made _ a.n a.dst a.s.now (behind_cells a.src a.n a.dst (omega arith)) (omega arith) _ _ _ c.sum_at.ensures c.sum_inner.ensures c.sum_at-2.ensures
+    row_made _ a.n a.dst a.s.now (g.met.T.Terms.behind a.terms a.n a.dst c.requires.1) (omega arith) _ _ _ c.sum_at.ensures c.sum_inner.ensures c.sum_at-2.ensures

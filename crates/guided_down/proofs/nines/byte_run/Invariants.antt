@@ -1,13 +1,10 @@
--- Fewer than sixteen cells are `byte_cells`'s promise. Otherwise the invariant is a `Run` of the first `done` extremes, and `block_more` is a turn of sixteen.
--- A block begins at the lesser of `done` and n - 16, so that it leaves no gap, ends within n, and writes again what it overlaps.
-use Prim.Native.Nat.{◌+◌, ◌-◌, ◌≤◌}
+-- After b blocks of sixteen s is s₀ with that many extremes, put from dst on; `put_block` is a turn, and the last block, which may overlap.
+use Rattle.std.proofs.Common.{◌≡◌, ◌*◌}
 use Rattle.laws.specs.Floats.{f32}
-use Rattle.laws.proofs.Lists.{Run}
+use Rattle.laws.specs.Lists.{put}
+use Rattle.guided_window.specs.Inner.Buffers.{on}
 use Rattle.guided_down.specs.Inner.Nines.{nine_from}
 use Rattle.guided_down.proofs.nines.byte_run.Given as goal
 
-abbrev pub invariant-loop-done : goal.invariant-loop-done
-invariant-loop-done l = (l.done ≤ l.n) × Run l.initial.s l.s l.dst l.done (λ i. f32 (nine_from l.greatest 1 l.plane (l.u + i) (l.m + i) (l.d + i)))
-
-abbrev pub decreases-loop-done : goal.decreases-loop-done
-decreases-loop-done l = l.n - l.done
+abbrev pub invariant-loop-b : goal.invariant-loop-b
+invariant-loop-b l = l.s ≡ put l.initial.s l.dst (l.b * 16) (λ i. f32 (nine_from l.pick 1 l.plane (on l.t i)))

@@ -1,15 +1,15 @@
-use mathlib.Core.Path.{◌∙◌}
-use native.Mathlib.Omega.{arith}
+use Rattle.std.proofs.Common.{◌∙◌, arith}
 use Rattle.guided_pixels.proofs.DetailRows.{detail_line_is, detail_ready}
 use Rattle.image.specs.Samples.{plane_of}
 use Rattle.guided_pixels.proofs.details.detail_row.Goals as goal
 
-pub detail_cells-requires : goal.detail_cells-requires
-detail_cells-requires c =
+pub row-requires : goal.row-requires
+row-requires c =
     let a = c.args in
-    record { luma_pixels = (c.requires.0, omega arith); w_bound = detail_ready a.layout _ _ c.column_at-src.ensures (omega arith) }
+    let h = detail_ready a.layout _ _ c.column_at-src.ensures c.requires.2 in
+    (c.requires.0.sound, (c.requires.0, c.requires.1, h.1), h.0)
 
 pub returns : goal.returns
 returns c =
     let a = c.args in
-    c.detail_cells.ensures ∙ detail_line_is a.layout (plane_of a.plane.now a.stride) a.y _ a.s.now c.column_at-src.ensures.is
+    c.row.ensures ∙ detail_line_is a.layout (plane_of a.plane.now a.stride) a.y _ a.s.now c.column_at-src.ensures.is

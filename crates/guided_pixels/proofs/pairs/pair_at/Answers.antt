@@ -2,7 +2,7 @@
 -- The three reads, of cells i, i + 1 and i + 2, are inside s by the contract.
 use lib.Ieee.{of_bits, div, of_int}
 use Rattle.image.specs.Scratch.{cell_at}
-use Rattle.guided_pixels.proofs.Twos.{pair_is}
+use Rattle.guided_pixels.proofs.TwoPixels.{pair_is}
 use Rattle.guided_pixels.proofs.pairs.pair_at.Goals as goal
 
 pub returns : goal.returns

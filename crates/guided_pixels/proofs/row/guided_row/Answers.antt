@@ -8,11 +8,11 @@ pub returns-in_default : goal.returns-in_default
 returns-in_default c =
     λ cb cr. let a = c.args in
     let ps : Planes = record { y = plane_of a.y.now a.y_stride; cb = cb; cr = cr } in
-    rw c.in_default.is (row_cb a.layout ps a.row (omega arith) a.s.now _ _ _ c.down_column.ensures c.detail_row.ensures c.component.ensures)
+    rw c.in_default.is (row_cb a.layout ps a.row (omega arith) a.s.now _ _ _ c.down_row.ensures c.detail_row.ensures c.component.ensures)
 
 pub returns : goal.returns
 returns c =
     λ cb cr. let a = c.args in
     let ps : Planes = record { y = plane_of a.y.now a.y_stride; cb = cb; cr = cr } in
     rw c.in-Both.is
-    (row_both a.layout ps a.row (omega arith) a.s.now _ _ _ c.down_column.ensures c.detail_row.ensures c.component.ensures _ c.component-2.ensures)
+    (row_both a.layout ps a.row (omega arith) a.s.now _ _ _ c.down_row.ensures c.detail_row.ensures c.component.ensures _ c.component-2.ensures)

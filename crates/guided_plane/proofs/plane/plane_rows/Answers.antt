@@ -11,31 +11,22 @@ use Rattle.guided_plane.proofs.plane.plane_rows.Goals as goal
 
 pub loop-row-init : goal.loop-row-init
 loop-row-init c =
-    (omega arith, rows_none _ _ _, advanced_none _ _ _ _)
+    (rows_none _ _ _, advanced_none _ _ _ _)
 
 pub plane_row-requires : goal.plane_row-requires
 plane_row-requires c =
     let p = c.requires in
-    record { lent = p.lent; row_lt_h = (omega arith, rw c.loop-row.invariant.2.len p.layout_in_bounds.0, rw c.loop-row.invariant.1.len p.layout_in_bounds.1) }
+    record { lent = p.lent; row_lt_h = (omega arith, rw c.loop-row.invariant.1.len p.layout_in_bounds.0, rw c.loop-row.invariant.0.len p.layout_in_bounds.1) }
 
 pub loop-row-preserved : goal.loop-row-preserved
 unfolding picture_of
 loop-row-preserved c =
     let i = c.loop-row in (
-      omega arith,
-      rows_more i.invariant.1 _ (c.plane_row.ensures.out_after ∙ stored_is ((picture_of c.args.layout (planes_with (plane_of c.args.y.now c.args.y_stride) (plane_of c.args.c.now c.args.c_stride)))) c.requires.lent.sound i.row (i.row * c.args.layout.w) c.args.s.now i.s i.out i.invariant.2 c.requires.layout_in_bounds.0 (omega arith)),
-      advanced_more i.invariant.2 _ c.plane_row.ensures.s_after,
+      rows_more i.invariant.0 _ (c.plane_row.ensures.out_after ∙ stored_is ((picture_of c.args.layout (planes_with (plane_of c.args.y.now c.args.y_stride) (plane_of c.args.c.now c.args.c_stride)))) c.requires.lent.sound i.row (i.row * c.args.layout.w) c.args.s.now i.s i.out i.invariant.1 c.requires.layout_in_bounds.0 (omega arith)),
+      advanced_more i.invariant.1 _ c.plane_row.ensures.s_after,
     )
-
-pub shape_of-s : goal.shape_of-s
-shape_of-s c =
-    c.loop-row.invariant.2.len
-
-pub shape_of-out : goal.shape_of-out
-shape_of-out c =
-    c.loop-row.invariant.1.len
 
 pub returns : goal.returns
 unfolding guided_plane picture_of
 returns c =
-    record { out_after = rows_end c.loop-row.invariant.1 _ (omega arith) (omega arith); s_after = advanced_end c.loop-row.invariant.2 _ (omega arith) (omega arith) }
+    record { out_after = rows_end c.loop-row.invariant.0 _ (omega arith) (omega arith); s_after = advanced_end c.loop-row.invariant.1 _ (omega arith) (omega arith) }

@@ -1,7 +1,6 @@
 -- The loop's invariant is that out has the guided samples in its first rows (`Rows`) and scratch is that after these rows (`Advanced`). `loop-
 -- again` carries a turn: by `stored_is` the row that was stored from scratch is the row of the definition.
 use mathlib.Core.List.{[], ◌∷◌}
-use Prim.Native.Nat.{◌-◌, ◌≤◌}
 use Rattle.laws.proofs.Lists.{Rows}
 use Rattle.image.specs.declared.chroma.Chroma.TheVariants.{Cb}
 use Rattle.image.specs.Picture.{picture_of}
@@ -13,9 +12,6 @@ use Rattle.image.specs.Samples.{plane_of}
 use Rattle.guided_plane.proofs.plane.plane_rows.Given as goal
 
 abbrev pub invariant-loop-row : goal.invariant-loop-row
-invariant-loop-row l = (l.row ≤ l.layout.h)
-    × Rows l.initial.out l.out l.layout.w l.row (λ n x. round_clamped l.layout.maxval (guided_sample (picture_of l.layout (planes_with (plane_of l.y l.y_stride) (plane_of l.c l.c_stride))) Cb n x))
+invariant-loop-row l =
+    Rows l.initial.out l.out l.layout.w l.row (λ n x. round_clamped l.layout.maxval (guided_sample (picture_of l.layout (planes_with (plane_of l.y l.y_stride) (plane_of l.c l.c_stride))) Cb n x))
     × Advanced (picture_of l.layout (planes_with (plane_of l.y l.y_stride) (plane_of l.c l.c_stride))) (Cb ∷ []) 0 l.row l.initial.s l.s
-
-abbrev pub decreases-loop-row : goal.decreases-loop-row
-decreases-loop-row l = l.layout.h - l.row

@@ -1,27 +1,18 @@
-use Rattle.guided.specs.Calls.{done_f}
-use Rattle.image.specs.Picture.{picture_of, planes_of}
-use Rattle.image.specs.Picture.{Planes}
+use Rattle.image.specs.Picture.{Planes, picture_of, planes_of}
 use Rattle.guided_window.specs.Inner.Lent.{components_of}
 use Rattle.guided.specs.Scratch.{catch_up, row_steps}
 use Rattle.guided_pixels.specs.Inner.Row.{window_row}
 use Rattle.guided.proofs.Taken.{taken}
-use Rattle.guided.proofs.Window.{length_catch_up}
 use mathlib.Core.Path.{ap, ◌∙◌}
 use Prim.Native.Nat.{ℕ, ◌-◌, ◌≤◌}
 use native.Mathlib.Omega.{arith}
-use lib.ListN.{length}
 use Rattle.guided_rows.proofs.steps.row_steps.Goals as goal
 
-pub catch_up-requires : goal.catch_up-requires
-catch_up-requires c =
-    let inside : done_f c.args.layout c.args.row ≤ c.args.layout.ch = let t = (taken c.args.layout c.requires.lent.sound c.args.row c.requires.row_lt_h.0).inside in omega arith in
-    record { lent = c.requires.lent; to_le_ch = (rw c.done_counters-done.ensures.1 (inside), c.requires.row_lt_h.1) }
-
-pub guided_row-requires : goal.guided_row-requires
-guided_row-requires c =
-    let e = c.catch_up.ensures in
-    let o = c.requires.lent in
-    (record { sound = o.sound; plane = o.luma }, c.requires.row_lt_h.0, rw (ap length e ∙ length_catch_up _ _ _ _ _ _) c.requires.row_lt_h.1)
+pub catch_up-requires-clause-to_le_ch : goal.catch_up-requires-clause-to_le_ch
+catch_up-requires-clause-to_le_ch c =
+    let t = (taken c.args.layout c.requires.lent.sound c.args.row c.requires.row_lt_h.0).inside in
+    let e = c.done_counters-done.ensures.1 in
+    (omega arith, c.requires.row_lt_h.1)
 
 pub returns : goal.returns
 unfolding row_steps
