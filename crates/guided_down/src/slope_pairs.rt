@@ -71,8 +71,8 @@ fn pair_eights(
     for n in 0..count {
         let i = from + 8 * n;
         let [v, x] = pair_eight(s, t, u, eps, i);
-        lanes::put_eight(s, a + i, v);
-        lanes::put_eight(s, b + i, x);
+        lanes::put_block(s, a + i, v);
+        lanes::put_block(s, b + i, x);
     }
 }
 

@@ -44,7 +44,7 @@ fn slope_eights(s: &mut [f32], t: Stats, eps: f32, from: usize, count: usize, ds
     for b in 0..count {
         let i = from + 8 * b;
         let v = slope_eight(s, t, eps, i);
-        lanes::put_eight(s, dst + i, v);
+        lanes::put_block(s, dst + i, v);
     }
 }
 

@@ -4,7 +4,8 @@
 // The numbers stand once, in entries.rt. Each table is held to its rule by one computed check for the whole table, which proofs/TableRules
 // carries to each entry.
 //
-// The tables are statics, so that one entry is read in place. Whoever reads many entries is lent a copy of all four (`all_tables`).
+// The tables are constants, as document 02 has them, and a constant is made anew where it is named. So one entry is read from a static of the
+// same numbers, in place; whoever reads many entries is lent a copy of all four (`all_tables`).
 //
 // The four functions below are each one sum. They stay four: a shared one would have to be told its table, its raise and its rule.
 ghost use Rattle.std.specs.Prelude.{◌≡◌, ◌-◌, ◌*◌, ◌<◌};
@@ -13,6 +14,12 @@ ghost use Rattle.kernels.specs.Inner.Forms.{raised_fixed};
 ghost use Rattle.kernels.specs.Inner.Tables.{Tabled};
 
 use crate::entries::{BLUE, GREEN_CB, GREEN_CR, RED};
+
+// The tables where one entry is read.
+static RED_ENTRIES: [i32; 256] = RED;
+static BLUE_ENTRIES: [i32; 256] = BLUE;
+static GREEN_CB_ENTRIES: [i32; 256] = GREEN_CB;
+static GREEN_CR_ENTRIES: [i32; 256] = GREEN_CR;
 
 // What is added to the entries of a table so that none lies below 0.
 #[derive(Clone, Copy)]
@@ -37,7 +44,7 @@ pub fn red_raised(c: usize) -> u32
     requires { c < 256 }
     ensures { result ≡ raised_fixed 91881 180 c }
 {
-    (RED[c] + Raise::RED) as u32
+    (RED_ENTRIES[c] + Raise::RED) as u32
 }
 
 // Inner: blue's offset by Cb, raised by `Bias::BLUE`.
@@ -45,7 +52,7 @@ pub fn blue_raised(c: usize) -> u32
     requires { c < 256 }
     ensures { result ≡ raised_fixed 116130 227 c }
 {
-    (BLUE[c] + Raise::BLUE) as u32
+    (BLUE_ENTRIES[c] + Raise::BLUE) as u32
 }
 
 // Inner: green's part by Cb, raised by `Raise::GREEN_CB`: 5,770,496 is that and 128 * 22,554.
@@ -53,7 +60,7 @@ pub fn green_cb_raised(c: usize) -> u32
     requires { c < 256 }
     ensures { result ≡ 5770496 - 22554 * c }
 {
-    (GREEN_CB[c] + Raise::GREEN_CB) as u32
+    (GREEN_CB_ENTRIES[c] + Raise::GREEN_CB) as u32
 }
 
 // Inner: green's part by Cr, raised by `Raise::GREEN_CR`: 11,987,200 is that, 32,768 and 128 * 46,802.
@@ -61,7 +68,7 @@ pub fn green_cr_raised(c: usize) -> u32
     requires { c < 256 }
     ensures { result ≡ 11987200 - 46802 * c }
 {
-    (GREEN_CR[c] + Raise::GREEN_CR) as u32
+    (GREEN_CR_ENTRIES[c] + Raise::GREEN_CR) as u32
 }
 
 // Where each table stands in `all_tables`.

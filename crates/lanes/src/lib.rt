@@ -33,14 +33,6 @@ pub fn put_block<const N: usize>(s: &mut [f32], at: usize, block: [f32; N])
     s[at..at + N].copy_from_slice(&block);
 }
 
-// Inner: stores half a block, a value for each of its cells, in s from `at` on: `put_block`, under the name that rows down call it by.
-pub fn put_eight(s: &mut [f32], at: usize, block: [f32; Lanes::CELLS])
-    requires { at + 8 ≤ length s.old }
-    ensures { s.new ≡ put s.old at 8 (λ k. get_or block k nan) }
-{
-    put_block(s, at, block);
-}
-
 // Inner: stores a block of bytes as floats in s, from `at` on.
 pub fn put_bytes(s: &mut [f32], at: usize, block: [u8; Lanes::PIXELS])
     requires { at + 16 ≤ length s.old }

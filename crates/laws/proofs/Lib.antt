@@ -1,6 +1,7 @@
 -- The laws of specs/, a file for each topic.
 pub mod Counts
 pub mod Lists
+pub mod Copies
 pub mod Rows
 pub mod Refusals
 pub mod Differences

@@ -1,7 +1,7 @@
 // What the other crates' contracts and proofs are made of: runs written into a slice, refusals, differences, halves up, single precision.
 //
 // specs/ has the definitions, a file a topic, and proofs/ their laws; specs/Refusals is document 01's 'Reasons for turning a call down'.
-// The answer of a call stands here with the small tests that refusals are put together from, so that a crate above the public one
+// Why a call is turned down stands here with the tests that refusals are put together from, so that a crate above the public one
 // needs no inner crate; and the axis of a picture, which layouts and taps both name.
 #![tactic(auto)]
 
@@ -10,5 +10,5 @@ mod numbers;
 mod refusal;
 
 pub use axes::{Axis, Siting};
-pub use numbers::{both, either, least, outside, product_passes, volume_passes};
+pub use numbers::{outside, product_passes, volume_passes};
 pub use refusal::{Refusal, first};

@@ -17,7 +17,7 @@ loop-n-preserved c =
     let i = a.from + 8 * c.loop-n.n in
     let v = c.pair_eight.result in
     pair_eights_more a.t a.u a.eps a.a a.b a.from c.loop-n.n _ c.requires.1 c.loop-n.invariant _ (get_or v 0 []) (get_or v 1 []) c.pair_eight.ensures
-    (c.put_eight-in-loop-n.ensures ∙ ap (λ (s : List Float). put s (a.b + i) 8 (λ k. get_or (get_or v 1 []) k nan)) c.put_eight.ensures) (omega arith)
+    (c.put_block-in-loop-n.ensures ∙ ap (λ (s : List Float). put s (a.b + i) 8 (λ k. get_or (get_or v 1 []) k nan)) c.put_block.ensures) (omega arith)
 
 pub returns : goal.returns
 unfolding pairs_inside

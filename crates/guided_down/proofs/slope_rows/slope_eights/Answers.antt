@@ -5,4 +5,4 @@ use Rattle.guided_down.proofs.slope_rows.slope_eights.Goals as goal
 pub loop-b-preserved : goal.loop-b-preserved
 loop-b-preserved c =
     let a = c.args in
-    eights_more a.t a.eps a.dst a.from c.loop-b.b _ c.requires.2 _ _ c.loop-b.invariant _ c.slope_eight-v.result c.slope_eight-v.ensures c.put_eight.ensures (omega arith)
+    eights_more a.t a.eps a.dst a.from c.loop-b.b _ c.requires.2 _ _ c.loop-b.invariant _ c.slope_eight-v.result c.slope_eight-v.ensures c.put_block.ensures (omega arith)

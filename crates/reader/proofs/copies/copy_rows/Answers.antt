@@ -2,7 +2,7 @@ use mathlib.Core.Path.{◌≡◌}
 use Prim.Native.Nat.{◌-◌, ◌*◌}
 use native.Mathlib.Omega.{arith}
 use Rattle.std.specs.Float.{nan}
-use Rattle.reader.proofs.Fronts.{copied}
+use Rattle.laws.proofs.Copies.{copied}
 use Rattle.reader.proofs.copies.copy_rows.Goals as goal
 
 pub returns : goal.returns
