@@ -10,12 +10,14 @@
 
 ghost use Rattle.std.specs.Prelude.{◌≤◌};
 
-use colorimetry::{Between, BlendReply, ChartReading, Nearest};
-use guided::{Geometry, Reader, Reply};
-use image::{Range, Rectangle};
+use colorimetry::ChartReading;
+use guided::{Geometry, Reader};
+use image::{Planes, Range, Rectangle};
+use laws::Refusal;
 use std::io;
 use std::io::{Print, Read};
 use taps::Phase;
+use test_support::Buffers;
 
 // Both readers.
 #[derive(Clone, Copy)]
@@ -86,154 +88,38 @@ fn sum_reader(sum: u32, r: Reader) -> u32 {
     test_support::sum_numbers(sum, &n)
 }
 
-// The call on one reader that a line's kind names, lent three planes, scratch and an output.
-fn lent(
-    text: &[u8],
-    given: Reader,
-    y: &[u8],
-    cb: &[u8],
-    cr: &[u8],
-    s: &mut [f32],
-    out: &mut [u8],
-) -> Reply {
-    let strides = test_support::strides(text);
+// The call on one reader that a line's kind names, lent the three planes that the line speaks of, scratch and an output.
+fn called(text: &[u8], reader: &mut Reader, s: &mut [f32], out: &mut [u8]) -> Result<(), Refusal> {
+    let buffers = Buffers::new(text, text);
+    let planes = buffers.planes(text);
+    let row = test_support::size(text, 23);
     match test_support::kind(text) {
-        b'o' | b'p' => reconstruction::open(
-            test_support::layout(text),
-            y,
-            cb,
-            cr,
-            strides,
-            s,
-            given,
-        ),
-        b's' | b't' => reconstruction::seek(given, test_support::size(text, 23)),
-        _ => reconstruction::rgb_row(
-            given,
-            y,
-            cb,
-            cr,
-            strides,
-            test_support::size(text, 23),
-            s,
-            out,
-        ),
+        b'o' | b'p' => reconstruction::open(test_support::layout(text), planes, s, reader),
+        b's' | b't' => reconstruction::seek(reader, row),
+        _ => reconstruction::rgb_row(reader, planes, row, s, out),
     }
-}
-
-// A line's call on one reader, lent the three planes that the line speaks of.
-fn called(text: &[u8], given: Reader, s: &mut [f32], out: &mut [u8]) -> Reply {
-    let y = test_support::plane(text, text, 0);
-    let cb = test_support::plane(text, text, 1);
-    let cr = test_support::plane(text, text, 2);
-    let y_len = test_support::word(text, 12);
-    let cb_len = test_support::word(text, 13);
-    let cr_len = test_support::word(text, 14);
-    lent(
-        text,
-        given,
-        &y[..y_len],
-        &cb[..cb_len],
-        &cr[..cr_len],
-        s,
-        out,
-    )
-}
-
-// `blend_row` with the strides, the states, the row number and the weight that the two lines say.
-fn blend_lent(
-    text: &[u8],
-    early: &[u8],
-    pair: Pair,
-    early_y: &[u8],
-    early_cb: &[u8],
-    early_cr: &[u8],
-    y: &[u8],
-    cb: &[u8],
-    cr: &[u8],
-    s: &mut [f32],
-    t: &mut [f32],
-    out: &mut [u8],
-) -> BlendReply {
-    let first = pair.early;
-    let second = pair.late;
-    colorimetry::blend_row(
-        handed(first, test_support::word(text, 25)),
-        early_y,
-        early_cb,
-        early_cr,
-        test_support::strides(early),
-        s,
-        handed(second, test_support::word(text, 24)),
-        y,
-        cb,
-        cr,
-        test_support::strides(text),
-        t,
-        test_support::size(text, 23),
-        test_support::size(text, 22),
-        out,
-    )
-}
-
-// The same, lent the late picture's planes too.
-fn blended(
-    text: &[u8],
-    early: &[u8],
-    pair: Pair,
-    early_y: &[u8],
-    early_cb: &[u8],
-    early_cr: &[u8],
-    s: &mut [f32],
-    t: &mut [f32],
-    out: &mut [u8],
-) -> BlendReply {
-    let y = test_support::plane(text, text, 0);
-    let cb = test_support::plane(text, text, 1);
-    let cr = test_support::plane(text, text, 2);
-    let y_len = test_support::word(text, 12);
-    let cb_len = test_support::word(text, 13);
-    let cr_len = test_support::word(text, 14);
-    blend_lent(
-        text,
-        early,
-        pair,
-        early_y,
-        early_cb,
-        early_cr,
-        &y[..y_len],
-        &cb[..cb_len],
-        &cr[..cr_len],
-        s,
-        t,
-        out,
-    )
 }
 
 // A line's blend, lent the six planes that the two lines speak of.
 fn blend(
     text: &[u8],
     early: &[u8],
-    pair: Pair,
+    pair: &mut Pair,
     s: &mut [f32],
     t: &mut [f32],
     out: &mut [u8],
-) -> BlendReply {
-    let y = test_support::plane(early, early, 0);
-    let cb = test_support::plane(early, early, 1);
-    let cr = test_support::plane(early, early, 2);
-    let y_len = test_support::word(early, 12);
-    let cb_len = test_support::word(early, 13);
-    let cr_len = test_support::word(early, 14);
-    blended(
-        text,
-        early,
-        pair,
-        &y[..y_len],
-        &cb[..cb_len],
-        &cr[..cr_len],
+) -> Result<(), Refusal> {
+    let early_buffers = Buffers::new(early, early);
+    let late_buffers = Buffers::new(text, text);
+    colorimetry::blend_row(
+        &mut pair.early,
+        early_buffers.planes(early),
         s,
+        &mut pair.late,
+        late_buffers.planes(text),
         t,
+        test_support::size(text, 23),
+        test_support::size(text, 22),
         out,
     )
 }
@@ -245,95 +131,88 @@ fn keep(rows: &mut [u8], at: usize, out: &[u8]) {
     rows[from..from + n].copy_from_slice(&out[..n]);
 }
 
-// Makes a line's call on one reader into an output that no call has written, writes its line and gives the reader for the next one.
+// Makes a line's call on one reader into an output that no call has written, and writes its line. An accepted row is kept, and the reader is
+// afterwards what the call left, unless a number of it was changed for the call.
 fn lone_into(
     rt: &impl Print,
     text: &[u8],
-    reader: Reader,
+    reader: &mut Reader,
     s: &mut [f32],
     rows: &mut [u8],
     out: &mut [u8],
-) -> io::Result<Reader> {
+) -> io::Result<()> {
     let change = test_support::word(text, 24);
     let need = test_support::scratch_part(text, 0);
+    let mut given = handed(*reader, change);
     let before = test_support::scratch_sums(s, need);
-    let reply = called(text, handed(reader, change), s, out);
+    let answer = test_support::number(called(text, &mut given, s, out));
     let after = test_support::scratch_sums(s, need);
-    let answer = reply.answer;
-    let number = test_support::number(answer);
-    let left = reply.reader;
-    let sum = sum_reader(test_support::sum_bytes(0, out), left);
+    let sum = sum_reader(test_support::sum_bytes(0, out), given);
     test_support::write_line(
         rt,
-        number,
-        test_support::added(sum, test_support::scratch_fault(before, after, number)),
+        answer,
+        test_support::added(sum, test_support::scratch_fault(before, after, answer)),
     )?;
-    if change != 0 {
-        return Ok(reader);
+    if change == 0 {
+        *reader = given;
+        if answer == 0 {
+            keep(rows, test_support::word(text, 26), out);
+        }
     }
-    if number == 0 {
-        keep(rows, test_support::word(text, 26), out);
-    }
-    Ok(left)
+    Ok(())
 }
 
 // The same, into as much of an output as the line says.
 fn lone(
     rt: &impl Print,
     text: &[u8],
-    reader: Reader,
+    reader: &mut Reader,
     s: &mut [f32],
     rows: &mut [u8],
-) -> io::Result<Reader> {
+) -> io::Result<()> {
     let mut out = unwritten();
     let room = test_support::word(text, 21);
     lone_into(rt, text, reader, s, rows, &mut out[..room])
 }
 
 // What a blend left, as one sum: of the output, of both readers and of whether it changed scratch that it may not touch.
-fn sum_blend(out: &[u8], early: Reader, late: Reader, early_fault: u32, late_fault: u32) -> u32 {
-    let sum = sum_reader(test_support::sum_bytes(0, out), early);
-    let sum = test_support::added(sum_reader(sum, late), early_fault);
+fn sum_blend(out: &[u8], pair: Pair, early_fault: u32, late_fault: u32) -> u32 {
+    let sum = sum_reader(test_support::sum_bytes(0, out), pair.early);
+    let sum = test_support::added(sum_reader(sum, pair.late), early_fault);
     test_support::added(sum, late_fault)
 }
 
-// Makes a line's blend into an output that no call has written, writes its line and gives the readers for the next one.
+// Makes a line's blend into an output that no call has written, and writes its line. Where it is accepted its row is kept, and the readers are
+// afterwards what it left.
 fn mixed_into(
     rt: &impl Print,
     text: &[u8],
     early: &[u8],
-    pair: Pair,
+    pair: &mut Pair,
     s: &mut [f32],
     t: &mut [f32],
     rows: &mut [u8],
     out: &mut [u8],
-) -> io::Result<Pair> {
+) -> io::Result<()> {
     let need = test_support::scratch_part(text, 0);
     let early_need = test_support::scratch_part(early, 0);
+    let mut given = Pair {
+        early: handed(pair.early, test_support::word(text, 25)),
+        late: handed(pair.late, test_support::word(text, 24)),
+    };
     let s_before = test_support::scratch_sums(s, early_need);
     let t_before = test_support::scratch_sums(t, need);
-    let reply = blend(text, early, pair, s, t, out);
+    let answer = test_support::number(blend(text, early, &mut given, s, t, out));
     let s_after = test_support::scratch_sums(s, early_need);
     let t_after = test_support::scratch_sums(t, need);
-    let answer = reply.answer;
-    let number = test_support::number(answer);
-    let first = reply.early;
-    let second = reply.late;
-    let early_fault = test_support::scratch_fault(s_before, s_after, number);
-    let late_fault = test_support::scratch_fault(t_before, t_after, number);
-    test_support::write_line(
-        rt,
-        number,
-        sum_blend(out, first, second, early_fault, late_fault),
-    )?;
-    if number != 0 {
-        return Ok(pair);
+    let early_fault = test_support::scratch_fault(s_before, s_after, answer);
+    let late_fault = test_support::scratch_fault(t_before, t_after, answer);
+    test_support::write_line(rt, answer, sum_blend(out, given, early_fault, late_fault))?;
+    if answer == 0 {
+        *pair = given;
+        keep(rows, test_support::word(text, 26), out);
     }
-    keep(rows, test_support::word(text, 26), out);
-    Ok(Pair {
-        early: first,
-        late: second,
-    })
+    Ok(())
 }
 
 // The same, into as much of an output as the line says.
@@ -341,20 +220,20 @@ fn mixed(
     rt: &impl Print,
     text: &[u8],
     early: &[u8],
-    pair: Pair,
+    pair: &mut Pair,
     s: &mut [f32],
     t: &mut [f32],
     rows: &mut [u8],
-) -> io::Result<Pair> {
+) -> io::Result<()> {
     let mut out = unwritten();
     let room = test_support::word(text, 21);
     mixed_into(rt, text, early, pair, s, t, rows, &mut out[..room])
 }
 
 // The reading of the rows given so far, as a picture of a line's sides, on the chart that its second plane is.
-fn reading(text: &[u8], rows: &[u8]) -> ChartReading {
-    let chart = test_support::plane(text, text, 1);
-    let len = test_support::word(text, 13);
+fn reading(text: &[u8], rows: &[u8]) -> Result<ChartReading, Refusal> {
+    let buffers = Buffers::new(text, text);
+    let chart = buffers.planes(text).cb.bytes;
     let w = test_support::word(text, 0);
     let h = test_support::word(text, 1);
     let whole = Rectangle {
@@ -363,120 +242,58 @@ fn reading(text: &[u8], rows: &[u8]) -> ChartReading {
         width: w,
         height: h,
     };
-    colorimetry::chart_reading(&chart[..len], whole, w, h, rows)
+    colorimetry::chart_reading(chart, whole, w, h, rows)
 }
 
-// The index of the nearest shade, 99 for nothing.
-fn shade_number(nearest: Nearest) -> usize {
-    match nearest {
-        Nearest::Shade(i) => i,
-        Nearest::Nothing => 99,
-    }
-}
-
-// The pair of the nearest mix, 99 for nothing.
-fn pair_number(between: Between) -> usize {
-    match between {
-        Between::Mix(i, _) => i,
-        Between::Nothing => 99,
-    }
-}
-
-// The weight of the nearest mix, 99 for nothing.
-fn weight_number(between: Between) -> usize {
-    match between {
-        Between::Mix(_, k) => k,
-        Between::Nothing => 99,
-    }
-}
-
-// Makes a line's reading and writes its line: the sum is of the indices, the weight, the whole-number means and the number of pixels.
-fn read(rt: &impl Print, text: &[u8], rows: &[u8]) -> io::Result<()> {
-    let r = reading(text, rows);
-    let answer = r.answer;
-    let nearest = r.nearest;
-    let between = r.between;
-    let whole = r.whole;
-    let n = [
-        shade_number(nearest),
-        pair_number(between),
-        weight_number(between),
-        whole[0] as usize,
-        whole[1] as usize,
-        whole[2] as usize,
+// A reading as numbers: the indices and the weight, 99 for none, the whole-number means and the number of pixels.
+fn reading_numbers(r: ChartReading) -> [usize; 7] {
+    [
+        r.nearest.unwrap_or(99),
+        r.between.map_or(99, |mix| mix.first),
+        r.between.map_or(99, |mix| mix.weight),
+        usize::from(r.whole[0]),
+        usize::from(r.whole[1]),
+        usize::from(r.whole[2]),
         r.pixels,
-    ];
-    test_support::write_line(
-        rt,
-        test_support::number(answer),
-        test_support::sum_numbers(0, &n),
-    )
+    ]
 }
 
-// Makes a line's call on the late reader, or else on the early one.
-fn alone(
-    rt: &impl Print,
-    text: &[u8],
-    pair: Pair,
-    s: &mut [f32],
-    t: &mut [f32],
-    rows: &mut [u8],
-) -> io::Result<Pair> {
-    let early = pair.early;
-    let late = pair.late;
-    match test_support::kind(text) {
-        b'p' | b't' | b'u' => {
-            let late = lone(rt, text, late, t, rows)?;
-            Ok(Pair { early, late })
-        }
-        _ => {
-            let early = lone(rt, text, early, s, rows)?;
-            Ok(Pair { early, late })
-        }
-    }
+// Makes a line's reading and writes its line: the sum is of the reading's numbers. Those of a refused one are of no pixels.
+fn read(rt: &impl Print, text: &[u8], rows: &[u8]) -> io::Result<()> {
+    let (answer, numbers) = match reading(text, rows) {
+        Ok(r) => (0, reading_numbers(r)),
+        Err(why) => (usize::from(why.number()), [99, 99, 99, 0, 0, 0, 0]),
+    };
+    test_support::write_line(rt, answer, test_support::sum_numbers(0, &numbers))
 }
 
-// Makes a line's call with as much of the fronts of both scratches as the lines say, and gives the readers for the next one.
+// Makes a line's call with as much of the fronts of both scratches as the lines say.
 fn replay(
     rt: &impl Print,
     text: &[u8; 142],
     early: &[u8; 142],
-    pair: Pair,
+    pair: &mut Pair,
     s: &mut [f32],
     t: &mut [f32],
     rows: &mut [u8],
-) -> io::Result<Pair> {
+) -> io::Result<()> {
     let space = test_support::long(text, 19);
+    let early_space = test_support::long(early, 19).min(s.len());
+    let s_space = space.min(s.len());
+    let t_space = space.min(t.len());
     match test_support::kind(text) {
-        b'c' => {
-            read(rt, text, rows)?;
-            Ok(pair)
-        }
-        b'm' => {
-            let early_space = test_support::long(early, 19).min(s.len());
-            let late_space = space.min(t.len());
-            mixed(
-                rt,
-                text,
-                early,
-                pair,
-                &mut s[..early_space],
-                &mut t[..late_space],
-                rows,
-            )
-        }
-        _ => {
-            let early_space = space.min(s.len());
-            let late_space = space.min(t.len());
-            alone(
-                rt,
-                text,
-                pair,
-                &mut s[..early_space],
-                &mut t[..late_space],
-                rows,
-            )
-        }
+        b'c' => read(rt, text, rows),
+        b'm' => mixed(
+            rt,
+            text,
+            early,
+            pair,
+            &mut s[..early_space],
+            &mut t[..t_space],
+            rows,
+        ),
+        b'p' | b't' | b'u' => lone(rt, text, &mut pair.late, &mut t[..t_space], rows),
+        _ => lone(rt, text, &mut pair.early, &mut s[..s_space], rows),
     }
 }
 
@@ -500,7 +317,7 @@ fn replay_all<R: Read>(
         };
         match text[0] {
             b'e' => early = text,
-            _ => pair = replay(rt, &text, &early, pair, s, t, rows)?,
+            _ => replay(rt, &text, &early, &mut pair, s, t, rows)?,
         }
     }
     Ok(())

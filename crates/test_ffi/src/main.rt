@@ -14,8 +14,10 @@
 ghost use Rattle.std.specs.Prelude.{◌<◌};
 
 use ffi::{ChromaLayout, ChromaPhase, ChromaPixel, ChromaReader, ChromaReply, ChromaStrides};
+use image::Planes;
 use std::io;
 use std::io::{Print, Read};
+use test_support::Buffers;
 
 // What a call answered, and the sum of its outputs.
 #[derive(Clone, Copy)]
@@ -66,13 +68,12 @@ fn layout(text: &[u8]) -> ChromaLayout {
     }
 }
 
-// A line's strides in C's form.
-fn strides(text: &[u8]) -> ChromaStrides {
-    let s = test_support::strides(text);
+// The strides of planes in C's form.
+fn strides(planes: Planes<'_>) -> ChromaStrides {
     ChromaStrides {
-        y: s.y,
-        cb: s.cb,
-        cr: s.cr,
+        y: planes.y.stride,
+        cb: planes.cb.stride,
+        cr: planes.cr.stride,
     }
 }
 
@@ -158,12 +159,18 @@ fn replied(reply: ChromaReply, sum: u32) -> Done {
     Done { left, reader }
 }
 
-// `chroma_open` with a line's layout and strides. It has no outputs to sum.
-fn open(text: &[u8], given: ChromaReader, y: &[u8], cb: &[u8], cr: &[u8], s: &[f32]) -> Done {
-    replied(
-        ffi::chroma_open(layout(text), y, cb, cr, strides(text), s, given),
-        0,
-    )
+// `chroma_open` with a line's layout. It has no outputs to sum.
+fn open(text: &[u8], given: ChromaReader, planes: Planes<'_>, s: &[f32]) -> Done {
+    let reply = ffi::chroma_open(
+        layout(text),
+        planes.y.bytes,
+        planes.cb.bytes,
+        planes.cr.bytes,
+        strides(planes),
+        s,
+        given,
+    );
+    replied(reply, 0)
 }
 
 // `chroma_seek` to a line's row number. It has no outputs to sum.
@@ -171,25 +178,32 @@ fn seek(text: &[u8], given: ChromaReader) -> Done {
     replied(ffi::chroma_seek(given, test_support::size(text, 27)), 0)
 }
 
-// `chroma_row` with a line's strides and row number, and the sum of both outputs after it.
+// `chroma_row` with a line's row number, and the sum of both outputs after it.
 fn row_into(
     text: &[u8],
     given: ChromaReader,
-    y: &[u8],
-    cb: &[u8],
-    cr: &[u8],
+    planes: Planes<'_>,
     s: &mut [f32],
     out_cb: &mut [f32],
     out_cr: &mut [f32],
 ) -> Done {
-    let row = test_support::size(text, 27);
-    let reply = ffi::chroma_row(given, y, cb, cr, strides(text), row, s, out_cb, out_cr);
+    let reply = ffi::chroma_row(
+        given,
+        planes.y.bytes,
+        planes.cb.bytes,
+        planes.cr.bytes,
+        strides(planes),
+        test_support::size(text, 27),
+        s,
+        out_cb,
+        out_cr,
+    );
     let sum = test_support::sum_floats(test_support::sum_floats(0, out_cb, 0), out_cr, 0);
     replied(reply, sum)
 }
 
 // `chroma_row` into outputs that no call has written, as long as the line says.
-fn row(text: &[u8], given: ChromaReader, y: &[u8], cb: &[u8], cr: &[u8], s: &mut [f32]) -> Done {
+fn row(text: &[u8], given: ChromaReader, planes: Planes<'_>, s: &mut [f32]) -> Done {
     let mut out_cb = unwritten_floats();
     let mut out_cr = unwritten_floats();
     let room_cb = test_support::word(text, 25);
@@ -197,9 +211,7 @@ fn row(text: &[u8], given: ChromaReader, y: &[u8], cb: &[u8], cr: &[u8], s: &mut
     row_into(
         text,
         given,
-        y,
-        cb,
-        cr,
+        planes,
         s,
         &mut out_cb[..room_cb],
         &mut out_cr[..room_cr],
@@ -207,18 +219,20 @@ fn row(text: &[u8], given: ChromaReader, y: &[u8], cb: &[u8], cr: &[u8], s: &mut
 }
 
 // The answer to the call of a whole plane that a line's kind names.
-fn plane_answer(text: &[u8], y: &[u8], cb: &[u8], s: &mut [f32], out: &mut [u16]) -> u32 {
-    let strides = strides(text);
+fn plane_answer(text: &[u8], planes: Planes<'_>, s: &mut [f32], out: &mut [u16]) -> u32 {
+    let layout = layout(text);
+    let y = planes.y;
+    let cb = planes.cb;
     match test_support::kind(text) {
-        b'l' => ffi::chroma_linear_plane(layout(text), cb, strides.cb, s, out),
-        b'g' => ffi::chroma_guided_plane(layout(text), y, strides.y, cb, strides.cb, s, out),
-        _ => ffi::chroma_triangular_plane(layout(text), cb, strides.cb, out),
+        b'l' => ffi::chroma_linear_plane(layout, cb.bytes, cb.stride, s, out),
+        b'g' => ffi::chroma_guided_plane(layout, y.bytes, y.stride, cb.bytes, cb.stride, s, out),
+        _ => ffi::chroma_triangular_plane(layout, cb.bytes, cb.stride, out),
     }
 }
 
 // The call of a whole plane that a line's kind names, and the sum of its output.
-fn plane_into(text: &[u8], y: &[u8], cb: &[u8], s: &mut [f32], out: &mut [u16]) -> Left {
-    let answer = plane_answer(text, y, cb, s, out);
+fn plane_into(text: &[u8], planes: Planes<'_>, s: &mut [f32], out: &mut [u16]) -> Left {
+    let answer = plane_answer(text, planes, s, out);
     Left {
         answer,
         sum: test_support::sum_values(0, out),
@@ -226,26 +240,23 @@ fn plane_into(text: &[u8], y: &[u8], cb: &[u8], s: &mut [f32], out: &mut [u16]) 
 }
 
 // The call of a whole plane into an output that no call has written, as long as the line says.
-fn plane(text: &[u8], y: &[u8], cb: &[u8], s: &mut [f32]) -> Left {
+fn plane(text: &[u8], planes: Planes<'_>, s: &mut [f32]) -> Left {
     let mut out = unwritten_values();
     let room = test_support::word(text, 26);
-    plane_into(text, y, cb, s, &mut out[..room])
+    plane_into(text, planes, s, &mut out[..room])
 }
 
 // `chroma_fill` with a line's switches and pixel size, and the sum of its output.
-fn fill(text: &[u8], y: &[u8], cb: &[u8], cr: &[u8], s: &mut [f32], out: &mut [u8]) -> Left {
-    let upsampling = number(text, 22);
-    let kernel = number(text, 24);
-    let size = test_support::size(text, 27);
+fn fill(text: &[u8], planes: Planes<'_>, s: &mut [f32], out: &mut [u8]) -> Left {
     let answer = ffi::chroma_fill(
         layout(text),
-        y,
-        cb,
-        cr,
-        strides(text),
-        upsampling,
-        kernel,
-        size,
+        planes.y.bytes,
+        planes.cb.bytes,
+        planes.cr.bytes,
+        strides(planes),
+        number(text, 22),
+        number(text, 24),
+        test_support::size(text, 27),
         s,
         out,
     );
@@ -266,18 +277,18 @@ fn picture(input: &[u8], s: &mut [f32], out: &mut [u8]) -> Left {
 }
 
 // The call of a picture or of a fill, as a line's kind says.
-fn bytes_into(text: &[u8], y: &[u8], cb: &[u8], cr: &[u8], s: &mut [f32], out: &mut [u8]) -> Left {
+fn bytes_into(text: &[u8], planes: Planes<'_>, s: &mut [f32], out: &mut [u8]) -> Left {
     if test_support::kind(text) == b'p' {
-        return picture(y, s, out);
+        return picture(planes.y.bytes, s, out);
     }
-    fill(text, y, cb, cr, s, out)
+    fill(text, planes, s, out)
 }
 
 // The call of a picture or of a fill into an output that no call has written, as long as the line says.
-fn bytes(text: &[u8], y: &[u8], cb: &[u8], cr: &[u8], s: &mut [f32]) -> Left {
+fn bytes(text: &[u8], planes: Planes<'_>, s: &mut [f32]) -> Left {
     let mut out = unwritten_bytes();
     let room = test_support::word(text, 26);
-    bytes_into(text, y, cb, cr, s, &mut out[..room])
+    bytes_into(text, planes, s, &mut out[..room])
 }
 
 // What the call of a pixel comes to. Its three bytes stand in the place of a sum.
@@ -300,36 +311,27 @@ fn pixel(text: &[u8]) -> Left {
 }
 
 // The call, of those without a state, that a line's kind names.
-fn stateless(text: &[u8], y: &[u8], cb: &[u8], cr: &[u8], s: &mut [f32]) -> Left {
+fn stateless(text: &[u8], planes: Planes<'_>, s: &mut [f32]) -> Left {
     match test_support::kind(text) {
-        b'f' | b'p' => bytes(text, y, cb, cr, s),
+        b'f' | b'p' => bytes(text, planes, s),
         b'e' | b'x' => pixel(text),
-        _ => plane(text, y, cb, s),
+        _ => plane(text, planes, s),
     }
 }
 
-// The call that a line's kind names, lent three planes and scratch.
-fn lent(text: &[u8], given: ChromaReader, y: &[u8], cb: &[u8], cr: &[u8], s: &mut [f32]) -> Done {
+// The call that a line's kind names, lent the three planes that the line speaks of. They are made for calls too that have no use for them.
+fn called(text: &[u8], spelling: &[u8], given: ChromaReader, s: &mut [f32]) -> Done {
+    let buffers = Buffers::new(text, spelling);
+    let planes = buffers.planes(text);
     match test_support::kind(text) {
-        b'o' => open(text, given, y, cb, cr, s),
+        b'o' => open(text, given, planes, s),
         b's' => seek(text, given),
-        b'r' => row(text, given, y, cb, cr, s),
+        b'r' => row(text, given, planes, s),
         _ => Done {
-            left: stateless(text, y, cb, cr, s),
+            left: stateless(text, planes, s),
             reader: given,
         },
     }
-}
-
-// A line's call, lent the three planes that the line speaks of. They are made for calls too that have no use for them.
-fn called(text: &[u8], spelling: &[u8], given: ChromaReader, s: &mut [f32]) -> Done {
-    let y = test_support::plane(text, spelling, 0);
-    let cb = test_support::plane(text, spelling, 1);
-    let cr = test_support::plane(text, spelling, 2);
-    let y_len = test_support::word(text, 12);
-    let cb_len = test_support::word(text, 13);
-    let cr_len = test_support::word(text, 14);
-    lent(text, given, &y[..y_len], &cb[..cb_len], &cr[..cr_len], s)
 }
 
 // Writes a call's line. The sum is of its outputs, of the state afterwards, and of whether it changed scratch that it may not touch.

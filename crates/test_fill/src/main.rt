@@ -12,9 +12,12 @@ ghost use Rattle.std.specs.Prelude.{◌<◌};
 mod refills;
 
 use fill::ChromaUpsampling;
-use kernels::{Pixel, YcbcrKernel};
+use image::Planes;
+use kernels::{Rgb, YcbcrKernel};
+use laws::Refusal;
 use std::io;
 use std::io::Print;
+use test_support::Buffers;
 
 // Inner: scratch that holds one value throughout, so that the sum shows a call that writes where it may not.
 pub fn marked() -> [f32; 600_000] {
@@ -27,12 +30,13 @@ pub fn unwritten() -> [u8; 65_536] {
 }
 
 // Writes the line of a single pixel: its refusal, or its three bytes in place of a sum.
-fn write_pixel(rt: &impl Print, pixel: Pixel) -> io::Result<()> {
+fn write_pixel(rt: &impl Print, pixel: Result<Rgb, Refusal>) -> io::Result<()> {
     match pixel {
-        Pixel::Rgb(r, g, b) => {
-            test_support::write_line(rt, 0, r as u32 * 65_536 + g as u32 * 256 + b as u32)
+        Ok(rgb) => {
+            let bytes = u32::from_be_bytes([0, rgb.r, rgb.g, rgb.b]);
+            test_support::write_line(rt, 0, bytes)
         }
-        Pixel::Refused(n) => test_support::write_line(rt, n as usize, 0),
+        Err(why) => test_support::write_line(rt, usize::from(why.number()), 0),
     }
 }
 
@@ -85,18 +89,13 @@ pub fn kernel(text: &[u8]) -> YcbcrKernel {
 fn fill_lent(
     rt: &impl Print,
     text: &[u8],
-    y: &[u8],
-    cb: &[u8],
-    cr: &[u8],
+    planes: Planes<'_>,
     s: &mut [f32],
     out: &mut [u8],
 ) -> io::Result<()> {
     let answer = test_support::number(reconstruction::fill(
         test_support::layout(text),
-        y,
-        cb,
-        cr,
-        test_support::strides(text),
+        planes,
         upsampling(text),
         kernel(text),
         test_support::size(text, 20),
@@ -111,24 +110,21 @@ fn fill_lent(
     test_support::write_line(rt, answer, sum)
 }
 
-// Makes the call of a fill with scratch and `out` that no call has touched, as long as its line says.
-fn fill_marked(rt: &impl Print, text: &[u8], y: &[u8], cb: &[u8], cr: &[u8]) -> io::Result<()> {
+// Makes the call of a fill with the three planes that its line speaks of, and with scratch and `out` that no call has touched, as long as the
+// line says.
+fn fill(rt: &impl Print, text: &[u8], spelling: &[u8]) -> io::Result<()> {
+    let buffers = Buffers::new(text, spelling);
     let mut s = marked();
     let mut out = unwritten();
     let space = test_support::long(text, 21).min(600_000);
     let room = test_support::word(text, 23);
-    fill_lent(rt, text, y, cb, cr, &mut s[..space], &mut out[..room])
-}
-
-// Makes the call of a fill with the three planes that its line speaks of.
-fn fill(rt: &impl Print, text: &[u8], spelling: &[u8]) -> io::Result<()> {
-    let y = test_support::plane(text, spelling, 0);
-    let cb = test_support::plane(text, spelling, 1);
-    let cr = test_support::plane(text, spelling, 2);
-    let y_len = test_support::word(text, 12);
-    let cb_len = test_support::word(text, 13);
-    let cr_len = test_support::word(text, 14);
-    fill_marked(rt, text, &y[..y_len], &cb[..cb_len], &cr[..cr_len])
+    fill_lent(
+        rt,
+        text,
+        buffers.planes(text),
+        &mut s[..space],
+        &mut out[..room],
+    )
 }
 
 // Makes the call that a line's kind names.

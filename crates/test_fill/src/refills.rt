@@ -7,10 +7,10 @@
 ghost use Rattle.std.specs.Prelude.{◌<◌, length};
 
 use fill::ChromaUpsampling;
-use image::{Rectangle, Strides};
+use image::{Planes, Rectangle};
 use std::io;
 use std::io::Print;
-use test_support::{byte, size, word};
+use test_support::{Buffers, byte, front, size, word};
 
 // Scratch for the fill before the change.
 fn plain() -> [f32; 65_536] {
@@ -113,15 +113,6 @@ fn old_plane(text: &[u8], change: &[u8], new: &[u8], k: usize) -> [u8; 65_536]
     plane
 }
 
-// The strides of the planes before the change.
-fn old_strides(change: &[u8]) -> Strides {
-    Strides {
-        y: size(change, 4),
-        cb: size(change, 5),
-        cr: size(change, 6),
-    }
-}
-
 // The rectangle of changed cells.
 fn rectangle(change: &[u8]) -> Rectangle {
     Rectangle {
@@ -132,18 +123,15 @@ fn rectangle(change: &[u8]) -> Rectangle {
     }
 }
 
-// Fills out from the planes before the change, where the line asks for it.
-fn hold(text: &[u8], change: &[u8], y: &[u8], cb: &[u8], cr: &[u8], out: &mut [u8]) {
+// Fills out from the planes before the change, where the line asks for it. A fill that is refused leaves it.
+fn hold(text: &[u8], change: &[u8], old: Planes<'_>, out: &mut [u8]) {
     if word(change, 13) != 1 {
         return;
     }
     let mut s = plain();
-    let answer = reconstruction::fill(
+    let _ = reconstruction::fill(
         test_support::layout(text),
-        y,
-        cb,
-        cr,
-        old_strides(change),
+        old,
         ChromaUpsampling::LumaGuided,
         crate::kernel(text),
         size(text, 20),
@@ -152,39 +140,21 @@ fn hold(text: &[u8], change: &[u8], y: &[u8], cb: &[u8], cr: &[u8], out: &mut [u
     );
 }
 
-// What out holds before the call.
-fn held(text: &[u8], change: &[u8], y: &[u8], cb: &[u8], cr: &[u8]) -> [u8; 65_536] {
-    let mut out = crate::unwritten();
-    let room = word(text, 23);
-    hold(text, change, y, cb, cr, &mut out[..room]);
-    out
-}
-
 // Makes the call of a refill and writes its line. The sum is of all of out, and of the scratch that the call may not touch: all of it where
 // the rectangle has no cell.
 fn refill_lent(
     rt: &impl Print,
     text: &[u8],
     change: &[u8],
-    old_y: &[u8],
-    old_cb: &[u8],
-    old_cr: &[u8],
-    y: &[u8],
-    cb: &[u8],
-    cr: &[u8],
+    old: Planes<'_>,
+    new: Planes<'_>,
     s: &mut [f32],
     out: &mut [u8],
 ) -> io::Result<()> {
     let answer = test_support::number(reconstruction::refill(
         test_support::layout(text),
-        old_y,
-        old_cb,
-        old_cr,
-        old_strides(change),
-        y,
-        cb,
-        cr,
-        test_support::strides(text),
+        old,
+        new,
         rectangle(change),
         crate::kernel(text),
         size(text, 20),
@@ -205,68 +175,37 @@ fn refill_marked(
     rt: &impl Print,
     text: &[u8],
     change: &[u8],
-    old_y: &[u8],
-    old_cb: &[u8],
-    old_cr: &[u8],
-    y: &[u8],
-    cb: &[u8],
-    cr: &[u8],
+    old: Planes<'_>,
+    new: Planes<'_>,
 ) -> io::Result<()> {
     let mut s = crate::marked();
-    let mut out = held(text, change, old_y, old_cb, old_cr);
+    let mut out = crate::unwritten();
     let space = test_support::long(text, 21).min(600_000);
     let room = word(text, 23);
+    hold(text, change, old, &mut out[..room]);
     refill_lent(
         rt,
         text,
         change,
-        old_y,
-        old_cb,
-        old_cr,
-        y,
-        cb,
-        cr,
+        old,
+        new,
         &mut s[..space],
         &mut out[..room],
-    )
-}
-
-// Makes the call of a refill with the planes before the change that go with those after it.
-fn refill_after(
-    rt: &impl Print,
-    text: &[u8],
-    change: &[u8],
-    y: &[u8],
-    cb: &[u8],
-    cr: &[u8],
-) -> io::Result<()> {
-    let old_y = old_plane(text, change, y, 0);
-    let old_cb = old_plane(text, change, cb, 1);
-    let old_cr = old_plane(text, change, cr, 2);
-    let y_len = word(change, 7);
-    let cb_len = word(change, 8);
-    let cr_len = word(change, 9);
-    refill_marked(
-        rt,
-        text,
-        change,
-        &old_y[..y_len],
-        &old_cb[..cb_len],
-        &old_cr[..cr_len],
-        y,
-        cb,
-        cr,
     )
 }
 
 // Inner: makes the call of a refill with the planes that its line and the change's speak of, and writes its line, which rt compares with the
 // stored one. It gives nothing but an error where writing failed and is lent nothing to write, so that there is nothing else to promise.
 pub fn refill(rt: &impl Print, text: &[u8], spelling: &[u8], change: &[u8]) -> io::Result<()> {
-    let y = test_support::plane(text, spelling, 0);
-    let cb = test_support::plane(text, spelling, 1);
-    let cr = test_support::plane(text, spelling, 2);
-    let y_len = word(text, 12);
-    let cb_len = word(text, 13);
-    let cr_len = word(text, 14);
-    refill_after(rt, text, change, &y[..y_len], &cb[..cb_len], &cr[..cr_len])
+    let buffers = Buffers::new(text, spelling);
+    let new = buffers.planes(text);
+    let y = old_plane(text, change, new.y.bytes, 0);
+    let cb = old_plane(text, change, new.cb.bytes, 1);
+    let cr = old_plane(text, change, new.cr.bytes, 2);
+    let old = Planes {
+        y: front(&y, word(change, 7), size(change, 4)),
+        cb: front(&cb, word(change, 8), size(change, 5)),
+        cr: front(&cr, word(change, 9), size(change, 6)),
+    };
+    refill_marked(rt, text, change, old, new)
 }

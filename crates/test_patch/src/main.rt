@@ -9,8 +9,9 @@
 
 ghost use Rattle.std.specs.Prelude.{◌<◌};
 
-use colorimetry::{Between, ChartReading, Nearest, Patch, Patched};
+use colorimetry::{Between, ChartReading, Patch, Patched};
 use ffi::{ChromaChartReading, ChromaPatch, ChromaRectangle};
+use laws::Refusal;
 use reconstruction::Rectangle;
 use std::io;
 use std::io::Print;
@@ -28,11 +29,6 @@ fn rectangle(text: &[u8]) -> Rectangle {
 // The bits of a mean. A not-a-number has none that are known, and gives those that no number has.
 fn bits(x: f64) -> u64 {
     if x.is_nan() { u64::MAX } else { x.to_bits() }
-}
-
-// Writes a blank and a number.
-fn write_number(rt: &impl Print, n: usize) -> io::Result<()> {
-    print!(rt; " {n}")
 }
 
 // Writes the bits of the three means.
@@ -55,16 +51,17 @@ fn write_patch(rt: &impl Print, patch: Patch) -> io::Result<()> {
     }
 }
 
-// Writes the line of a patch.
-fn write_patched(rt: &impl Print, p: Patched) -> io::Result<()> {
-    let answer = p.answer;
-    let patch = p.patch;
-    let whole = p.whole;
-    print!(rt; "{}", test_support::number(answer))?;
-    write_number(rt, p.pixels)?;
-    write_patch(rt, patch)?;
-    write_whole(rt, whole)?;
-    println!(rt)
+// Writes the line of a patch. That of a refused one is of no pixels.
+fn write_patched(rt: &impl Print, patched: Result<Patched, Refusal>) -> io::Result<()> {
+    match patched {
+        Ok(p) => {
+            print!(rt; "0 {}", p.pixels)?;
+            write_patch(rt, p.patch)?;
+            write_whole(rt, p.whole)?;
+            println!(rt)
+        }
+        Err(why) => println!(rt; "{} 0 nothing 0 0 0", why.number()),
+    }
 }
 
 // Makes the call of a patch of a picture and writes its line.
@@ -109,33 +106,33 @@ fn c_patch(rt: &impl Print, text: &[u8], rgb: &[u8]) -> io::Result<()> {
 }
 
 // Writes the nearest shade and how far it is, or that there is none.
-fn write_nearest(rt: &impl Print, nearest: Nearest, off: u32) -> io::Result<()> {
+fn write_nearest(rt: &impl Print, nearest: Option<usize>, off: u32) -> io::Result<()> {
     match nearest {
-        Nearest::Shade(i) => print!(rt; " {i} {off}"),
-        Nearest::Nothing => print!(rt; " nothing"),
+        Some(shade) => print!(rt; " {shade} {off}"),
+        None => print!(rt; " nothing"),
     }
 }
 
 // Writes the nearest mix and how far it is, or that there is none.
-fn write_between(rt: &impl Print, between: Between, off: u32) -> io::Result<()> {
+fn write_between(rt: &impl Print, between: Option<Between>, off: u32) -> io::Result<()> {
     match between {
-        Between::Mix(i, k) => print!(rt; " {i} {k} {off}"),
-        Between::Nothing => print!(rt; " nothing"),
+        Some(mix) => print!(rt; " {} {} {off}", mix.first, mix.weight),
+        None => print!(rt; " nothing"),
     }
 }
 
-// Writes the line of a reading.
-fn write_reading(rt: &impl Print, r: ChartReading) -> io::Result<()> {
-    let answer = r.answer;
-    let nearest = r.nearest;
-    let between = r.between;
-    let whole = r.whole;
-    print!(rt; "{}", test_support::number(answer))?;
-    write_number(rt, r.pixels)?;
-    write_nearest(rt, nearest, r.nearest_off)?;
-    write_between(rt, between, r.between_off)?;
-    write_whole(rt, whole)?;
-    println!(rt)
+// Writes the line of a reading. That of a refused one is of no pixels.
+fn write_reading(rt: &impl Print, reading: Result<ChartReading, Refusal>) -> io::Result<()> {
+    match reading {
+        Ok(r) => {
+            print!(rt; "0 {}", r.pixels)?;
+            write_nearest(rt, r.nearest, r.nearest_off)?;
+            write_between(rt, r.between, r.between_off)?;
+            write_whole(rt, r.whole)?;
+            println!(rt)
+        }
+        Err(why) => println!(rt; "{} 0 nothing nothing 0 0 0", why.number()),
+    }
 }
 
 // Makes the call of a reading and writes its line.

@@ -6,7 +6,7 @@
 
 ghost use Rattle.std.specs.Prelude.{◌≤◌, length, IfOk};
 
-use picture::Outcome;
+use laws::Refusal;
 use std::io;
 use std::io::{Print, Read};
 
@@ -69,9 +69,9 @@ fn put_piece(text: &[u8], base: &[u8], room: &mut [u8]) -> usize
     }
 }
 
-// The sum of `out` and of the line that the program writes on refusal n.
-fn refused_sum(n: u8, out: &[u8]) -> u32 {
-    let line = picture::refusal_line(n);
+// The sum of `out` and of the line that the program writes on a refusal.
+fn refused_sum(why: Refusal, out: &[u8]) -> u32 {
+    let line = picture::refusal_line(why.number());
     let len = line.len;
     let bytes = line.bytes;
     test_support::sum_bytes(test_support::sum_bytes(0, out), &bytes[..len])
@@ -79,25 +79,23 @@ fn refused_sum(n: u8, out: &[u8]) -> u32 {
 
 // Writes a call's line. The sum is of `out` and of the length; on refusal, of `out`, of the refusal's line and of whether scratch was
 // changed.
-fn write_outcome(rt: &impl Print, outcome: Outcome, out: &[u8], changed: bool) -> io::Result<()> {
-    match outcome {
-        Outcome::Written(len) => {
-            let sum = test_support::sum_bytes(0, out);
-            test_support::write_line(
-                rt,
-                0,
-                test_support::added(sum, (len % 4_294_967_296) as u32),
-            )
-        }
-        Outcome::Refused(n) => {
-            let fault = if changed { 1 } else { 0 };
-            test_support::write_line(
-                rt,
-                n as usize,
-                test_support::added(refused_sum(n, out), fault),
-            )
-        }
-    }
+fn write_outcome(
+    rt: &impl Print,
+    outcome: Result<usize, Refusal>,
+    out: &[u8],
+    changed: bool,
+) -> io::Result<()> {
+    let (answer, sum) = match outcome {
+        Ok(len) => (
+            0,
+            test_support::added(test_support::sum_bytes(0, out), test_support::low(len)),
+        ),
+        Err(why) => (
+            usize::from(why.number()),
+            test_support::added(refused_sum(why, out), u32::from(changed)),
+        ),
+    };
+    test_support::write_line(rt, answer, sum)
 }
 
 // Calls `picture` and writes its line.

@@ -9,7 +9,8 @@
 
 ghost use Rattle.std.specs.Prelude.{◌<◌};
 
-use laws::Answer;
+use image::Plane;
+use laws::Refusal;
 use std::io;
 use std::io::Print;
 
@@ -58,33 +59,22 @@ fn drawn(text: &[u8], n: usize, seed: usize) -> [u8; 65_536]
 
 // The answer to a guided plane. The plane that isn't the line's, luma but for kind `y`, is the same 20,000 bytes for all lines of its kind and
 // maxval.
-fn guided(text: &[u8], plane: &[u8], s: &mut [f32], out: &mut [u16]) -> Answer {
-    let other = drawn(text, 20_000, OTHER);
+fn guided(text: &[u8], plane: Plane<'_>, s: &mut [f32], out: &mut [u16]) -> Result<(), Refusal> {
     let layout = test_support::layout(text);
-    let stride = test_support::size(text, 9);
-    let apart = other_stride(layout.w);
+    let drawn = drawn(text, 20_000, OTHER);
+    let other = test_support::front(&drawn, 20_000, other_stride(layout.w));
     if kind(text) == b'y' {
-        return reconstruction::guided_plane(layout, plane, stride, &other[..20_000], apart, s, out);
+        return reconstruction::guided_plane(layout, plane, other, s, out);
     }
-    reconstruction::guided_plane(layout, &other[..20_000], apart, plane, stride, s, out)
+    reconstruction::guided_plane(layout, other, plane, s, out)
 }
 
 // The answer to the call that a line's kind names.
-fn called(text: &[u8], plane: &[u8], s: &mut [f32], out: &mut [u16]) -> Answer {
+fn called(text: &[u8], plane: Plane<'_>, s: &mut [f32], out: &mut [u16]) -> Result<(), Refusal> {
+    let layout = test_support::layout(text);
     match kind(text) {
-        b't' => reconstruction::triangular_plane(
-            test_support::layout(text),
-            plane,
-            test_support::size(text, 9),
-            out,
-        ),
-        b'l' | b'e' => reconstruction::linear_plane(
-            test_support::layout(text),
-            plane,
-            test_support::size(text, 9),
-            s,
-            out,
-        ),
+        b't' => reconstruction::triangular_plane(layout, plane, out),
+        b'l' | b'e' => reconstruction::linear_plane(layout, plane, s, out),
         _ => guided(text, plane, s, out),
     }
 }
@@ -93,7 +83,7 @@ fn called(text: &[u8], plane: &[u8], s: &mut [f32], out: &mut [u16]) -> Answer {
 fn write_call(
     rt: &impl Print,
     text: &[u8],
-    plane: &[u8],
+    plane: Plane<'_>,
     s: &mut [f32],
     out: &mut [u16],
 ) -> io::Result<()> {
@@ -108,16 +98,11 @@ fn replay(rt: &impl Print, text: &[u8]) -> io::Result<()> {
     let plane_len = test_support::word(text, 10);
     let space = test_support::long(text, 11).min(200_000);
     let room = test_support::word(text, 13);
-    let plane = drawn(text, plane_len, test_support::word(text, 14));
+    let drawn = drawn(text, plane_len, test_support::word(text, 14));
+    let plane = test_support::front(&drawn, plane_len, test_support::size(text, 9));
     let mut s = marked();
     let mut out = unwritten();
-    write_call(
-        rt,
-        text,
-        &plane[..plane_len],
-        &mut s[..space],
-        &mut out[..room],
-    )
+    write_call(rt, text, plane, &mut s[..space], &mut out[..room])
 }
 
 // A line has 77 bytes, its newline too; the list ends where fewer are left.

@@ -9,28 +9,26 @@
 
 ghost use Rattle.std.specs.Prelude.{◌≤◌};
 
-use guided::{Geometry, Reader, Reply};
-use image::Range;
+use guided::{Geometry, Reader};
+use image::{Planes, Range};
+use laws::Refusal;
 use std::io;
 use std::io::{Print, Read};
 use taps::Phase;
+use test_support::Buffers;
 
-// What a call answered, the reader that it gave, and the sum of its outputs.
+// What a call answered, and the sum of its outputs.
 #[derive(Clone, Copy)]
 struct Done {
     answer: usize,
-    reader: Reader,
     sum: u32,
 }
 
-// What a reply comes to, with the sum of the call's outputs.
-fn done_by(reply: Reply, sum: u32) -> Done {
-    let answer = reply.answer;
-    let reader = reply.reader;
+// What a call comes to that has no outputs to sum.
+fn without_outputs(answer: Result<(), Refusal>) -> Done {
     Done {
         answer: test_support::number(answer),
-        reader,
-        sum,
+        sum: 0,
     }
 }
 
@@ -122,87 +120,53 @@ fn handed(text: &[u8], r: Reader) -> Reader {
     reader_of(n)
 }
 
-// `open` with a line's layout and strides. It has no outputs to sum.
-fn open(text: &[u8], given: Reader, y: &[u8], cb: &[u8], cr: &[u8], s: &[f32]) -> Done {
-    let reply = reconstruction::open(
-        test_support::layout(text),
-        y,
-        cb,
-        cr,
-        test_support::strides(text),
-        s,
-        given,
-    );
-    done_by(reply, 0)
-}
-
-// `row` with a line's strides and row number, and the sum of both outputs after it.
+// `row` to a line's row number, and the sum of both outputs after it.
 fn row_into(
     text: &[u8],
-    given: Reader,
-    y: &[u8],
-    cb: &[u8],
-    cr: &[u8],
+    reader: &mut Reader,
+    planes: Planes<'_>,
     s: &mut [f32],
     out_cb: &mut [f32],
     out_cr: &mut [f32],
 ) -> Done {
-    let reply = reconstruction::row(
-        given,
-        y,
-        cb,
-        cr,
-        test_support::strides(text),
-        test_support::size(text, 23),
-        s,
-        out_cb,
-        out_cr,
-    );
-    let sum = test_support::sum_floats(test_support::sum_floats(0, out_cb, 0), out_cr, 0);
-    done_by(reply, sum)
+    let row = test_support::size(text, 23);
+    let answer = reconstruction::row(reader, planes, row, s, out_cb, out_cr);
+    Done {
+        answer: test_support::number(answer),
+        sum: test_support::sum_floats(test_support::sum_floats(0, out_cb, 0), out_cr, 0),
+    }
 }
 
 // `row` into outputs that no call has written, as long as the line says.
-fn row(text: &[u8], given: Reader, y: &[u8], cb: &[u8], cr: &[u8], s: &mut [f32]) -> Done {
+fn row(text: &[u8], reader: &mut Reader, planes: Planes<'_>, s: &mut [f32]) -> Done {
     let mut out_cb = unwritten();
     let mut out_cr = unwritten();
     let room_cb = test_support::word(text, 21);
     let room_cr = test_support::word(text, 22);
     row_into(
         text,
-        given,
-        y,
-        cb,
-        cr,
+        reader,
+        planes,
         s,
         &mut out_cb[..room_cb],
         &mut out_cr[..room_cr],
     )
 }
 
-// `seek` to a line's row number. It has no outputs to sum.
-fn seek(text: &[u8], given: Reader) -> Done {
-    done_by(reconstruction::seek(given, test_support::size(text, 23)), 0)
-}
-
-// The call that a line's kind names, lent three planes and scratch.
-fn lent(text: &[u8], given: Reader, y: &[u8], cb: &[u8], cr: &[u8], s: &mut [f32]) -> Done {
+// The call that a line's kind names, lent the three planes that the line speaks of. They are made for `seek` too, which has no use for them.
+fn called(text: &[u8], spelling: &[u8], reader: &mut Reader, s: &mut [f32]) -> Done {
+    let buffers = Buffers::new(text, spelling);
+    let planes = buffers.planes(text);
     match test_support::kind(text) {
-        b'o' => open(text, given, y, cb, cr, s),
-        b's' => seek(text, given),
-        _ => row(text, given, y, cb, cr, s),
+        b'o' => without_outputs(reconstruction::open(
+            test_support::layout(text),
+            planes,
+            s,
+            reader,
+        )),
+        b's' => without_outputs(reconstruction::seek(reader, test_support::size(text, 23))),
+        _ => row(text, reader, planes, s),
     }
-}
-
-// A line's call, lent the three planes that the line speaks of. They are made for `seek` too, which has no use for them.
-fn called(text: &[u8], spelling: &[u8], given: Reader, s: &mut [f32]) -> Done {
-    let y = test_support::plane(text, spelling, 0);
-    let cb = test_support::plane(text, spelling, 1);
-    let cr = test_support::plane(text, spelling, 2);
-    let y_len = test_support::word(text, 12);
-    let cb_len = test_support::word(text, 13);
-    let cr_len = test_support::word(text, 14);
-    lent(text, given, &y[..y_len], &cb[..cb_len], &cr[..cr_len], s)
 }
 
 // How many floats at the front of scratch an accepted row call may touch: 32·cw + 8·w, where neither is past 8,192.
@@ -211,60 +175,46 @@ fn row_need(reader: Reader) -> usize {
     32 * g.cw.min(8_192) + 8 * g.w.min(8_192)
 }
 
-// Writes a call's line. The sum is of its outputs, of the reader that it gave, and of whether it changed scratch that it may not touch.
-fn write_call(rt: &impl Print, done: Done, fault: u32) -> io::Result<()> {
-    let n = numbers(done.reader);
+// Writes a call's line. The sum is of its outputs, of the reader as the call left it, and of whether it changed scratch that it may not touch.
+fn write_call(rt: &impl Print, done: Done, reader: Reader, fault: u32) -> io::Result<()> {
+    let n = numbers(reader);
     let sum = test_support::sum_numbers(done.sum, &n);
     test_support::write_line(rt, done.answer, test_support::added(sum, fault))
 }
 
-// Makes the call of a line with the reader that it is handed, and writes its line.
+// Makes the call of a line with a reader, and writes its line.
 fn written(
     rt: &impl Print,
     text: &[u8],
     spelling: &[u8],
-    given: Reader,
+    reader: &mut Reader,
     s: &mut [f32],
-) -> io::Result<Done> {
-    let need = row_need(given);
+) -> io::Result<()> {
+    let need = row_need(*reader);
     let before = test_support::scratch_sums(s, need);
-    let done = called(text, spelling, given, s);
+    let done = called(text, spelling, reader, s);
     let after = test_support::scratch_sums(s, need);
-    write_call(
-        rt,
-        done,
-        test_support::scratch_fault(before, after, done.answer),
-    )?;
-    Ok(done)
+    let fault = test_support::scratch_fault(before, after, done.answer);
+    write_call(rt, done, *reader, fault)
 }
 
-// Makes a line's call and gives the reader for the next line: the one that the call gave, or, where a number was changed by an index below
-// 16, the one from before it.
-fn replayed(
-    rt: &impl Print,
-    text: &[u8],
-    spelling: &[u8],
-    reader: Reader,
-    s: &mut [f32],
-) -> io::Result<Reader> {
-    let done = written(rt, text, spelling, handed(text, reader), s)?;
-    let change = test_support::word(text, 24);
-    if 0 < change && change < 16 {
-        return Ok(reader);
-    }
-    Ok(done.reader)
-}
-
-// Makes a line's call with as much of the front of scratch as the line says, and gives the reader for the next line.
+// Makes a line's call with as much of the front of scratch as the line says. The reader is afterwards what the call left, or, where a number
+// was changed by an index below 16, what it was.
 fn replay(
     rt: &impl Print,
     text: &[u8; 142],
     spelling: &[u8; 142],
-    reader: Reader,
+    reader: &mut Reader,
     s: &mut [f32],
-) -> io::Result<Reader> {
+) -> io::Result<()> {
+    let mut given = handed(text, *reader);
     let space = test_support::long(text, 19).min(s.len());
-    replayed(rt, text, spelling, reader, &mut s[..space])
+    written(rt, text, spelling, &mut given, &mut s[..space])?;
+    let change = test_support::word(text, 24);
+    if change == 0 || 16 <= change {
+        *reader = given;
+    }
+    Ok(())
 }
 
 // Makes the calls of all lines, which have 142 bytes each, the newline too. The list ends where fewer are left. The first reader has 0
@@ -278,7 +228,7 @@ fn replay_all<R: Read>(rt: &impl Print, input: &mut R, s: &mut [f32]) -> io::Res
         };
         match text[0] {
             b'b' => spelling = text,
-            _ => reader = replay(rt, &text, &spelling, reader, s)?,
+            _ => replay(rt, &text, &spelling, &mut reader, s)?,
         }
     }
     Ok(())

@@ -1,13 +1,13 @@
 // The line that a test program writes for a call: its answer as a number, and the sum of what it left.
-use laws::Answer;
+use laws::Refusal;
 use std::io;
 use std::io::Print;
 
 // Inner: an answer as a line gives it: 0 where the call was accepted, and the refusal's number otherwise.
-pub fn number(answer: Answer) -> usize {
+pub fn number(answer: Result<(), Refusal>) -> usize {
     match answer {
-        Answer::Accepted => 0,
-        Answer::Refused(n) => n as usize,
+        Ok(()) => 0,
+        Err(why) => usize::from(why.number()),
     }
 }
 

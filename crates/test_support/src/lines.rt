@@ -1,8 +1,8 @@
-// What the words of a line say together: the layout and the strides that its call is handed, and how much of scratch it may touch.
+// What the words of a line say together: the layout that its call is handed, and how much of scratch it may touch.
 ghost use Rattle.std.specs.Prelude.{◌<◌};
 
 use crate::words::{byte, long, size, word};
-use image::{Layout, Range, Strides};
+use image::{Layout, Range};
 use laws::{Axis, Siting};
 
 // Whether a line's kind is a capital, which says that the words of its ratios and of its sample bytes hold more than these.
@@ -99,15 +99,6 @@ pub fn layout(text: &[u8]) -> Layout {
         sample_bytes: sample_bytes(text),
         maxval: long(text, 7) as u32,
         range: range_of(range(text)),
-    }
-}
-
-// Inner: the strides of the three planes, which stand in the three words behind the layout.
-pub fn strides(text: &[u8]) -> Strides {
-    Strides {
-        y: size(text, 9),
-        cb: size(text, 10),
-        cr: size(text, 11),
     }
 }
 

@@ -1,9 +1,10 @@
 // The planes that calls are handed: grown from a seed by a generator that oracle/*-cases has too, or, where no seed gives the bytes that are
 // wanted, spelled by a line of their own.
-ghost use Rattle.std.specs.Prelude.{◌≡◌, ◌<◌, length};
+ghost use Rattle.std.specs.Prelude.{◌≡◌, ◌≤◌, ◌<◌, length};
 
 use crate::checksums::low;
 use crate::words::{long, size, spelled, word};
+use image::{Plane, Planes};
 
 // The next state of a linear congruential generator, modulo 2^32.
 fn next(state: u32) -> u32 {
@@ -156,9 +157,9 @@ fn start(text: &[u8], k: usize) -> usize {
     }
 }
 
-// Inner: plane k of the three that a line speaks of: 0 is Y, 1 Cb and 2 Cr. Shape 3 is spelled by `spelling`, a line of its own; the seeds of
+// Plane k of the three that a line speaks of: 0 is Y, 1 Cb and 2 Cr. Shape 3 is spelled by `spelling`, a line of its own; the seeds of
 // the others follow each other, so that no two are alike. The samples of shape 6 are at most the line's maxval.
-pub fn plane(text: &[u8], spelling: &[u8], k: usize) -> [u8; 65_536]
+fn plane(text: &[u8], spelling: &[u8], k: usize) -> [u8; 65_536]
     requires { k < 3 }
 {
     let n = word(text, 12 + k);
@@ -172,4 +173,42 @@ pub fn plane(text: &[u8], spelling: &[u8], k: usize) -> [u8; 65_536]
         return grown_held(n, seed, size(text, 6), most);
     }
     grown(n, seed, shape)
+}
+
+// Inner: the plane whose n bytes stand at the front of a buffer.
+pub fn front(buffer: &[u8], n: usize, stride: usize) -> Plane<'_>
+    requires { n ≤ length buffer.now }
+{
+    Plane {
+        bytes: &buffer[..n],
+        stride,
+    }
+}
+
+// Inner: the three planes that a line speaks of, each at the front of a buffer like that of `grown`.
+#[derive(Drop)]
+pub struct Buffers {
+    y: [u8; 65_536],
+    cb: [u8; 65_536],
+    cr: [u8; 65_536],
+}
+
+impl Buffers {
+    // Inner: the buffers of a line; `spelling` is the line that spells planes of shape 3.
+    pub fn new(text: &[u8], spelling: &[u8]) -> Buffers {
+        Buffers {
+            y: plane(text, spelling, 0),
+            cb: plane(text, spelling, 1),
+            cr: plane(text, spelling, 2),
+        }
+    }
+
+    // Inner: the planes as the line's call is lent them, as long as words 12 to 14 say and with the strides in words 9 to 11.
+    pub fn planes(&self, text: &[u8]) -> Planes<'_> {
+        Planes {
+            y: front(&self.y, word(text, 12), size(text, 9)),
+            cb: front(&self.cb, word(text, 13), size(text, 10)),
+            cr: front(&self.cr, word(text, 14), size(text, 11)),
+        }
+    }
 }
