@@ -7,11 +7,11 @@ ghost use Rattle.colour_rows.specs.Inner.Colours.{row_colour, colour_row};
 ghost use Rattle.colour_rows.specs.Inner.Blocks.{PixelsFrom};
 ghost use Rattle.colour_rows.specs.Inner.Lent.{RowLent, Blocked};
 ghost use Rattle.kernels.specs.declared.kernel.YcbcrKernel.TheVariants.{Exact};
-ghost use Rattle.image.specs.Samples.{plane_of};
+ghost use Rattle.image.specs.Samples.{seen};
 
 use crate::blocks::row_by_blocks;
 use crate::samples::{chroma_block, luma_block, wide_block};
-use image::Layout;
+use image::{Layout, Plane};
 use kernel_blocks::Block;
 
 // Sixteen pixels by the exact kernel at maxval 255, of luma y and of the chroma of the columns from x on.
@@ -28,17 +28,16 @@ fn exact_pixels(y: [u16; Block::LEN], s: &[f32], w: usize, x: usize) -> [[u8; Bl
 // The sixteen pixels of a row from column x on.
 fn exact_at(
     layout: Layout,
-    plane: &[u8],
-    stride: usize,
+    plane: Plane<'_>,
     row: usize,
     s: &[f32],
     x: usize,
 ) -> [[u8; Block::LEN]; 3]
-    requires row_lent { RowLent layout (plane_of plane.now stride) row (length s.now) }
+    requires row_lent { RowLent layout (seen plane) row (length s.now) }
     requires blocks_lent { Blocked Block.LEN Exact layout × (x + Block.LEN ≤ layout.w) }
-    ensures { PixelsFrom Block.LEN result x (row_colour Exact layout (plane_of plane.now stride) row s.now) }
+    ensures { PixelsFrom Block.LEN result x (row_colour Exact layout (seen plane.entry) row s.now) }
 {
-    let y = luma_block(layout, plane, stride, row, x);
+    let y = luma_block(layout, plane, row, x);
     exact_pixels(y, s, layout.w, x)
 }
 
@@ -46,23 +45,22 @@ fn exact_at(
 pub fn exact_row(
     layout: Layout,
     size: usize,
-    plane: &[u8],
-    stride: usize,
+    plane: Plane<'_>,
     row: usize,
     s: &[f32],
     out: &mut [u8],
     at: usize,
 )
-    requires row_lent { RowLent layout (plane_of plane.now stride) row (length s.now) }
+    requires row_lent { RowLent layout (seen plane) row (length s.now) }
     requires blocks_lent { Blocked Block.LEN Exact layout × (3 ≤ size) × (size ≤ 4) × (at + layout.w * size ≤ length out.old) }
     ensures { out.new ≡ colour_row
-        Exact layout (plane_of plane.now stride) row s.now at size out.old }
+        Exact layout (seen plane.entry) row s.now at size out.old }
 {
     row_by_blocks(
         |x| -> [[u8; Block::LEN]; 3]
-            requires { RowLent layout (plane_of plane.now stride) row (length s.now) × Blocked Block.LEN Exact layout × (x + Block.LEN ≤ layout.w) }
-            ensures { PixelsFrom Block.LEN result x (row_colour Exact layout (plane_of plane.entry.now stride) row s.entry.now) }
-        { exact_at(layout, plane, stride, row, s, x) },
+            requires { RowLent layout (seen plane) row (length s.now) × Blocked Block.LEN Exact layout × (x + Block.LEN ≤ layout.w) }
+            ensures { PixelsFrom Block.LEN result x (row_colour Exact layout (seen plane.entry) row s.entry.now) }
+        { exact_at(layout, plane, row, s, x) },
         layout.w,
         size,
         out,

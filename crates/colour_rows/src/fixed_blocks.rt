@@ -7,12 +7,12 @@ ghost use Rattle.colour_rows.specs.Inner.Colours.{row_colour, colour_row};
 ghost use Rattle.colour_rows.specs.Inner.Blocks.{PixelsFrom};
 ghost use Rattle.colour_rows.specs.Inner.Lent.{RowLent, Blocked};
 ghost use Rattle.kernels.specs.declared.kernel.YcbcrKernel.TheVariants.{FixedPoint16};
-ghost use Rattle.image.specs.Samples.{plane_of};
+ghost use Rattle.image.specs.Samples.{seen};
 ghost use Rattle.kernels.specs.Inner.Tables.{Tabled};
 
 use crate::blocks::row_by_blocks;
 use crate::samples::{luma_block, whole_chroma_block};
-use image::Layout;
+use image::{Layout, Plane};
 use kernel_blocks::Block;
 
 // Sixteen pixels by the fixed kernel, of luma y and of the chroma of the columns from x on. It doesn't look at maxval, d in the contract.
@@ -35,18 +35,17 @@ fn fixed_pixels(
 // The sixteen pixels of a row from column x on.
 fn fixed_at(
     layout: Layout,
-    plane: &[u8],
-    stride: usize,
+    plane: Plane<'_>,
     row: usize,
     s: &[f32],
     x: usize,
     tables: &[[i32; 256]],
 ) -> [[u8; Block::LEN]; 3]
-    requires row_lent { RowLent layout (plane_of plane.now stride) row (length s.now) }
+    requires row_lent { RowLent layout (seen plane) row (length s.now) }
     requires blocks_lent { Blocked Block.LEN FixedPoint16 layout × (x + Block.LEN ≤ layout.w) × Tabled tables.now }
-    ensures { PixelsFrom Block.LEN result x (row_colour FixedPoint16 layout (plane_of plane.now stride) row s.now) }
+    ensures { PixelsFrom Block.LEN result x (row_colour FixedPoint16 layout (seen plane.entry) row s.now) }
 {
-    let y = luma_block(layout, plane, stride, row, x);
+    let y = luma_block(layout, plane, row, x);
     fixed_pixels(y, s, layout.w, x, tables)
 }
 
@@ -54,24 +53,23 @@ fn fixed_at(
 pub fn fixed_row(
     layout: Layout,
     size: usize,
-    plane: &[u8],
-    stride: usize,
+    plane: Plane<'_>,
     row: usize,
     s: &[f32],
     out: &mut [u8],
     at: usize,
     tables: &[[i32; 256]],
 )
-    requires row_lent { RowLent layout (plane_of plane.now stride) row (length s.now) }
+    requires row_lent { RowLent layout (seen plane) row (length s.now) }
     requires blocks_lent { Blocked Block.LEN FixedPoint16 layout × (3 ≤ size) × (size ≤ 4) × (at + layout.w * size ≤ length out.old) × Tabled tables.now }
     ensures { out.new ≡ colour_row
-        FixedPoint16 layout (plane_of plane.now stride) row s.now at size out.old }
+        FixedPoint16 layout (seen plane.entry) row s.now at size out.old }
 {
     row_by_blocks(
         |x| -> [[u8; Block::LEN]; 3]
-            requires { RowLent layout (plane_of plane.now stride) row (length s.now) × Blocked Block.LEN FixedPoint16 layout × (x + Block.LEN ≤ layout.w) × Tabled tables.now }
-            ensures { PixelsFrom Block.LEN result x (row_colour FixedPoint16 layout (plane_of plane.entry.now stride) row s.entry.now) }
-        { fixed_at(layout, plane, stride, row, s, x, tables) },
+            requires { RowLent layout (seen plane) row (length s.now) × Blocked Block.LEN FixedPoint16 layout × (x + Block.LEN ≤ layout.w) × Tabled tables.now }
+            ensures { PixelsFrom Block.LEN result x (row_colour FixedPoint16 layout (seen plane.entry) row s.entry.now) }
+        { fixed_at(layout, plane, row, s, x, tables) },
         layout.w,
         size,
         out,

@@ -8,10 +8,10 @@ ghost use Rattle.colour_rows.specs.Colours.{colour_by, studio_by};
 ghost use Rattle.colour_rows.specs.Inner.Colours.{colour_row, studio_row};
 ghost use Rattle.colour_rows.specs.Inner.Lent.{RowLent};
 ghost use Rattle.kernels.specs.declared.kernel.YcbcrKernel.TheVariants.{Exact, FixedPoint16};
-ghost use Rattle.image.specs.Samples.{plane_of};
+ghost use Rattle.image.specs.Samples.{seen};
 
 use crate::samples::{chroma_256ths, luma_at, whole_chroma};
-use image::Layout;
+use image::{Layout, Plane};
 use kernels::{Rgb, YcbcrKernel};
 
 // A pixel by the exact kernel at maxval 255.
@@ -75,21 +75,20 @@ pub fn plain_row(
     layout: Layout,
     kernel: YcbcrKernel,
     size: usize,
-    plane: &[u8],
-    stride: usize,
+    plane: Plane<'_>,
     row: usize,
     s: &[f32],
     out: &mut [u8],
     at: usize,
 )
-    requires row_lent { RowLent layout (plane_of plane.now stride) row (length s.now) }
+    requires row_lent { RowLent layout (seen plane) row (length s.now) }
     requires le_size { (3 ≤ size) × (at + layout.w * size ≤ length out.old) }
     ensures { out.new ≡ colour_row
-        kernel layout (plane_of plane.now stride) row s.now at size out.old }
+        kernel layout (seen plane.entry) row s.now at size out.old }
 {
     let w = layout.w;
     for x in 0..w {
-        let y = luma_at(layout, plane, stride, row, x);
+        let y = luma_at(layout, plane, row, x);
         let p = plain_pixel(kernel, y, s[x], s[w + x], layout.maxval);
         kernel_blocks::put_pixel(out, at + x * size, p.r, p.g, p.b);
     }
@@ -100,21 +99,20 @@ pub fn plain_row(
 pub fn studio_plain_row(
     layout: Layout,
     size: usize,
-    plane: &[u8],
-    stride: usize,
+    plane: Plane<'_>,
     row: usize,
     s: &[f32],
     out: &mut [u8],
     at: usize,
 )
-    requires row_lent { RowLent layout (plane_of plane.now stride) row (length s.now) }
+    requires row_lent { RowLent layout (seen plane) row (length s.now) }
     requires le_size { (3 ≤ size) × (at + layout.w * size ≤ length out.old) }
     ensures { out.new ≡ studio_row
-        layout (plane_of plane.now stride) row s.now at size out.old }
+        layout (seen plane.entry) row s.now at size out.old }
 {
     let w = layout.w;
     for x in 0..w {
-        let y = luma_at(layout, plane, stride, row, x);
+        let y = luma_at(layout, plane, row, x);
         let rgb = studio_pixel(y, s[x], s[w + x]);
         kernel_blocks::put_pixel(out, at + x * size, rgb.r, rgb.g, rgb.b);
     }

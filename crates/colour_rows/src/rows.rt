@@ -2,13 +2,13 @@
 ghost use Rattle.std.specs.Prelude.{◌≡◌, true, ◌+◌, ◌*◌, ◌≤◌, length};
 ghost use Rattle.colour_rows.specs.Inner.Colours.{colour_row, studio_row, ranged_row};
 ghost use Rattle.colour_rows.specs.Inner.Lent.{RowLent, Blocked, TablesFor};
-ghost use Rattle.image.specs.Samples.{plane_of};
+ghost use Rattle.image.specs.Samples.{seen};
 
 use crate::exact_blocks::exact_row;
 use crate::fixed_blocks::fixed_row;
 use crate::pixels::{plain_row, studio_plain_row};
 use crate::studio_blocks::studio_block_row;
-use image::{Layout, Range};
+use image::{Layout, Plane, Range};
 use kernel_blocks::Block;
 use kernels::YcbcrKernel;
 
@@ -30,25 +30,24 @@ fn block_row(
     layout: Layout,
     kernel: YcbcrKernel,
     size: usize,
-    plane: &[u8],
-    stride: usize,
+    plane: Plane<'_>,
     row: usize,
     s: &[f32],
     out: &mut [u8],
     at: usize,
     tables: &[[i32; 256]],
 )
-    requires row_lent { RowLent layout (plane_of plane.now stride) row (length s.now) }
+    requires row_lent { RowLent layout (seen plane) row (length s.now) }
     requires blocks_lent { Blocked Block.LEN kernel layout × (3 ≤ size) × (size ≤ 4) × (at + layout.w * size ≤ length out.old) × TablesFor kernel tables.now }
     ensures { out.new ≡ colour_row
-        kernel layout (plane_of plane.now stride) row s.now at size out.old }
+        kernel layout (seen plane.entry) row s.now at size out.old }
 {
     match kernel {
         YcbcrKernel::Exact => {
-            exact_row(layout, size, plane, stride, row, s, out, at);
+            exact_row(layout, size, plane, row, s, out, at);
         }
         YcbcrKernel::FixedPoint16 => {
-            fixed_row(layout, size, plane, stride, row, s, out, at, tables);
+            fixed_row(layout, size, plane, row, s, out, at, tables);
         }
     }
 }
@@ -58,47 +57,45 @@ fn full_range_row(
     layout: Layout,
     kernel: YcbcrKernel,
     size: usize,
-    plane: &[u8],
-    stride: usize,
+    plane: Plane<'_>,
     row: usize,
     s: &[f32],
     out: &mut [u8],
     at: usize,
     tables: &[[i32; 256]],
 )
-    requires row_lent { RowLent layout (plane_of plane.now stride) row (length s.now) }
+    requires row_lent { RowLent layout (seen plane) row (length s.now) }
     requires le_size { (3 ≤ size) × (size ≤ 4) × (at + layout.w * size ≤ length out.old) × TablesFor kernel tables.now }
     ensures { out.new ≡ colour_row
-        kernel layout (plane_of plane.now stride) row s.now at size out.old }
+        kernel layout (seen plane.entry) row s.now at size out.old }
 {
     if by_blocks(layout, kernel) {
-        block_row(layout, kernel, size, plane, stride, row, s, out, at, tables);
+        block_row(layout, kernel, size, plane, row, s, out, at, tables);
         return;
     }
-    plain_row(layout, kernel, size, plane, stride, row, s, out, at);
+    plain_row(layout, kernel, size, plane, row, s, out, at);
 }
 
 // A row of studio range, which the exact kernel alone has, at maxval 255; by blocks or pixel by pixel likewise.
 fn studio_range_row(
     layout: Layout,
     size: usize,
-    plane: &[u8],
-    stride: usize,
+    plane: Plane<'_>,
     row: usize,
     s: &[f32],
     out: &mut [u8],
     at: usize,
 )
-    requires row_lent { RowLent layout (plane_of plane.now stride) row (length s.now) }
+    requires row_lent { RowLent layout (seen plane) row (length s.now) }
     requires le_size { (3 ≤ size) × (size ≤ 4) × (at + layout.w * size ≤ length out.old) }
     ensures { out.new ≡ studio_row
-        layout (plane_of plane.now stride) row s.now at size out.old }
+        layout (seen plane.entry) row s.now at size out.old }
 {
     if Block::LEN <= layout.w {
-        studio_block_row(layout, size, plane, stride, row, s, out, at);
+        studio_block_row(layout, size, plane, row, s, out, at);
         return;
     }
-    studio_plain_row(layout, size, plane, stride, row, s, out, at);
+    studio_plain_row(layout, size, plane, row, s, out, at);
 }
 
 // Inner: row `row` of luma's plane with the chroma that scratch holds, Cb's at 0 and Cr's at w, as w pixels of `size` bytes, to out from
@@ -107,26 +104,25 @@ pub fn colour_row(
     layout: Layout,
     kernel: YcbcrKernel,
     size: usize,
-    plane: &[u8],
-    stride: usize,
+    plane: Plane<'_>,
     row: usize,
     s: &[f32],
     out: &mut [u8],
     at: usize,
     tables: &[[i32; 256]],
 )
-    requires row_lent { RowLent layout (plane_of plane.now stride) row (length s.now) }
+    requires row_lent { RowLent layout (seen plane) row (length s.now) }
     requires le_size { (3 ≤ size) × (size ≤ 4) × (at + layout.w * size ≤ length out.old) × TablesFor kernel tables.now }
     ensures { out.new ≡ ranged_row
-        kernel layout (plane_of plane.now stride) row s.now at size out.old }
+        kernel layout (seen plane.entry) row s.now at size out.old }
 {
     let range = layout.range;
     match range {
         Range::Full => {
-            full_range_row(layout, kernel, size, plane, stride, row, s, out, at, tables);
+            full_range_row(layout, kernel, size, plane, row, s, out, at, tables);
         }
         Range::Studio => {
-            studio_range_row(layout, size, plane, stride, row, s, out, at);
+            studio_range_row(layout, size, plane, row, s, out, at);
         }
     }
 }

@@ -2,14 +2,14 @@
 ghost use Rattle.std.specs.Prelude.{◌≡◌, ℕ, ◌+◌, ◌*◌, ◌≤◌, ◌<◌, length, get_or};
 ghost use Rattle.std.specs.Float.{nan};
 ghost use Rattle.laws.specs.Floats.{f32, ◌⊗◌};
-ghost use Rattle.image.specs.Samples.{sample_of, sample_at, plane_of};
+ghost use Rattle.image.specs.Samples.{sample_of, sample_at, seen};
 ghost use Rattle.fround.specs.Rounding.{round_clamped};
 ghost use Rattle.fround.specs.Inner.Rounding.{Rounded};
 ghost use Rattle.image.specs.Scratch.{cell_at};
 ghost use Rattle.kernel_blocks.specs.Inner.Floating.{Centred};
 ghost use Rattle.colour_rows.specs.Inner.Gathered.{LumaRow, Listed};
 
-use image::Layout;
+use image::{Layout, Plane};
 use kernel_blocks::Block;
 use std::array::from_fn;
 
@@ -21,12 +21,12 @@ fn wide(x: u16) -> u32
 }
 
 // Inner: luma of column x of a row.
-pub fn luma_at(layout: Layout, plane: &[u8], stride: usize, row: usize, x: usize) -> u32
-    requires { LumaRow layout (plane_of plane.now stride) row × (x < layout.w) }
-    ensures { (result ≡ sample_at layout.sample_bytes (plane_of plane.now stride) row x) × (result ≤ 65535) }
+pub fn luma_at(layout: Layout, plane: Plane<'_>, row: usize, x: usize) -> u32
+    requires { LumaRow layout (seen plane) row × (x < layout.w) }
+    ensures { (result ≡ sample_at layout.sample_bytes (seen plane.entry) row x) × (result ≤ 65535) }
 {
     let bytes = layout.sample_bytes;
-    wide(image::sample(plane, bytes, row * stride + x * bytes))
+    wide(image::sample(plane.bytes, bytes, row * plane.stride + x * bytes))
 }
 
 // Inner: chroma in 256ths at maxval 255, limited to 65,536 = 256 * 256, since the kernel takes at most 32,768 to either side of 128 * 256.
@@ -59,18 +59,17 @@ fn sample_block<const BYTES: usize>(plane: &[u8], at: usize) -> [u16; Block::LEN
 // Inner: luma of the sixteen columns from x on.
 pub fn luma_block(
     layout: Layout,
-    plane: &[u8],
-    stride: usize,
+    plane: Plane<'_>,
     row: usize,
     x: usize,
 ) -> [u16; Block::LEN]
-    requires { LumaRow layout (plane_of plane.now stride) row × (x + Block.LEN ≤ layout.w) }
-    ensures { Listed Block.LEN result (λ k. sample_at layout.sample_bytes (plane_of plane.now stride) row (x + k)) }
+    requires { LumaRow layout (seen plane) row × (x + Block.LEN ≤ layout.w) }
+    ensures { Listed Block.LEN result (λ k. sample_at layout.sample_bytes (seen plane.entry) row (x + k)) }
 {
     if layout.sample_bytes == 1 {
-        return sample_block::<1>(plane, row * stride + x);
+        return sample_block::<1>(plane.bytes, row * plane.stride + x);
     }
-    sample_block::<2>(plane, row * stride + x * 2)
+    sample_block::<2>(plane.bytes, row * plane.stride + x * 2)
 }
 
 // Inner: sixteen samples of luma as numbers of 32 bits, which the exact kernel computes with.

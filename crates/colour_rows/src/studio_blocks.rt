@@ -6,11 +6,11 @@ ghost use Rattle.colour_rows.specs.Colours.{studio_by};
 ghost use Rattle.colour_rows.specs.Inner.Colours.{studio_colour, studio_row};
 ghost use Rattle.colour_rows.specs.Inner.Blocks.{PixelsFrom};
 ghost use Rattle.colour_rows.specs.Inner.Lent.{RowLent};
-ghost use Rattle.image.specs.Samples.{plane_of};
+ghost use Rattle.image.specs.Samples.{seen};
 
 use crate::blocks::row_by_blocks;
 use crate::samples::{chroma_block, luma_block, wide_block};
-use image::Layout;
+use image::{Layout, Plane};
 use kernel_blocks::Block;
 
 // Sixteen pixels in studio range, of luma y and of the chroma of the columns from x on.
@@ -27,17 +27,16 @@ fn studio_pixels(y: [u16; Block::LEN], s: &[f32], w: usize, x: usize) -> [[u8; B
 // The sixteen pixels of a row from column x on.
 fn studio_at(
     layout: Layout,
-    plane: &[u8],
-    stride: usize,
+    plane: Plane<'_>,
     row: usize,
     s: &[f32],
     x: usize,
 ) -> [[u8; Block::LEN]; 3]
-    requires row_lent { RowLent layout (plane_of plane.now stride) row (length s.now) }
+    requires row_lent { RowLent layout (seen plane) row (length s.now) }
     requires block_inside { x + Block.LEN ≤ layout.w }
-    ensures { PixelsFrom Block.LEN result x (studio_colour layout (plane_of plane.now stride) row s.now) }
+    ensures { PixelsFrom Block.LEN result x (studio_colour layout (seen plane.entry) row s.now) }
 {
-    let y = luma_block(layout, plane, stride, row, x);
+    let y = luma_block(layout, plane, row, x);
     studio_pixels(y, s, layout.w, x)
 }
 
@@ -45,23 +44,22 @@ fn studio_at(
 pub fn studio_block_row(
     layout: Layout,
     size: usize,
-    plane: &[u8],
-    stride: usize,
+    plane: Plane<'_>,
     row: usize,
     s: &[f32],
     out: &mut [u8],
     at: usize,
 )
-    requires row_lent { RowLent layout (plane_of plane.now stride) row (length s.now) }
+    requires row_lent { RowLent layout (seen plane) row (length s.now) }
     requires blocks_lent { (Block.LEN ≤ layout.w) × (3 ≤ size) × (size ≤ 4) × (at + layout.w * size ≤ length out.old) }
     ensures { out.new ≡ studio_row
-        layout (plane_of plane.now stride) row s.now at size out.old }
+        layout (seen plane.entry) row s.now at size out.old }
 {
     row_by_blocks(
         |x| -> [[u8; Block::LEN]; 3]
-            requires { RowLent layout (plane_of plane.now stride) row (length s.now) × (x + Block.LEN ≤ layout.w) }
-            ensures { PixelsFrom Block.LEN result x (studio_colour layout (plane_of plane.entry.now stride) row s.entry.now) }
-        { studio_at(layout, plane, stride, row, s, x) },
+            requires { RowLent layout (seen plane) row (length s.now) × (x + Block.LEN ≤ layout.w) }
+            ensures { PixelsFrom Block.LEN result x (studio_colour layout (seen plane.entry) row s.entry.now) }
+        { studio_at(layout, plane, row, s, x) },
         layout.w,
         size,
         out,

@@ -6,7 +6,7 @@ ghost use Rattle.image.specs.Picture.{planes_seen};
 use crate::answer::fill_answer;
 use crate::options::ChromaUpsampling;
 use crate::rows::fill_rows;
-use image::{Layout, Planes, Strides};
+use image::{Layout, Planes};
 use kernels::YcbcrKernel;
 use laws::Refusal;
 
@@ -28,17 +28,9 @@ pub fn fill(
         result s.new out.new }
 {
     fill_answer(layout, planes, upsampling, kernel, size, s, out)?;
-    let strides = Strides {
-        y: planes.y.stride,
-        cb: planes.cb.stride,
-        cr: planes.cr.stride,
-    };
     fill_rows(
         layout,
-        planes.y.bytes,
-        planes.cb.bytes,
-        planes.cr.bytes,
-        strides,
+        planes,
         upsampling,
         kernel,
         size,

@@ -11,7 +11,7 @@ ghost use Rattle.fill.specs.Inner.Refill.{planes_tests, lent_tests};
 use crate::answer::is_fixed;
 use crate::options::ChromaUpsampling;
 use crate::rows::fill_rows;
-use image::{Layout, Planes, Rectangle, Strides};
+use image::{Layout, Planes, Rectangle};
 use kernels::YcbcrKernel;
 use laws::Refusal;
 
@@ -147,17 +147,9 @@ pub fn refill(
     refill_answer(layout, old, new, cells, kernel, size, s, out)?;
     let a = near_first(layout, cells);
     let b = near_end(layout, cells);
-    let strides = Strides {
-        y: new.y.stride,
-        cb: new.cb.stride,
-        cr: new.cr.stride,
-    };
     fill_rows(
         layout,
-        new.y.bytes,
-        new.cb.bytes,
-        new.cr.bytes,
-        strides,
+        new,
         ChromaUpsampling::LumaGuided,
         kernel,
         size,

@@ -1,6 +1,6 @@
 // Rows of a fill: chroma into scratch, then colour into out.
 ghost use Rattle.std.specs.Prelude.{◌≡◌, true, ◌+◌, ◌-◌, ◌*◌, ◌≤◌, ◌<◌, length};
-ghost use Rattle.image.specs.Picture.{picture_of, planes_of};
+ghost use Rattle.image.specs.Picture.{picture_of, planes_seen};
 ghost use Rattle.linear.specs.Linear.{linear_row};
 ghost use Rattle.linear.specs.Inner.Linear.{Ready};
 ghost use Rattle.image.specs.Scratch.{scratch_need};
@@ -8,49 +8,46 @@ ghost use Rattle.colour_rows.specs.Inner.Colours.{ranged_row};
 ghost use Rattle.colour_rows.specs.Inner.Lent.{TablesFor};
 ghost use Rattle.fill.specs.Fill.{fill_colour, pixel_rows, fill_scratch};
 ghost use Rattle.fill.specs.Inner.Steps.{fill_step, ChromaLent, FillLent};
-ghost use Rattle.image.specs.Samples.{plane_of};
+ghost use Rattle.image.specs.Samples.{seen};
 
 use crate::options::ChromaUpsampling;
-use image::{Components, Layout, Strides};
+use image::{Components, Layout, Planes};
 use kernels::YcbcrKernel;
 
 // Makes a row of linear chroma in scratch, Cb's at 0 and Cr's at w, where the guided row has them too.
-fn linear_pair(layout: Layout, cb: &[u8], cr: &[u8], strides: Strides, row: usize, s: &mut [f32])
-    requires ready { Ready layout (plane_of cb.now strides.cb) (length s.old) }
-    requires ready_2 { Ready layout (plane_of cr.now strides.cr) (length s.old) }
+fn linear_pair(layout: Layout, planes: Planes<'_>, row: usize, s: &mut [f32])
+    requires ready { Ready layout (seen planes.cb) (length s.old) }
+    requires ready_2 { Ready layout (seen planes.cr) (length s.old) }
     requires row_lt_h { row < layout.h }
     ensures { s.new ≡ linear_row
-        layout (plane_of cr.now strides.cr) layout.w row
-        (linear_row layout (plane_of cb.now strides.cb) 0 row s.old) }
+        layout (seen planes.entry.cr) layout.w row
+        (linear_row layout (seen planes.entry.cb) 0 row s.old) }
 {
-    linear::linear_row(layout, cb, strides.cb, row, s, 0);
-    linear::linear_row(layout, cr, strides.cr, row, s, layout.w);
+    linear::linear_row(layout, planes.cb, row, s, 0);
+    linear::linear_row(layout, planes.cr, row, s, layout.w);
 }
 
 // Makes row first + n of chroma in scratch, the rows from first on having been made before it.
 fn chroma_row(
     layout: Layout,
-    y: &[u8],
-    cb: &[u8],
-    cr: &[u8],
-    strides: Strides,
+    planes: Planes<'_>,
     upsampling: ChromaUpsampling,
     first: usize,
     n: usize,
     s: &mut [f32],
 )
-    requires chroma_lent { ChromaLent upsampling layout (planes_of y.now cb.now cr.now strides) }
+    requires chroma_lent { ChromaLent upsampling layout (planes_seen planes) }
     requires n_bound { (first + n < layout.h) × (scratch_need layout ≤ length s.old) }
     ensures { s.new ≡ fill_step upsampling layout
-        (planes_of y.now cb.now cr.now strides)
+        (planes_seen planes.entry)
         first n s.old }
 {
     match upsampling {
         ChromaUpsampling::Linear => {
-            linear_pair(layout, cb, cr, strides, first + n, s);
+            linear_pair(layout, planes, first + n, s);
         }
         ChromaUpsampling::LumaGuided => {
-            guided_rows::guided_step(layout, y, cb, cr, strides, Components::Both, first, n, s);
+            guided_rows::guided_step(layout, planes, Components::Both, first, n, s);
         }
     }
 }
@@ -59,10 +56,7 @@ fn chroma_row(
 // can't be put into a struct with its stride (docs/DECISIONS.md), which row, and the fixed kernel's tables.
 fn fill_row(
     layout: Layout,
-    y: &[u8],
-    cb: &[u8],
-    cr: &[u8],
-    strides: Strides,
+    planes: Planes<'_>,
     upsampling: ChromaUpsampling,
     kernel: YcbcrKernel,
     size: usize,
@@ -72,29 +66,26 @@ fn fill_row(
     out: &mut [u8],
     tables: &[[i32; 256]],
 )
-    requires fill_lent { FillLent upsampling layout (planes_of y.now cb.now cr.now strides) size (length s.old) (length out.old) }
+    requires fill_lent { FillLent upsampling layout (planes_seen planes) size (length s.old) (length out.old) }
     requires n_bound { (first + n < layout.h) × TablesFor kernel tables.now }
     ensures s_after { s.new ≡ fill_step upsampling layout
-        (planes_of y.now cb.now cr.now strides)
+        (planes_seen planes.entry)
         first n s.old }
     ensures out_after { out.new ≡ ranged_row kernel layout
-        (plane_of y.now strides.y) (first + n)
-        (fill_step upsampling layout (planes_of y.now cb.now cr.now strides) first n s.old)
+        (seen planes.entry.y) (first + n)
+        (fill_step upsampling layout (planes_seen planes.entry) first n s.old)
         ((first + n) * (layout.w * size)) size out.old }
 {
     let row = first + n;
     let at = row * (layout.w * size);
-    chroma_row(layout, y, cb, cr, strides, upsampling, first, n, s);
-    colour_rows::colour_row(layout, kernel, size, y, strides.y, row, s, out, at, tables);
+    chroma_row(layout, planes, upsampling, first, n, s);
+    colour_rows::colour_row(layout, kernel, size, planes.y, row, s, out, at, tables);
 }
 
 // Makes rows a, .. b - 1 of the picture with the tables that its kernel reads. Thirteen parameters: those of `fill_rows` and the tables.
 fn rows_by(
     layout: Layout,
-    y: &[u8],
-    cb: &[u8],
-    cr: &[u8],
-    strides: Strides,
+    planes: Planes<'_>,
     upsampling: ChromaUpsampling,
     kernel: YcbcrKernel,
     size: usize,
@@ -104,19 +95,19 @@ fn rows_by(
     out: &mut [u8],
     tables: &[[i32; 256]],
 )
-    requires fill_lent { FillLent upsampling layout (planes_of y.now cb.now cr.now strides) size (length s.old) (length out.old) }
+    requires fill_lent { FillLent upsampling layout (planes_seen planes) size (length s.old) (length out.old) }
     requires a_le_b { (a ≤ b) × (b ≤ layout.h) × TablesFor kernel tables.now }
     ensures out_after { out.new ≡ pixel_rows layout.w size
-        (fill_colour upsampling kernel (picture_of layout (planes_of y.now cb.now cr.now strides)))
+        (fill_colour upsampling kernel (picture_of layout (planes_seen planes.entry)))
         a (b - a) out.old }
     ensures s_after { s.new ≡ fill_scratch upsampling layout
-        (planes_of y.now cb.now cr.now strides)
+        (planes_seen planes.entry)
         a (b - a) s.old }
 {
     let rows = b - a;
     for n in 0..rows {
         fill_row(
-            layout, y, cb, cr, strides, upsampling, kernel, size, a, n, s, out, tables,
+            layout, planes, upsampling, kernel, size, a, n, s, out, tables,
         );
     }
 }
@@ -126,10 +117,7 @@ fn rows_by(
 // (docs/DECISIONS.md), and from where to where.
 pub fn fill_rows(
     layout: Layout,
-    y: &[u8],
-    cb: &[u8],
-    cr: &[u8],
-    strides: Strides,
+    planes: Planes<'_>,
     upsampling: ChromaUpsampling,
     kernel: YcbcrKernel,
     size: usize,
@@ -138,26 +126,26 @@ pub fn fill_rows(
     s: &mut [f32],
     out: &mut [u8],
 )
-    requires fill_lent { FillLent upsampling layout (planes_of y.now cb.now cr.now strides) size (length s.old) (length out.old) }
+    requires fill_lent { FillLent upsampling layout (planes_seen planes) size (length s.old) (length out.old) }
     requires a_le_b { (a ≤ b) × (b ≤ layout.h) }
     ensures out_after { out.new ≡ pixel_rows layout.w size
-        (fill_colour upsampling kernel (picture_of layout (planes_of y.now cb.now cr.now strides)))
+        (fill_colour upsampling kernel (picture_of layout (planes_seen planes.entry)))
         a (b - a) out.old }
     ensures s_after { s.new ≡ fill_scratch upsampling layout
-        (planes_of y.now cb.now cr.now strides)
+        (planes_seen planes.entry)
         a (b - a) s.old }
 {
     match kernel {
         YcbcrKernel::Exact => {
             let none = [[0i32; 256]; 0];
             rows_by(
-                layout, y, cb, cr, strides, upsampling, kernel, size, a, b, s, out, &none,
+                layout, planes, upsampling, kernel, size, a, b, s, out, &none,
             );
         }
         YcbcrKernel::FixedPoint16 => {
             let tables = kernels::all_tables();
             rows_by(
-                layout, y, cb, cr, strides, upsampling, kernel, size, a, b, s, out, &tables,
+                layout, planes, upsampling, kernel, size, a, b, s, out, &tables,
             );
         }
     }

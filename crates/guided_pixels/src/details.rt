@@ -3,7 +3,7 @@ ghost use Rattle.std.specs.Prelude.{◌≡◌, ℕ, ◌+◌, ◌*◌, ◌≤◌,
 ghost use Rattle.std.specs.Float.{nan};
 ghost use Rattle.image.specs.Scratch.{cell_at, scratch_need};
 ghost use Rattle.laws.specs.Floats.{f32};
-ghost use Rattle.image.specs.Samples.{plane_of, sample_at};
+ghost use Rattle.image.specs.Samples.{sample_at, seen};
 ghost use Rattle.guided.specs.Guided.{across_to};
 ghost use Rattle.guided_across.specs.Inner.Luma.{LumaPixels};
 ghost use Rattle.guided_pixels.specs.Inner.Pixels.{detail_in, detail_line};
@@ -14,14 +14,13 @@ use crate::lines::Line;
 use crate::pairs::{Pair, across_pixel, cell_at, pair_at};
 use crate::rows::row;
 use guided_window::{Window, sample_at};
-use image::Layout;
+use image::{Layout, Plane};
 use taps::Phase;
 
 // The detail of row y of a luma plane, by the cells at src.
 #[derive(Clone, Copy)]
 pub struct Detail<'a> {
-    pub plane: &'a [u8],
-    pub stride: usize,
+    pub plane: Plane<'a>,
     pub y: usize,
     pub src: usize,
 }
@@ -29,13 +28,12 @@ pub struct Detail<'a> {
 impl Detail<'_> {
     // Luma's sample in column x.
     fn luma(self, layout: Layout, x: usize) -> f32
-        requires { LumaPixels layout (plane_of self.plane.now self.stride) × (self.y < layout.h) × (x < layout.w) }
-        ensures { result ≡ f32 (sample_at layout.sample_bytes (plane_of self.entry.plane.now self.entry.stride) self.entry.y x) }
+        requires { LumaPixels layout (seen self.plane) × (self.y < layout.h) × (x < layout.w) }
+        ensures { result ≡ f32 (sample_at layout.sample_bytes (seen self.entry.plane) self.entry.y x) }
     {
         sample_at(
             layout,
             self.plane,
-            self.stride,
             layout.w,
             layout.h,
             x,
@@ -45,11 +43,11 @@ impl Detail<'_> {
 }
 
 impl Line for Detail<'_> {
-    ghost value = { λ t l s x. detail_in l (plane_of t.plane.now t.stride) t.y s t.src x };
+    ghost value = { λ t l s x. detail_in l (seen t.plane) t.y s t.src x };
 
     ghost low = { λ t l. t.src };
 
-    ghost given = { λ t l len. LumaPixels l (plane_of t.plane.now t.stride) × (t.y < l.h) × (t.src + l.cw ≤ len) };
+    ghost given = { λ t l len. LumaPixels l (seen t.plane) × (t.y < l.h) × (t.src + l.cw ≤ len) };
 
     type Lerped = [f32; 4];
 
@@ -81,7 +79,7 @@ impl Line for Detail<'_> {
         self.luma(layout, i * layout.rh + k) - cell[k]
     }
 
-    ghost keeps = { λ t l len o g. detail_keeps l o (plane_of t.plane.now t.stride) t.y t.src };
+    ghost keeps = { λ t l len o g. detail_keeps l o (seen t.plane) t.y t.src };
 
     ghost lerped_keeps = { λ t l len xs ys i c o g h e p. across_keeps l o t.src xs ys i c h e p };
 
@@ -89,14 +87,13 @@ impl Line for Detail<'_> {
 }
 
 // Inner: the detail of row y from luma's row of cells, to its place in scratch.
-pub fn detail_row(layout: Layout, plane: &[u8], stride: usize, y: usize, s: &mut [f32])
-    requires { LumaPixels layout (plane_of plane.now stride) × (y < layout.h) × (scratch_need layout ≤ length s.old) }
-    ensures { s.new ≡ detail_line layout (plane_of plane.now stride) y s.old }
+pub fn detail_row(layout: Layout, plane: Plane<'_>, y: usize, s: &mut [f32])
+    requires { LumaPixels layout (seen plane) × (y < layout.h) × (scratch_need layout ≤ length s.old) }
+    ensures { s.new ≡ detail_line layout (seen plane.entry) y s.old }
 {
     let src = column_at(layout, RowOfCells::Samples);
     let line = Detail {
         plane,
-        stride,
         y,
         src,
     };

@@ -1,7 +1,7 @@
 // A picture row from the window: luma's row of cells and the detail, then each component's rows of cells and its finished row.
 ghost use Rattle.std.specs.Prelude.{◌≡◌, ◌≤◌, ◌<◌, length};
 ghost use Rattle.image.specs.Inner.Tests.{Sound};
-ghost use Rattle.image.specs.Samples.{Plane, plane_of};
+ghost use Rattle.image.specs.Samples.{Plane as Seen, seen};
 ghost use Rattle.image.specs.Picture.{picture_of};
 ghost use Rattle.image.specs.Picture.{Planes};
 ghost use Rattle.image.specs.Scratch.{scratch_need};
@@ -13,7 +13,7 @@ use crate::columns::{RowOfCells, down_row};
 use crate::details::detail_row;
 use crate::values::value_row;
 use guided_window::Buffer;
-use image::{Chroma, Components, Layout};
+use image::{Chroma, Components, Layout, Plane};
 
 // A component's samples and slopes, lerped down for row y into its two rows of cells.
 #[tactic(auto, unfolding(crate::specs::Inner::Row::down_columns))]
@@ -39,20 +39,19 @@ fn component(layout: Layout, k: Chroma, y: usize, s: &mut [f32])
 // that the promise is for any.
 pub fn guided_row(
     layout: Layout,
-    y: &[u8],
-    y_stride: usize,
+    y: Plane<'_>,
     components: Components,
     row: usize,
     s: &mut [f32],
 )
-    requires { LumaPixels layout (plane_of y.now y_stride)
+    requires { LumaPixels layout (seen y)
         × (row < layout.h) × (scratch_need layout ≤ length s.old) }
-    ensures { (cb cr : Plane) → s.new ≡ window_row
-        (picture_of layout (record { y = plane_of y.entry.now y_stride; cb = cb; cr = cr }))
+    ensures { (cb cr : Seen) → s.new ≡ window_row
+        (picture_of layout (record { y = seen y.entry; cb = cb; cr = cr }))
         (components_of components) row s.old }
 {
     down_row(layout, Buffer::Luma, RowOfCells::Samples, row, s);
-    detail_row(layout, y, y_stride, row, s);
+    detail_row(layout, y, row, s);
     component(layout, Chroma::Cb, row, s);
     let Components::Both = components else {
         return;

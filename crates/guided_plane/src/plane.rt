@@ -7,11 +7,11 @@ ghost use Rattle.linear.specs.Inner.Stores.{store_run};
 ghost use Rattle.guided_window.specs.Inner.Lent.{Lent};
 ghost use Rattle.guided_rows.specs.CatchingUp.{guided_step, guided_rows};
 ghost use Rattle.guided_plane.specs.Plane.{planes_with, picture_with, short_pair, above_pair, guided_tests, guided_plane, GuidedGiven};
-ghost use Rattle.image.specs.Samples.{plane_of, seen};
+ghost use Rattle.image.specs.Samples.{seen};
 ghost use Rattle.image.specs.Inner.Tests.{Sound};
 
 use guided_rows::guided_step;
-use image::{Components, Layout, Plane, Strides};
+use image::{Components, Layout, Plane, Planes};
 use laws::Refusal;
 
 // Refusal 7's test for luma and the one chroma plane.
@@ -63,53 +63,45 @@ fn plane_answer(
 // Cb is asked for.
 fn plane_row(
     layout: Layout,
-    y: &[u8],
-    y_stride: usize,
-    c: &[u8],
-    c_stride: usize,
+    y: Plane<'_>,
+    c: Plane<'_>,
     row: usize,
     s: &mut [f32],
     out: &mut [u16],
 )
-    requires lent { Lent layout (planes_with (plane_of y.now y_stride) (plane_of c.now c_stride)) Components.CbAlone }
+    requires lent { Lent layout (planes_with (seen y) (seen c)) Components.CbAlone }
     requires row_lt_h { (row < layout.h) × (scratch_need layout ≤ length s.old) × (layout.w * layout.h ≤ length out.old) }
     ensures s_after { s.new ≡ guided_step
-        (picture_with layout (plane_of y.now y_stride) (plane_of c.now c_stride))
+        (picture_with layout (seen y.entry) (seen c.entry))
         (Cb ∷ []) 0 row s.old }
     ensures out_after { out.new ≡ store_run
-        (guided_step (picture_with layout (plane_of y.now y_stride) (plane_of c.now c_stride)) (Cb ∷ []) 0 row s.old)
+        (guided_step (picture_with layout (seen y.entry) (seen c.entry)) (Cb ∷ []) 0 row s.old)
         0 layout.w layout.maxval (row * layout.w) out.old }
 {
-    let strides = Strides {
-        y: y_stride,
-        cb: c_stride,
-        cr: c_stride,
-    };
-    guided_step(layout, y, c, c, strides, Components::CbAlone, 0, row, s);
+    let planes = Planes { y, cb: c, cr: c };
+    guided_step(layout, planes, Components::CbAlone, 0, row, s);
     linear::store_row(s, 0, layout.w, layout.maxval, out, row * layout.w);
 }
 
 // Makes every row of the plane in turn.
 fn plane_rows(
     layout: Layout,
-    y: &[u8],
-    y_stride: usize,
-    c: &[u8],
-    c_stride: usize,
+    y: Plane<'_>,
+    c: Plane<'_>,
     s: &mut [f32],
     out: &mut [u16],
 )
-    requires lent { Lent layout (planes_with (plane_of y.now y_stride) (plane_of c.now c_stride)) Components.CbAlone }
+    requires lent { Lent layout (planes_with (seen y) (seen c)) Components.CbAlone }
     requires layout_in_bounds { (scratch_need layout ≤ length s.old) × (layout.w * layout.h ≤ length out.old) }
     ensures out_after { out.new ≡ guided_plane
-        (picture_with layout (plane_of y.now y_stride) (plane_of c.now c_stride))
+        (picture_with layout (seen y.entry) (seen c.entry))
         out.old }
     ensures s_after { s.new ≡ guided_rows
-        (picture_with layout (plane_of y.now y_stride) (plane_of c.now c_stride))
+        (picture_with layout (seen y.entry) (seen c.entry))
         (Cb ∷ []) 0 layout.h s.old }
 {
     for row in 0..layout.h {
-        plane_row(layout, y, y_stride, c, c_stride, row, s, out);
+        plane_row(layout, y, c, row, s, out);
     }
 }
 
@@ -126,6 +118,6 @@ pub fn guided_plane(
     ensures { GuidedGiven layout (seen y.entry) (seen c.entry) s.old out.old result s.new out.new }
 {
     plane_answer(layout, y, c, s.len(), out.len())?;
-    plane_rows(layout, y.bytes, y.stride, c.bytes, c.stride, s, out);
+    plane_rows(layout, y, c, s, out);
     Ok(())
 }

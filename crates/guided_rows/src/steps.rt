@@ -1,7 +1,7 @@
 // Catching up: the chroma rows that a picture row needs, summed across and finished in turn.
 ghost use Rattle.std.specs.Prelude.{◌≡◌, ◌+◌, ◌-◌, ◌≤◌, ◌<◌, length};
 ghost use Rattle.image.specs.Inner.Tests.{Sound};
-ghost use Rattle.image.specs.Picture.{picture_of, planes_of};
+ghost use Rattle.image.specs.Picture.{picture_of, planes_seen};
 ghost use Rattle.image.specs.Scratch.{scratch_need};
 ghost use Rattle.guided.specs.Calls.{done_f};
 ghost use Rattle.guided.specs.Scratch.{across_rows, catch_up, row_steps};
@@ -10,29 +10,26 @@ ghost use Rattle.guided_rows.specs.CatchingUp.{before_h, before_f, guided_step};
 
 use guided_down::finish;
 use guided_pixels::guided_row;
-use image::{Components, Layout, Strides};
+use image::{Components, Layout, Planes};
 use reader_state::Counters;
 
 // Sums the chroma rows from, .. to - 1 across into the window.
 fn across_rows(
     layout: Layout,
-    y: &[u8],
-    cb: &[u8],
-    cr: &[u8],
-    strides: Strides,
+    planes: Planes<'_>,
     components: Components,
     from: usize,
     to: usize,
     s: &mut [f32],
 )
-    requires lent { Lent layout (planes_of y.now cb.now cr.now strides) components }
+    requires lent { Lent layout (planes_seen planes) components }
     requires to_le_ch { (to ≤ layout.ch) × (scratch_need layout ≤ length s.old) }
     ensures { s.new ≡ across_rows
-        (picture_of layout (planes_of y.now cb.now cr.now strides))
+        (picture_of layout (planes_seen planes.entry))
         (components_of components) from (to - from) s.old }
 {
     for j in from..to {
-        guided_across::horizontal(layout, y, cb, cr, strides, components, j, s);
+        guided_across::horizontal(layout, planes, components, j, s);
     }
 }
 
@@ -40,27 +37,24 @@ fn across_rows(
 // summed, since its slopes look at all three.
 pub fn catch_up(
     layout: Layout,
-    y: &[u8],
-    cb: &[u8],
-    cr: &[u8],
-    strides: Strides,
+    planes: Planes<'_>,
     components: Components,
     h: usize,
     f: usize,
     to: usize,
     s: &mut [f32],
 )
-    requires lent { Lent layout (planes_of y.now cb.now cr.now strides) components }
+    requires lent { Lent layout (planes_seen planes) components }
     requires to_le_ch { (to ≤ layout.ch) × (scratch_need layout ≤ length s.old) }
     ensures { s.new ≡ catch_up
-        (picture_of layout (planes_of y.now cb.now cr.now strides))
+        (picture_of layout (planes_seen planes.entry))
         (components_of components) h f (to - f) s.old }
 {
     let mut h_next = h;
     for j in f..to {
         let end = (j + 2).min(layout.ch);
-        across_rows(layout, y, cb, cr, strides, components, h_next, end, s);
-        finish(layout, cb, cr, strides, components, j, s);
+        across_rows(layout, planes, components, h_next, end, s);
+        finish(layout, planes.cb, planes.cr, components, j, s);
         h_next = h_next.max(end);
     }
 }
@@ -68,25 +62,22 @@ pub fn catch_up(
 // Inner: all the steps of a picture row over scratch, h and f being the next chroma rows to sum across and to finish.
 pub fn row_steps(
     layout: Layout,
-    y: &[u8],
-    cb: &[u8],
-    cr: &[u8],
-    strides: Strides,
+    planes: Planes<'_>,
     components: Components,
     h: usize,
     f: usize,
     row: usize,
     s: &mut [f32],
 )
-    requires lent { Lent layout (planes_of y.now cb.now cr.now strides) components }
+    requires lent { Lent layout (planes_seen planes) components }
     requires row_lt_h { (row < layout.h) × (scratch_need layout ≤ length s.old) }
     ensures { s.new ≡ row_steps
-        (picture_of layout (planes_of y.now cb.now cr.now strides))
+        (picture_of layout (planes_seen planes.entry))
         (components_of components) h f (done_f layout row - f) row s.old }
 {
     let done = reader_state::done_counters(layout, row);
-    catch_up(layout, y, cb, cr, strides, components, h, f, done.f_next, s);
-    guided_row(layout, y, strides.y, components, row, s);
+    catch_up(layout, planes, components, h, f, done.f_next, s);
+    guided_row(layout, planes.y, components, row, s);
 }
 
 // The counters before row first + n of a run of rows that begins at first: those that seek leaves at first, then those that the row
@@ -106,28 +97,22 @@ fn counters_before(layout: Layout, first: usize, n: usize) -> Counters
 // fill read their rows so: they keep no reader, since the counters follow from the row number.
 pub fn guided_step(
     layout: Layout,
-    y: &[u8],
-    cb: &[u8],
-    cr: &[u8],
-    strides: Strides,
+    planes: Planes<'_>,
     components: Components,
     first: usize,
     n: usize,
     s: &mut [f32],
 )
-    requires lent { Lent layout (planes_of y.now cb.now cr.now strides) components }
+    requires lent { Lent layout (planes_seen planes) components }
     requires n_bound { (first + n < layout.h) × (scratch_need layout ≤ length s.old) }
     ensures { s.new ≡ guided_step
-        (picture_of layout (planes_of y.now cb.now cr.now strides))
+        (picture_of layout (planes_seen planes.entry))
         (components_of components) first n s.old }
 {
     let k = counters_before(layout, first, n);
     row_steps(
         layout,
-        y,
-        cb,
-        cr,
-        strides,
+        planes,
         components,
         k.h_next,
         k.f_next,

@@ -2,41 +2,39 @@
 ghost use Rattle.std.specs.Prelude.{◌≡◌, false, ◌<◌};
 ghost use Rattle.laws.specs.Floats.{f32};
 ghost use Rattle.image.specs.Inner.Tests.{Sound};
-ghost use Rattle.image.specs.Samples.{Plane, sample_at, plane_of};
+ghost use Rattle.image.specs.Samples.{sample_at, seen};
 ghost use Rattle.image.specs.Picture.{short_plane};
 
-use image::Layout;
+use image::{Layout, Plane};
 
 // Inner: the sample in column x of row y of a plane of w columns and h rows, as a whole number.
 #[tactic(auto, using(crate::proofs::Windows::whole_inside), unfolding(image::specs::Samples::sample_at))]
 pub fn whole_at(
     layout: Layout,
-    plane: &[u8],
-    stride: usize,
+    plane: Plane<'_>,
     w: usize,
     h: usize,
     x: usize,
     y: usize,
 ) -> u16
-    requires { Sound layout × (short_plane layout w h (plane_of plane.now stride) ≡ false) × (x < w) × (y < h) }
-    ensures { result ≡ sample_at layout.sample_bytes (plane_of plane.now stride) y x }
+    requires { Sound layout × (short_plane layout w h (seen plane) ≡ false) × (x < w) × (y < h) }
+    ensures { result ≡ sample_at layout.sample_bytes (seen plane.entry) y x }
 {
     let bytes = layout.sample_bytes;
-    image::sample(plane, bytes, y * stride + x * bytes)
+    image::sample(plane.bytes, bytes, y * plane.stride + x * bytes)
 }
 
 // Inner: the sample in column x of row y of a plane of w columns and h rows, as a float. Samples have sixteen bits, so that none is rounded.
 pub fn sample_at(
     layout: Layout,
-    plane: &[u8],
-    stride: usize,
+    plane: Plane<'_>,
     w: usize,
     h: usize,
     x: usize,
     y: usize,
 ) -> f32
-    requires { Sound layout × (short_plane layout w h (plane_of plane.now stride) ≡ false) × (x < w) × (y < h) }
-    ensures { result ≡ f32 (sample_at layout.sample_bytes (plane_of plane.now stride) y x) }
+    requires { Sound layout × (short_plane layout w h (seen plane) ≡ false) × (x < w) × (y < h) }
+    ensures { result ≡ f32 (sample_at layout.sample_bytes (seen plane.entry) y x) }
 {
-    f32::from(whole_at(layout, plane, stride, w, h, x, y))
+    f32::from(whole_at(layout, plane, w, h, x, y))
 }

@@ -1,7 +1,7 @@
 // Linear reconstruction: one row in scratch, and the public call for a whole chroma plane.
 ghost use Rattle.std.specs.Prelude.{◌≡◌, ◌+◌, ◌*◌, ◌≤◌, ◌<◌, length};
 ghost use Rattle.laws.specs.Refusals.{first};
-ghost use Rattle.image.specs.Samples.{plane_of, seen};
+ghost use Rattle.image.specs.Samples.{seen};
 ghost use Rattle.linear.specs.Linear.{linear_tests, linear_row, linear_plane, linear_scratch, LinearGiven};
 ghost use Rattle.linear.specs.Inner.Linear.{Ready};
 
@@ -14,16 +14,16 @@ use taps::tap_at;
 
 // Inner: row y of a chroma plane, to scratch from dst on. The cells are lerped down into a buffer behind room for two finished rows (Cb's
 // and Cr's, as fill has them), and from there across.
-pub fn linear_row(layout: Layout, plane: &[u8], stride: usize, y: usize, s: &mut [f32], dst: usize)
-    requires ready { Ready layout (plane_of plane.now stride) (length s.old) }
+pub fn linear_row(layout: Layout, plane: Plane<'_>, y: usize, s: &mut [f32], dst: usize)
+    requires ready { Ready layout (seen plane) (length s.old) }
     requires y_lt_h { (y < layout.h) × (dst ≤ layout.w) }
-    ensures { s.new ≡ linear_row layout (plane_of plane.now stride) dst y s.old }
+    ensures { s.new ≡ linear_row layout (seen plane.entry) dst y s.old }
 {
     let t = tap_at(layout.down, layout.rv, layout.ch, y);
-    let a = t.i0 * stride;
-    let b = t.i1 * stride;
+    let a = t.i0 * plane.stride;
+    let b = t.i1 * plane.stride;
     let cells = 2 * layout.w;
-    down_row(plane, layout.sample_bytes, a, b, t.f, layout.cw, s, cells);
+    down_row(plane.bytes, layout.sample_bytes, a, b, t.f, layout.cw, s, cells);
     across_row(layout.across, s, cells, layout.cw, layout.rh, dst, layout.w);
 }
 
@@ -55,16 +55,16 @@ pub fn linear_answer(
 }
 
 // Every row of the plane, each lerped into scratch at 0 and then rounded into out.
-fn linear_rows(layout: Layout, plane: &[u8], stride: usize, s: &mut [f32], out: &mut [u16])
-    requires ready { Ready layout (plane_of plane.now stride) (length s.old) }
+fn linear_rows(layout: Layout, plane: Plane<'_>, s: &mut [f32], out: &mut [u16])
+    requires ready { Ready layout (seen plane) (length s.old) }
     requires h_in_bounds { layout.w * layout.h ≤ length out.old }
-    ensures out_after { out.new ≡ linear_plane layout (plane_of plane.now stride) out.old }
-    ensures s_after { s.new ≡ linear_scratch layout (plane_of plane.now stride) layout.h s.old }
+    ensures out_after { out.new ≡ linear_plane layout (seen plane.entry) out.old }
+    ensures s_after { s.new ≡ linear_scratch layout (seen plane.entry) layout.h s.old }
 {
     let w = layout.w;
     let h = layout.h;
     for y in 0..h {
-        linear_row(layout, plane, stride, y, s, 0);
+        linear_row(layout, plane, y, s, 0);
         store_row(s, 0, w, layout.maxval, out, y * w);
     }
 }
@@ -83,6 +83,6 @@ pub fn linear_plane(
         result s.new out.new }
 {
     linear_answer(layout, plane, s.len(), out.len())?;
-    linear_rows(layout, plane.bytes, plane.stride, s, out);
+    linear_rows(layout, plane, s, out);
     Ok(())
 }

@@ -6,7 +6,7 @@ use crate::checks::{after_row, row_answer};
 use crate::copies::copy_rows;
 use guided::Reader;
 use guided_rows::row_steps;
-use image::{Components, Planes, Strides};
+use image::{Components, Planes};
 use laws::Refusal;
 
 // Row `row` of Cb and of Cr to the front of the outputs: the guided rows of the opened picture, whatever was read before.
@@ -26,17 +26,9 @@ pub fn row(
 {
     row_answer(*reader, planes, row, s, out_cb, out_cr)?;
     let layout = reader_state::reader_layout(*reader);
-    let strides = Strides {
-        y: planes.y.stride,
-        cb: planes.cb.stride,
-        cr: planes.cr.stride,
-    };
     row_steps(
         layout,
-        planes.y.bytes,
-        planes.cb.bytes,
-        planes.cr.bytes,
-        strides,
+        planes,
         Components::Both,
         reader.h_next,
         reader.f_next,

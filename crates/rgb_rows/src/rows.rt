@@ -2,7 +2,7 @@
 ghost use Rattle.std.specs.Prelude.{◌≡◌, ◌*◌, ◌≤◌, length};
 ghost use Rattle.image.specs.Picture.{planes_seen};
 ghost use Rattle.guided.specs.Calls.{reply};
-ghost use Rattle.image.specs.Samples.{plane_of};
+ghost use Rattle.image.specs.Samples.{seen};
 ghost use Rattle.kernels.specs.declared.kernel.YcbcrKernel.TheVariants.{Exact};
 ghost use Rattle.colour_rows.specs.Inner.Colours.{ranged_row};
 ghost use Rattle.colour_rows.specs.Inner.Lent.{RowLent};
@@ -10,18 +10,18 @@ ghost use Rattle.rgb_rows.specs.RgbRows.{side_of, rgb_row_call, RgbRowGiven};
 
 use crate::answers::rgb_row_answer;
 use guided::Reader;
-use image::{Components, Layout, Planes, Strides};
+use image::{Components, Layout, Plane, Planes};
 use kernels::YcbcrKernel;
 use laws::Refusal;
 use reader::after_row;
 
 // The chroma that scratch holds, with row `row` of luma's plane, by the exact kernel in the layout's range, as w pixels of three bytes
 // to the front of out. That kernel reads no tables, so that none are lent.
-fn exact_row(layout: Layout, plane: &[u8], stride: usize, row: usize, s: &[f32], out: &mut [u8])
-    requires row_lent { RowLent layout (plane_of plane.now stride) row (length s.now) }
+fn exact_row(layout: Layout, plane: Plane<'_>, row: usize, s: &[f32], out: &mut [u8])
+    requires row_lent { RowLent layout (seen plane) row (length s.now) }
     requires w_in_bounds { layout.w * 3 ≤ length out.old }
     ensures { out.new ≡ ranged_row
-        Exact layout (plane_of plane.now stride) row s.now 0 3 out.old }
+        Exact layout (seen plane.entry) row s.now 0 3 out.old }
 {
     let none = [[0i32; 256]; 0];
     colour_rows::colour_row(
@@ -29,7 +29,6 @@ fn exact_row(layout: Layout, plane: &[u8], stride: usize, row: usize, s: &[f32],
         YcbcrKernel::Exact,
         3,
         plane,
-        stride,
         row,
         s,
         out,
@@ -54,24 +53,16 @@ pub fn rgb_row(
 {
     rgb_row_answer(*reader, planes, row, s, out)?;
     let layout = reader_state::reader_layout(*reader);
-    let strides = Strides {
-        y: planes.y.stride,
-        cb: planes.cb.stride,
-        cr: planes.cr.stride,
-    };
     guided_rows::row_steps(
         layout,
-        planes.y.bytes,
-        planes.cb.bytes,
-        planes.cr.bytes,
-        strides,
+        planes,
         Components::Both,
         reader.h_next,
         reader.f_next,
         row,
         s,
     );
-    exact_row(layout, planes.y.bytes, planes.y.stride, row, s, out);
+    exact_row(layout, planes.y, row, s, out);
     *reader = after_row(*reader, row);
     Ok(())
 }

@@ -2,7 +2,7 @@
 ghost use Rattle.std.specs.Prelude.{◌≡◌, ◌*◌, ◌<◌, length, Ok};
 ghost use Rattle.laws.specs.Lists.{put};
 ghost use Rattle.laws.specs.Refusals.{first};
-ghost use Rattle.image.specs.Samples.{sample_at, plane_of, seen};
+ghost use Rattle.image.specs.Samples.{sample_at, seen};
 ghost use Rattle.upsample.specs.Triangular.{TriangularGiven, triangular_tests, triangular_plane, triangular_sample};
 
 use crate::across::across_row;
@@ -13,38 +13,38 @@ use laws::Refusal;
 
 // Row y of an accepted call, by the ratios. At rv 1 a row of cells is a row of output; at rv 2 output row y lies between cell row y / 2 and
 // the far one.
-fn triangular_row(layout: Layout, plane: &[u8], stride: usize, y: usize, out: &mut [u16])
-    requires out_value { first (triangular_tests layout (plane_of plane.now stride) (length out.old)) ≡ Ok tt }
+fn triangular_row(layout: Layout, plane: Plane<'_>, y: usize, out: &mut [u16])
+    requires out_value { first (triangular_tests layout (seen plane) (length out.old)) ≡ Ok tt }
     requires y_lt_h { y < layout.h }
     ensures { out.new ≡ put out.old (y * layout.w) layout.w
-        (triangular_sample layout (sample_at layout.sample_bytes (plane_of plane.now stride)) y) }
+        (triangular_sample layout (sample_at layout.sample_bytes (seen plane.entry)) y) }
 {
     let bytes = layout.sample_bytes;
     let cw = layout.cw;
     let w = layout.w;
     let at = y * w;
     if layout.rv == 1 {
-        let row = y * stride;
-        across_row(plane, bytes, row, row, cw, w, Bias::ACROSS, out, at);
+        let row = y * plane.stride;
+        across_row(plane.bytes, bytes, row, row, cw, w, Bias::ACROSS, out, at);
         return;
     }
-    let near = y / 2 * stride;
-    let far = crate::weights::far(y, layout.ch) * stride;
+    let near = y / 2 * plane.stride;
+    let far = crate::weights::far(y, layout.ch) * plane.stride;
     if layout.rh == 1 {
         let bias = crate::weights::one_axis_bias(y);
-        crate::down::down_row(plane, bytes, near, far, bias, w, out, at);
+        crate::down::down_row(plane.bytes, bytes, near, far, bias, w, out, at);
         return;
     }
-    across_row(plane, bytes, near, far, cw, w, Bias::BOTH, out, at);
+    across_row(plane.bytes, bytes, near, far, cw, w, Bias::BOTH, out, at);
 }
 
 // All rows of an accepted call, one after another.
-fn triangular(layout: Layout, plane: &[u8], stride: usize, out: &mut [u16])
-    requires { first (triangular_tests layout (plane_of plane.now stride) (length out.old)) ≡ Ok tt }
-    ensures { out.new ≡ triangular_plane layout (plane_of plane.now stride) out.old }
+fn triangular(layout: Layout, plane: Plane<'_>, out: &mut [u16])
+    requires { first (triangular_tests layout (seen plane) (length out.old)) ≡ Ok tt }
+    ensures { out.new ≡ triangular_plane layout (seen plane.entry) out.old }
 {
     for y in 0..layout.h {
-        triangular_row(layout, plane, stride, y, out);
+        triangular_row(layout, plane, y, out);
     }
 }
 
@@ -58,6 +58,6 @@ pub fn triangular_plane(
     ensures { TriangularGiven layout (seen plane.entry) out.old result out.new }
 {
     triangular_answer(layout, plane, out.len())?;
-    triangular(layout, plane.bytes, plane.stride, out);
+    triangular(layout, plane, out);
     Ok(())
 }

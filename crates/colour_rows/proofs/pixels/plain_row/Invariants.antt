@@ -2,8 +2,8 @@
 -- That pixel x fits the output is `row_fits`, the one product that omega doesn't find.
 use Rattle.colour_rows.specs.Inner.Colours.{row_colour}
 use Rattle.kernel_blocks.proofs.Stored.{Stored}
-use Rattle.image.specs.Samples.{plane_of}
+use Rattle.image.specs.Samples.{seen}
 use Rattle.colour_rows.proofs.pixels.plain_row.Given as goal
 
 abbrev pub invariant-loop-x : goal.invariant-loop-x
-invariant-loop-x l = Stored l.initial.out l.out l.at l.size l.x (row_colour l.kernel l.layout (plane_of l.plane l.stride) l.row l.s)
+invariant-loop-x l = Stored l.initial.out l.out l.at l.size l.x (row_colour l.kernel l.layout (seen l.plane) l.row l.s)

@@ -2,8 +2,8 @@
 -- The hard step is room: row `row` of the plane ends within its bytes (`row_room`), and x + 16 <= w puts the block inside the row.
 use mathlib.Core.Path.{refl, ◌∙◌}
 use native.Mathlib.Omega.{arith}
-use Rattle.image.specs.Samples.{plane_of}
 use Rattle.colour_rows.proofs.RowSamples.{row_room, two_of, gathered}
+use Rattle.image.specs.Samples.{seen}
 use Rattle.colour_rows.proofs.samples.luma_block.Goals as goal
 
 pub overflow_mul-row : goal.overflow_mul-row
@@ -20,7 +20,7 @@ sample_block-requires c =
 pub returns-then-layout-eq1 : goal.returns-then-layout-eq1
 returns-then-layout-eq1 c =
     let a = c.args in
-    λ k h. c.sample_block.ensures k h ∙ gathered _ 1 (plane_of a.plane.now a.stride) a.x k a.row _ c.if-layout-eq1.true (omega arith)
+    λ k h. c.sample_block.ensures k h ∙ gathered _ 1 (seen a.plane) a.x k a.row _ c.if-layout-eq1.true (omega arith)
 
 pub overflow_mul-row-2 : goal.overflow_mul-row-2
 overflow_mul-row-2 c = omega (arith, row_room c.requires.0 2 (two_of c.requires.0 c.if-layout-eq1.false))
@@ -36,4 +36,4 @@ sample_block-requires-2 c =
 pub returns : goal.returns
 returns c =
     let a = c.args in
-    λ k h. c.sample_block-2.ensures k h ∙ gathered _ 2 (plane_of a.plane.now a.stride) a.x k a.row _ (two_of c.requires.0 c.if-layout-eq1.false) refl
+    λ k h. c.sample_block-2.ensures k h ∙ gathered _ 2 (seen a.plane) a.x k a.row _ (two_of c.requires.0 c.if-layout-eq1.false) refl

@@ -2,7 +2,7 @@ use mathlib.Core.Path.{sym, ap, ◌∙◌}
 use Rattle.fill.specs.declared.options.ChromaUpsampling.{ChromaUpsampling}
 use Rattle.fill.specs.Fill.{linear_pair}
 use Rattle.fill.specs.Inner.Steps.{fill_step}
-use Rattle.image.specs.Picture.{planes_of}
+use Rattle.image.specs.Picture.{planes_seen}
 use Rattle.fill.proofs.rows.chroma_row.Goals as goal
 
 pub linear_pair-requires : goal.linear_pair-requires
@@ -20,10 +20,10 @@ pub returns-in-Linear : goal.returns-in-Linear
 unfolding fill_step linear_pair
 returns-in-Linear c =
     let a = c.args in
-    c.linear_pair.ensures ∙ ap (λ (up : ChromaUpsampling). fill_step up a.layout (planes_of a.y.now a.cb.now a.cr.now a.strides) a.first a.n a.s.now) (sym c.in-Linear.is)
+    c.linear_pair.ensures ∙ ap (λ (up : ChromaUpsampling). fill_step up a.layout (planes_seen a.planes) a.first a.n a.s.now) (sym c.in-Linear.is)
 
 pub returns-in-LumaGuided : goal.returns-in-LumaGuided
 unfolding fill_step
 returns-in-LumaGuided c =
     let a = c.args in
-    c.guided_step.ensures ∙ ap (λ (up : ChromaUpsampling). fill_step up a.layout (planes_of a.y.now a.cb.now a.cr.now a.strides) a.first a.n a.s.now) (sym c.in-LumaGuided.is)
+    c.guided_step.ensures ∙ ap (λ (up : ChromaUpsampling). fill_step up a.layout (planes_seen a.planes) a.first a.n a.s.now) (sym c.in-LumaGuided.is)

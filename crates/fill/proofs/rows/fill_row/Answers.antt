@@ -10,8 +10,8 @@ use Rattle.guided.proofs.Places.{front_fits}
 use Rattle.colour_rows.specs.Inner.Colours.{ranged_row}
 use Rattle.fill.proofs.Chroma.{length_fill}
 use Rattle.fill.proofs.Painted.{row_bytes_is, row_begins, row_room}
-use Rattle.image.specs.Picture.{planes_of}
-use Rattle.image.specs.Samples.{plane_of}
+use Rattle.image.specs.Samples.{seen}
+use Rattle.image.specs.Picture.{planes_seen}
 use Rattle.fill.proofs.rows.fill_row.Goals as goal
 
 pub overflow_mul-at : goal.overflow_mul-at
@@ -31,7 +31,7 @@ pub colour_row-requires : goal.colour_row-requires
 colour_row-requires c =
     let p = c.requires.fill_lent in
     let a = c.args in
-    let e = ap length c.chroma_row.ensures ∙ length_fill a.upsampling a.layout (planes_of a.y.now a.cb.now a.cr.now a.strides) a.first a.n a.s.now in
+    let e = ap length c.chroma_row.ensures ∙ length_fill a.upsampling a.layout (planes_seen a.planes) a.first a.n a.s.now in
     let f = front_fits a.layout in
     let g = p.scratch in
     record { row_lent = record { luma = record { shaped = p.lent.shaped; plane = p.lent.luma; inside = c.requires.n_bound.0 }; rows = omega arith }; le_size = (p.size_least, p.size_most, row_room p (a.first + a.n) c.requires.n_bound.0, c.requires.n_bound.1) }
@@ -40,4 +40,4 @@ pub returns : goal.returns
 returns c =
     let a = c.args in
     let e = c.chroma_row.ensures in
-    record { s_after = e; out_after = c.colour_row.ensures ∙ ap (λ (z : List Float). ranged_row a.kernel a.layout (plane_of a.y.now a.strides.y) (a.first + a.n) z ((a.first + a.n) * (a.layout.w * a.size)) a.size a.out.now) e }
+    record { s_after = e; out_after = c.colour_row.ensures ∙ ap (λ (z : List Float). ranged_row a.kernel a.layout (seen a.planes.y) (a.first + a.n) z ((a.first + a.n) * (a.layout.w * a.size)) a.size a.out.now) e }

@@ -3,7 +3,7 @@ use native.Mathlib.Omega.{arith}
 use lib.ListN.{length}
 use Rattle.linear.specs.Linear.{linear_row}
 use Rattle.linear.proofs.LinearRows.{length_row}
-use Rattle.image.specs.Samples.{plane_of}
+use Rattle.image.specs.Samples.{seen}
 use Rattle.fill.proofs.rows.linear_pair.Goals as goal
 
 pub linear_row-requires : goal.linear_row-requires
@@ -20,4 +20,4 @@ linear_row-requires-2 c =
 pub returns : goal.returns
 returns c =
     let a = c.args in
-    c.linear_row-2.ensures ∙ ap (linear_row a.layout (plane_of a.cr.now a.strides.cr) a.layout.w a.row) c.linear_row.ensures
+    c.linear_row-2.ensures ∙ ap (linear_row a.layout (seen a.planes.cr) a.layout.w a.row) c.linear_row.ensures

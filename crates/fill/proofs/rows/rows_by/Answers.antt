@@ -1,9 +1,9 @@
 use mathlib.Core.Path.{◌∙◌}
 use Prim.Native.Nat.{◌+◌, ◌*◌}
 use native.Mathlib.Omega.{arith}
-use Rattle.image.specs.Picture.{planes_of}
 use Rattle.fill.proofs.Chroma.{scratched_none, scratched_more, scratched_end}
 use Rattle.fill.proofs.Painted.{painted_none, painted_more, painted_end, row_is}
+use Rattle.image.specs.Picture.{planes_seen}
 use Rattle.fill.proofs.rows.rows_by.Goals as goal
 
 pub loop-n-init : goal.loop-n-init
@@ -23,7 +23,7 @@ loop-n-preserved c =
     let i = c.loop-n in
     let r = c.fill_row.ensures in
     let f = c.requires.fill_lent in (
-      painted_more i.invariant.0 _ (r.out_after ∙ row_is q.upsampling q.kernel q.layout (planes_of q.y.now q.cb.now q.cr.now q.strides) f.lent q.a i.n q.s.now i.s i.invariant.1 f.scratch (omega arith) ((q.a + i.n) * (q.layout.w * q.size)) q.size i.out),
+      painted_more i.invariant.0 _ (r.out_after ∙ row_is q.upsampling q.kernel q.layout (planes_seen q.planes) f.lent q.a i.n q.s.now i.s i.invariant.1 f.scratch (omega arith) ((q.a + i.n) * (q.layout.w * q.size)) q.size i.out),
       scratched_more i.invariant.1 _ r.s_after,
     )
 

@@ -6,13 +6,13 @@ use Rattle.guided.specs.Scratch.{first_of}
 use Rattle.guided_across.specs.Inner.Sums.{products_at, three_row}
 use Rattle.std.proofs.Common.{◌+◌, ◌≤◌, refl, ap, ◌∙◌, arith}
 use native.Mathlib.Nat.{le_trans}
-use Rattle.image.specs.Samples.{plane_of}
 use Rattle.guided_across.proofs.Areas.{row_within}
+use Rattle.image.specs.Samples.{seen}
 use Rattle.guided_across.proofs.across.chroma_part.Goals as goal
 
 pub overflow_mul-j : goal.overflow_mul-j
 overflow_mul-j c =
-    let a = c.args in omega (arith, row_within a.layout a.plane.now a.stride a.layout.cw a.layout.ch a.j c.requires.chroma_cells.plane (omega arith))
+    let a = c.args in omega (arith, row_within a.layout a.plane.bytes.now a.plane.stride a.layout.cw a.layout.ch a.j c.requires.chroma_cells.plane (omega arith))
 
 pub sum_row-requires : goal.sum_row-requires
 sum_row-requires c =
@@ -37,4 +37,4 @@ returns c =
     let behind = slot_order l 0 (first_of a.k) a.j (omega arith) in
     c.sum_row.ensures
     ∙ ap (three_row (products_at y.result d.result) l.cw e.result) c.load_row.ensures
-    ∙ chroma_steps l (plane_of a.plane.now a.stride) a.k a.j (first_of a.k) y.result d.result e.result a.s.now refl y.ensures.is d.ensures.is e.ensures.is (omega (arith, y.ensures.is, d.ensures.is)) (le_trans d.ensures.fits c.requires.j_lt_ch.1)
+    ∙ chroma_steps l (seen a.plane) a.k a.j (first_of a.k) y.result d.result e.result a.s.now refl y.ensures.is d.ensures.is e.ensures.is (omega (arith, y.ensures.is, d.ensures.is)) (le_trans d.ensures.fits c.requires.j_lt_ch.1)

@@ -5,7 +5,7 @@ use Rattle.guided_across.specs.Inner.Parts.{chroma_part}
 use Rattle.guided_window.specs.Inner.Lent.{components_of}
 use Rattle.guided.specs.Scratch.{horizontal}
 use Rattle.image.specs.declared.chroma.Chroma.TheVariants.{Cb, Cr}
-use Rattle.image.specs.Picture.{picture_of, planes_of}
+use Rattle.image.specs.Picture.{picture_of, planes_seen}
 use Rattle.image.specs.Samples.{sample_at}
 use Rattle.image.specs.declared.chroma.Components.{Components}
 use mathlib.Core.Path.{sym, ap, ◌∙◌}
@@ -26,7 +26,7 @@ pub returns-in_default : goal.returns-in_default
 returns-in_default c =
     let a = c.args in
     let l = a.layout in
-    let ps = (planes_of c.args.y.now c.args.cb.now c.args.cr.now c.args.strides) in
+    let ps = (planes_seen c.args.planes) in
     c.chroma_part.ensures ∙ ap (chroma_part l (sample_at l.sample_bytes ps.cb) Cb a.j) c.luma_part.ensures
     ∙ horizontal_one l ps a.j a.s.now (omega arith) (omega arith, c.requires.lent.sound.cw_most)
     ∙ ap (λ (ks : Components). horizontal (picture_of l ps) (components_of ks) a.j a.s.now) (sym c.in_default.is)
@@ -40,7 +40,7 @@ pub returns : goal.returns
 returns c =
     let a = c.args in
     let l = a.layout in
-    let ps = (planes_of c.args.y.now c.args.cb.now c.args.cr.now c.args.strides) in
+    let ps = (planes_seen c.args.planes) in
     c.chroma_part-2.ensures
     ∙ ap (chroma_part l (sample_at l.sample_bytes ps.cr) Cr a.j) (c.chroma_part.ensures ∙ ap (chroma_part l (sample_at l.sample_bytes ps.cb) Cb a.j) c.luma_part.ensures)
     ∙ horizontal_both l ps a.j a.s.now (omega arith) (omega arith, c.requires.lent.sound.cw_most)

@@ -1,7 +1,7 @@
 use Rattle.guided_across.proofs.ReadBack.{luma_steps}
 use Rattle.guided_across.specs.Inner.Sums.{cells_at, products_at, three_row}
 use Rattle.std.proofs.Common.{ap, ◌∙◌, arith}
-use Rattle.image.specs.Samples.{plane_of}
+use Rattle.image.specs.Samples.{seen}
 use Rattle.guided_across.proofs.across.luma_part.Goals as goal
 
 pub returns : goal.returns
@@ -13,4 +13,4 @@ returns c =
     let squares = c.row_at-squares in
     c.sum_row-2.ensures
     ∙ ap (three_row (products_at y.result y.result) l.cw squares.result) (c.sum_row.ensures ∙ ap (three_row (cells_at y.result) l.cw sums.result) c.luma_row.ensures)
-    ∙ luma_steps l (plane_of a.plane.now a.stride) a.j _ _ _ a.s.now y.ensures.is sums.ensures.is squares.ensures.is c.requires.luma_pixels.sound.cw_most c.requires.j_lt_ch.1
+    ∙ luma_steps l (seen a.plane) a.j _ _ _ a.s.now y.ensures.is sums.ensures.is squares.ensures.is c.requires.luma_pixels.sound.cw_most c.requires.j_lt_ch.1

@@ -1,5 +1,5 @@
 use native.Mathlib.Omega.{arith}
-use Rattle.image.specs.Picture.{planes_of}
+use Rattle.image.specs.Samples.{seen}
 use Rattle.image.specs.Picture.{Planes}
 use Rattle.guided_down.proofs.DownSteps.{finish_cb, finish_both}
 use Rattle.guided_down.proofs.finishing.finish.Goals as goal
@@ -7,7 +7,7 @@ use Rattle.guided_down.proofs.finishing.finish.Goals as goal
 pub returns-in_default : goal.returns-in_default
 returns-in_default c =
     λ y. let a = c.args in
-    let ps : Planes = planes_of y a.cb.now a.cr.now a.strides in
+    let ps : Planes = record { y = y; cb = seen a.cb; cr = seen a.cr } in
     rw c.in_default.is (finish_cb a.layout ps a.j a.s.now _ _ (omega arith) c.slope_row.ensures c.extreme_rows.ensures)
 
 pub extreme_rows-requires-3 : goal.extreme_rows-requires-3
@@ -17,5 +17,5 @@ extreme_rows-requires-3 c =
 pub returns : goal.returns
 returns c =
     λ y. let a = c.args in
-    let ps : Planes = planes_of y a.cb.now a.cr.now a.strides in
+    let ps : Planes = record { y = y; cb = seen a.cb; cr = seen a.cr } in
     rw c.in-Both.is (finish_both a.layout ps a.j a.s.now _ _ _ (omega arith) c.slope_rows.ensures c.extreme_rows-2.ensures c.extreme_rows-3.ensures)

@@ -1,6 +1,6 @@
 use Rattle.std.proofs.Common.{◌∙◌, arith}
 use Rattle.guided_pixels.proofs.DetailRows.{detail_line_is, detail_ready}
-use Rattle.image.specs.Samples.{plane_of}
+use Rattle.image.specs.Samples.{seen}
 use Rattle.guided_pixels.proofs.details.detail_row.Goals as goal
 
 pub row-requires : goal.row-requires
@@ -12,4 +12,4 @@ row-requires c =
 pub returns : goal.returns
 returns c =
     let a = c.args in
-    c.row.ensures ∙ detail_line_is a.layout (plane_of a.plane.now a.stride) a.y _ a.s.now c.column_at-src.ensures.is
+    c.row.ensures ∙ detail_line_is a.layout (seen a.plane) a.y _ a.s.now c.column_at-src.ensures.is

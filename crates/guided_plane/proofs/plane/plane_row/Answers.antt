@@ -15,7 +15,7 @@ use Rattle.linear.specs.Inner.Stores.{store_run}
 use Rattle.guided.proofs.Places.{front_fits}
 use Rattle.guided_plane.specs.Plane.{planes_with}
 use Rattle.guided_rows.proofs.GuidedRows.{length_step}
-use Rattle.image.specs.Samples.{plane_of}
+use Rattle.image.specs.Samples.{seen}
 use Rattle.guided_plane.proofs.plane.plane_row.Goals as goal
 
 pub guided_step-requires : goal.guided_step-requires
@@ -34,7 +34,7 @@ store_row-requires c =
     let h = inside in
     let o = c.requires.lent.sound in
     let f = front_fits c.args.layout in
-    let e = ap length c.guided_step.ensures ∙ length_step ((picture_of c.args.layout (planes_with (plane_of c.args.y.now c.args.y_stride) (plane_of c.args.c.now c.args.c_stride)))) (Cb ∷ []) 0 c.args.row c.args.s.now in
+    let e = ap length c.guided_step.ensures ∙ length_step ((picture_of c.args.layout (planes_with (seen c.args.y) (seen c.args.c)))) (Cb ∷ []) 0 c.args.row c.args.s.now in
     (o.maxval_most, omega arith, omega arith)
 
 pub returns : goal.returns

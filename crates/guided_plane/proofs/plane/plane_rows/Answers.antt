@@ -6,7 +6,7 @@ use Rattle.image.specs.Picture.{picture_of}
 use Rattle.guided_plane.specs.Plane.{planes_with, guided_plane}
 use Rattle.guided_rows.proofs.GuidedRows.{advanced_none, advanced_more, advanced_end}
 use Rattle.guided_plane.proofs.PlaneRows.{stored_is}
-use Rattle.image.specs.Samples.{plane_of}
+use Rattle.image.specs.Samples.{seen}
 use Rattle.guided_plane.proofs.plane.plane_rows.Goals as goal
 
 pub loop-row-init : goal.loop-row-init
@@ -22,7 +22,7 @@ pub loop-row-preserved : goal.loop-row-preserved
 unfolding picture_of
 loop-row-preserved c =
     let i = c.loop-row in (
-      rows_more i.invariant.0 _ (c.plane_row.ensures.out_after ∙ stored_is ((picture_of c.args.layout (planes_with (plane_of c.args.y.now c.args.y_stride) (plane_of c.args.c.now c.args.c_stride)))) c.requires.lent.sound i.row (i.row * c.args.layout.w) c.args.s.now i.s i.out i.invariant.1 c.requires.layout_in_bounds.0 (omega arith)),
+      rows_more i.invariant.0 _ (c.plane_row.ensures.out_after ∙ stored_is ((picture_of c.args.layout (planes_with (seen c.args.y) (seen c.args.c)))) c.requires.lent.sound i.row (i.row * c.args.layout.w) c.args.s.now i.s i.out i.invariant.1 c.requires.layout_in_bounds.0 (omega arith)),
       advanced_more i.invariant.1 _ c.plane_row.ensures.s_after,
     )
 

@@ -8,10 +8,10 @@ use Rattle.fround.specs.Rounding.{round_clamped}
 use Rattle.guided.specs.Guided.{guided_sample}
 use Rattle.guided_plane.specs.Plane.{planes_with}
 use Rattle.guided_rows.proofs.GuidedRows.{Advanced}
-use Rattle.image.specs.Samples.{plane_of}
+use Rattle.image.specs.Samples.{seen}
 use Rattle.guided_plane.proofs.plane.plane_rows.Given as goal
 
 abbrev pub invariant-loop-row : goal.invariant-loop-row
 invariant-loop-row l =
-    Rows l.initial.out l.out l.layout.w l.row (λ n x. round_clamped l.layout.maxval (guided_sample (picture_of l.layout (planes_with (plane_of l.y l.y_stride) (plane_of l.c l.c_stride))) Cb n x))
-    × Advanced (picture_of l.layout (planes_with (plane_of l.y l.y_stride) (plane_of l.c l.c_stride))) (Cb ∷ []) 0 l.row l.initial.s l.s
+    Rows l.initial.out l.out l.layout.w l.row (λ n x. round_clamped l.layout.maxval (guided_sample (picture_of l.layout (planes_with (seen l.y) (seen l.c))) Cb n x))
+    × Advanced (picture_of l.layout (planes_with (seen l.y) (seen l.c))) (Cb ∷ []) 0 l.row l.initial.s l.s

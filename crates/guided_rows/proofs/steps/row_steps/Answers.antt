@@ -1,4 +1,4 @@
-use Rattle.image.specs.Picture.{Planes, picture_of, planes_of}
+use Rattle.image.specs.Picture.{Planes, picture_of, planes_seen}
 use Rattle.guided_window.specs.Inner.Lent.{components_of}
 use Rattle.guided.specs.Scratch.{catch_up, row_steps}
 use Rattle.guided_pixels.specs.Inner.Row.{window_row}
@@ -18,7 +18,7 @@ pub returns : goal.returns
 unfolding row_steps
 returns c =
     let a = c.args in
-    let ps : Planes = planes_of a.y.now a.cb.now a.cr.now a.strides in
+    let ps : Planes = planes_seen a.planes in
     let p = picture_of a.layout ps in
     let ks = components_of a.components in
     c.guided_row.ensures ps.cb ps.cr

@@ -4,7 +4,7 @@ use lib.Ieee.{Float}
 use mathlib.Core.List.{List}
 use native.Mathlib.Nat.{mul_comm}
 use Rattle.laws.proofs.Lists.{rows_none, rows_more, rows_end}
-use Rattle.image.specs.Samples.{Plane, plane_of}
+use Rattle.image.specs.Samples.{Plane, seen}
 use Rattle.linear.specs.Linear.{linear_plane}
 use Rattle.linear.specs.Inner.Linear.{Ready}
 use Rattle.image.specs.Scratch.{scratch_need}
@@ -22,7 +22,7 @@ loop-y-init c =
 pub store_row-requires : goal.store_row-requires
 unfolding scratch_need
 store_row-requires c =
-    let ready : Ready c.args.layout (plane_of c.args.plane.now c.args.stride) (length c.loop-y.s) = let r = c.requires.ready in record { shaped = r.shaped; plane = r.plane; scratch = rw c.loop-y.invariant.1.len r.scratch } in
+    let ready : Ready c.args.layout (seen c.args.plane) (length c.loop-y.s) = let r = c.requires.ready in record { shaped = r.shaped; plane = r.plane; scratch = rw c.loop-y.invariant.1.len r.scratch } in
     let room : 0 + c.args.layout.w ≤ length c.loop-y.s = let r = ready in omega arith in
     let inside : c.loop-y.y * c.args.layout.w + c.args.layout.w ≤ length c.loop-y.out = let a = c.args in
     omega (arith, row_fits c.loop-y.y a.layout.h a.layout.w (omega arith), mul_comm a.layout.w a.layout.h, c.loop-y.invariant.0.len) in
@@ -35,10 +35,10 @@ store_row-requires c =
 pub loop-y-preserved : goal.loop-y-preserved
 unfolding scratch_need
 loop-y-preserved c =
-    let ready : Ready c.args.layout (plane_of c.args.plane.now c.args.stride) (length c.loop-y.s) = let r = c.requires.ready in record { shaped = r.shaped; plane = r.plane; scratch = rw c.loop-y.invariant.1.len r.scratch } in
+    let ready : Ready c.args.layout (seen c.args.plane) (length c.loop-y.s) = let r = c.requires.ready in record { shaped = r.shaped; plane = r.plane; scratch = rw c.loop-y.invariant.1.len r.scratch } in
     let room : 0 + c.args.layout.w ≤ length c.loop-y.s = let r = ready in omega arith in
     let a = c.args in
-    let p : Plane = record { bytes = a.plane.now; stride = a.stride } in
+    let p : Plane = seen a.plane in
     let l = c.loop-y in
     let row = c.linear_row in (
       rows_more l.invariant.0 _
