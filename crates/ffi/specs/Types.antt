@@ -1,5 +1,5 @@
 -- What C's structs and numbers stand for. Definitions only.
-use Rattle.std.specs.Prelude.{Bool, true, false, ◌||◌, cond, [], ◌∷◌, ℕ, eqb, ltb, get_or}
+use Rattle.std.specs.Prelude.{Bool, true, false, ◌||◌, cond, List, [], ◌∷◌, ℕ, eqb, ltb, get_or}
 use Rattle.std.specs.Float.{nan}
 use Rattle.laws.specs.Refusals.{Answer, number_of}
 use Rattle.std.specs.Prelude.{Ok, Err}
@@ -9,7 +9,8 @@ use Rattle.laws.specs.declared.axes.Axis.{Axis}
 use Rattle.image.specs.declared.layout.Layout.{Layout}
 use Rattle.image.specs.declared.layout.Range.{Range}
 use Rattle.image.specs.declared.layout.Range.TheVariants.{Full, Studio}
-use Rattle.image.specs.declared.strides.Strides.{Strides}
+use Rattle.image.specs.Samples.{plane_of}
+use Rattle.image.specs.Picture.{Planes}
 use Rattle.taps.specs.declared.phases.Phase.{Phase}
 use Rattle.guided.specs.declared.state.Reader.{Reader}
 use Rattle.guided.specs.Calls.{phase_in}
@@ -57,8 +58,9 @@ strange_layout l = (ltb 1 l.siting_across || ltb 1 l.siting_down) || ltb 1 l.ran
 unfoldable pub as_layout : ChromaLayout → Layout
 as_layout l = record { w = l.w; h = l.h; rh = l.rh; rv = l.rv; cw = l.cw; ch = l.ch; across = as_axis l.siting_across l.num_across; down = as_axis l.siting_down l.num_down; sample_bytes = l.sample_bytes; maxval = l.maxval; range = as_range l.range }
 
-unfoldable pub as_strides : ChromaStrides → Strides
-as_strides s = record { y = s.y; cb = s.cb; cr = s.cr }
+-- the planes that C lends as three slices beside their strides
+unfoldable pub as_planes : List ℕ → List ℕ → List ℕ → ChromaStrides → Planes
+as_planes y cb cr s = record { y = plane_of y s.y; cb = plane_of cb s.cb; cr = plane_of cr s.cr }
 
 -- ---- the reader's state
 

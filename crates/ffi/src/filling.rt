@@ -2,9 +2,8 @@
 ghost use Rattle.std.specs.Prelude.{◌≡◌};
 ghost use Rattle.fill.specs.Fill.{FillGiven};
 ghost use Rattle.fill.specs.Tests.{fill_call};
-ghost use Rattle.ffi.specs.Types.{as_strides, as_layout};
+ghost use Rattle.ffi.specs.Types.{as_planes, as_layout};
 ghost use Rattle.ffi.specs.Calls.{Numbered, no_such_way, as_upsampling, as_kernel};
-ghost use Rattle.image.specs.Picture.{planes_of};
 
 use crate::types::{ChromaLayout, ChromaStrides, number_of, strange_layout, to_layout, to_planes};
 use fill::ChromaUpsampling;
@@ -56,7 +55,7 @@ pub fn chroma_fill(
     ensures { Numbered (no_such_way layout upsampling kernel)
         ((s.new ≡ s.old) × (out.new ≡ out.old))
         (λ a. FillGiven
-        (fill_call (as_layout layout) (planes_of y.now cb.now cr.now (as_strides strides))
+        (fill_call (as_layout layout) (as_planes y.now cb.now cr.now strides)
         (as_upsampling upsampling) (as_kernel kernel) size s.old out.old)
         a s.new out.new)
         result }

@@ -1,8 +1,8 @@
 // What crosses the boundary to C, and its translation: structs with C's layout, whose numbers stand for the Rattle calls' bools and
 // enums.
 ghost use Rattle.std.specs.Prelude.{◌≡◌};
-ghost use Rattle.image.specs.Picture.{planes_seen, planes_of};
-ghost use Rattle.ffi.specs.Types.{as_strides, as_axis, as_range, chroma_range, as_layout, strange_layout, as_phase, chroma_phase, as_reader, chroma_reader, strange_phases, strange_reader, answer_number};
+ghost use Rattle.image.specs.Picture.{planes_seen};
+ghost use Rattle.ffi.specs.Types.{as_planes, as_axis, as_range, chroma_range, as_layout, strange_layout, as_phase, chroma_phase, as_reader, chroma_reader, strange_phases, strange_reader, answer_number};
 
 use guided::{Geometry, Reader};
 use image::{Layout, Plane, Planes, Range};
@@ -159,14 +159,14 @@ pub fn to_layout(l: ChromaLayout) -> Layout
 }
 
 // Inner: the planes that C lends as three slices and their strides.
-#[tactic(auto, unfolding(crate::specs::Types::as_strides))]
+#[tactic(auto, unfolding(crate::specs::Types::as_planes))]
 pub fn to_planes<'a>(
     y: &'a [u8],
     cb: &'a [u8],
     cr: &'a [u8],
     strides: ChromaStrides,
 ) -> Planes<'a>
-    ensures { planes_seen result ≡ planes_of y.now cb.now cr.now (as_strides strides) }
+    ensures { planes_seen result ≡ as_planes y.now cb.now cr.now strides }
 {
     Planes {
         y: Plane {

@@ -1,9 +1,8 @@
 // A row between two photographs, for C, exported.
 ghost use Rattle.std.specs.Prelude.{◌≡◌, ◌||◌};
-ghost use Rattle.image.specs.Picture.{planes_of};
 ghost use Rattle.rgb_rows.specs.RgbRows.{side_of};
 ghost use Rattle.colorimetry.specs.Blends.{blend_call, BlendGiven};
-ghost use Rattle.ffi.specs.Types.{as_strides, as_reader, strange_reader};
+ghost use Rattle.ffi.specs.Types.{as_planes, as_reader, strange_reader};
 ghost use Rattle.ffi.specs.Blends.{blend_reply_to, BlendChecked};
 
 use ffi::{ChromaBlendReply, ChromaReader, ChromaStrides};
@@ -33,8 +32,8 @@ pub extern "C" fn chroma_blend_row(
         × (out.new ≡ out.old))
         (λ p. BlendGiven
         (blend_call row weight
-        (side_of (as_reader early) (planes_of early_y.now early_cb.now early_cr.now (as_strides early_strides)) early_s.old)
-        (side_of (as_reader late) (planes_of late_y.now late_cb.now late_cr.now (as_strides late_strides)) late_s.old)
+        (side_of (as_reader early) (as_planes early_y.now early_cb.now early_cr.now early_strides) early_s.old)
+        (side_of (as_reader late) (as_planes late_y.now late_cb.now late_cr.now late_strides) late_s.old)
         out.old)
         p early_s.new late_s.new out.new)
         result }

@@ -2,9 +2,8 @@
 ghost use Rattle.std.specs.Prelude.{◌≡◌};
 ghost use Rattle.guided.specs.Calls.{open_call, seek_call, row_call, OpenGiven, SeekGiven, RowGiven};
 ghost use Rattle.rgb_rows.specs.RgbRows.{side_of, rgb_row_call, RgbRowGiven};
-ghost use Rattle.ffi.specs.Types.{as_strides, as_layout, as_reader, strange_layout, strange_reader};
+ghost use Rattle.ffi.specs.Types.{as_planes, as_layout, as_reader, strange_layout, strange_reader};
 ghost use Rattle.ffi.specs.Calls.{Checked};
-ghost use Rattle.image.specs.Picture.{planes_of};
 
 use ffi::{ChromaLayout, ChromaReader, ChromaReply, ChromaStrides};
 
@@ -21,7 +20,7 @@ pub extern "C" fn chroma_open(
 ) -> ChromaReply
     ensures { Checked (strange_layout layout) 255 reader Unit
         (OpenGiven (open_call (as_layout layout)
-        (planes_of y.now cb.now cr.now (as_strides strides))
+        (as_planes y.now cb.now cr.now strides)
         s.now (as_reader reader)))
         result }
 {
@@ -54,7 +53,7 @@ pub extern "C" fn chroma_row(
         × (out_cb.new ≡ out_cb.old)
         × (out_cr.new ≡ out_cr.old))
         (λ p. RowGiven
-        (row_call row (planes_of y.now cb.now cr.now (as_strides strides)) (as_reader reader)
+        (row_call row (as_planes y.now cb.now cr.now strides) (as_reader reader)
         s.old out_cb.old out_cr.old)
         p s.new out_cb.new out_cr.new)
         result }
@@ -78,7 +77,7 @@ pub extern "C" fn chroma_rgb_row(
         ((s.new ≡ s.old) × (out.new ≡ out.old))
         (λ p. RgbRowGiven
         (rgb_row_call row
-        (side_of (as_reader reader) (planes_of y.now cb.now cr.now (as_strides strides)) s.old)
+        (side_of (as_reader reader) (as_planes y.now cb.now cr.now strides) s.old)
         out.old)
         p s.new out.new)
         result }

@@ -1,8 +1,7 @@
 // Refill, for C, exported.
 ghost use Rattle.std.specs.Prelude.{◌≡◌};
 ghost use Rattle.fill.specs.Refill.{refill_call, RefillGiven};
-ghost use Rattle.image.specs.Picture.{planes_of};
-ghost use Rattle.ffi.specs.Types.{as_strides, as_layout};
+ghost use Rattle.ffi.specs.Types.{as_planes, as_layout};
 ghost use Rattle.ffi.specs.Patches.{as_rectangle};
 ghost use Rattle.ffi.specs.Calls.{Numbered, no_such_way, as_kernel};
 
@@ -30,8 +29,8 @@ pub extern "C" fn chroma_refill(
         ((s.new ≡ s.old) × (out.new ≡ out.old))
         (λ a. RefillGiven
         (refill_call (as_layout layout)
-        (planes_of old_y.now old_cb.now old_cr.now (as_strides old_strides))
-        (planes_of y.now cb.now cr.now (as_strides strides))
+        (as_planes old_y.now old_cb.now old_cr.now old_strides)
+        (as_planes y.now cb.now cr.now strides)
         (as_rectangle cells) (as_kernel kernel) size s.old out.old)
         a s.new out.new)
         result }

@@ -1,14 +1,13 @@
 -- The picture of document 01: "sizes, ratios, sample bytes, maxval and the samples inside its planes, without padding or surplus". Definitions only.
-use Rattle.std.specs.Prelude.{◌≡◌, Bool, ◌&&◌, ◌||◌, cond, List, ℕ, ltb, length}
+use Rattle.std.specs.Prelude.{◌≡◌, Bool, ◌&&◌, ◌||◌, cond, ℕ, ltb, length}
 use Rattle.image.specs.declared.layout.Layout.{Layout}
 use Rattle.image.specs.declared.layout.Range.{Range}
 use Rattle.image.specs.declared.layout.Range.TheVariants.{Full}
 use Rattle.image.specs.declared.chroma.Chroma.{Chroma}
 use Rattle.image.specs.declared.chroma.Chroma.TheVariants.{Cb, Cr}
 use Rattle.image.specs.Tests.{bad_plane}
-use Rattle.image.specs.declared.strides.Strides.{Strides}
 use Rattle.image.specs.declared.plane.Planes.{Planes as LentPlanes}
-use Rattle.image.specs.Samples.{Plane, plane_of, seen, sample_at}
+use Rattle.image.specs.Samples.{Plane, seen, sample_at}
 
 -- `luma y x` and `chroma k y x`: row y, column x. They are 0 outside the picture.
 pub record Picture : Type 0 where
@@ -24,10 +23,6 @@ pub record Planes : Type 0 where
 
 abbrev pub planes_seen : LentPlanes → Planes
 planes_seen ps = record { y = seen ps.y; cb = seen ps.cb; cr = seen ps.cr }
-
--- the planes that a call is lent as three slices and their strides
-abbrev pub planes_of : List ℕ → List ℕ → List ℕ → Strides → Planes
-planes_of y cb cr strides = record { y = plane_of y strides.y; cb = plane_of cb strides.cb; cr = plane_of cr strides.cr }
 
 abbrev pub chroma_plane : Planes → Chroma → Plane
 chroma_plane ps Cb = ps.cb

@@ -15,14 +15,12 @@ mod limits;
 mod plane;
 mod rectangle;
 mod samples;
-mod strides;
 
 pub use chroma::{Chroma, Components};
 pub use differences::other_change;
 pub use layout::{Layout, Range, bad_range, div_ceil};
 pub use lent::{above_planes, bad_planes, short_scratch};
-pub use limits::{plane_above};
+pub use limits::plane_above;
 pub use plane::{Plane, Planes};
 pub use rectangle::Rectangle;
 pub use samples::{bad_plane, sample};
-pub use strides::Strides;

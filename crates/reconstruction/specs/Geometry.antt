@@ -2,7 +2,7 @@
 
 -- the picture: "sizes, ratios, sample bytes, maxval and the samples inside its planes, without padding or surplus"
 pub use Rattle.image.specs.Samples.{Plane, plane_of, seen, sample_of, sample_at}
-pub use Rattle.image.specs.Picture.{Picture, planes_of, planes_seen, chroma_plane, picture_of}
+pub use Rattle.image.specs.Picture.{Picture, planes_seen, chroma_plane, picture_of}
 pub use Rattle.image.specs.Picture.{Planes}
 -- W7: "Reconstructed samples don't depend on the range"
 pub use Rattle.image.specs.Picture.{ranged, picture_in, SameButRange}
