@@ -50,7 +50,7 @@ fn planes_answer(
     laws::first([(either_above(layout, old, new), Refusal::AboveMaxval)])
 }
 
-// The first refusal but the last, 21's.
+// The first refusal of all tests but the last, which is 21's.
 #[tactic(auto, unfolding(laws::specs::Refusals::first, image::specs::Tests::tests_for, crate::specs::Inner::Refill::planes_tests, crate::specs::Inner::Refill::lent_tests))]
 fn lent_answer(
     layout: Layout,

@@ -52,8 +52,8 @@ fn chroma_row(
     }
 }
 
-// Makes row first + n: its chroma, then its colour at its place in out. Thirteen parameters: the ten that `fill` is handed, since a slice
-// can't be put into a struct with its stride (docs/DECISIONS.md), which row, and the fixed kernel's tables.
+// Makes row first + n: its chroma, then its colour at its place in out. Ten parameters: the seven that `fill` is handed, which
+// row, and the fixed kernel's tables.
 fn fill_row(
     layout: Layout,
     planes: Planes<'_>,
@@ -82,7 +82,7 @@ fn fill_row(
     colour_rows::colour_row(layout, kernel, size, planes.y, row, s, out, at, tables);
 }
 
-// Makes rows a, .. b - 1 of the picture with the tables that its kernel reads. Thirteen parameters: those of `fill_rows` and the tables.
+// Makes rows a, .. b - 1 of the picture with the tables that its kernel reads. Ten parameters: those of `fill_rows` and the tables.
 fn rows_by(
     layout: Layout,
     planes: Planes<'_>,
@@ -113,8 +113,7 @@ fn rows_by(
 }
 
 // Inner: makes rows a, .. b - 1 of the picture, whatever scratch holds. The fixed kernel's tables are made here, once for all rows; the exact
-// kernel reads none. Twelve parameters: the ten that `fill` is handed, since a slice can't be put into a struct with its stride
-// (docs/DECISIONS.md), and from where to where.
+// kernel reads none. Nine parameters: the seven that `fill` is handed, and from where to where.
 pub fn fill_rows(
     layout: Layout,
     planes: Planes<'_>,

@@ -31,12 +31,6 @@ pub greatest_more : (n : ℕ) (f : ℕ → ℕ) → greatest (n + 1) f ≡ max (
 unfolding greatest
 greatest_more n f = rw add-one refl
 
-pub greatest_step : (n : ℕ) (f : ℕ → ℕ) (m r : ℕ) → m ≡ greatest n f → r ≡ max m (f n) → r ≡ greatest (n + 1) f
-greatest_step n f m r e k = k ∙ ap (λ (x : ℕ). max x (f n)) e ∙ sym (greatest_more n f)
-
-pub greatest_end : (i n : ℕ) (f : ℕ → ℕ) (m : ℕ) → m ≡ greatest i f → i ≡ n → m ≡ greatest n f
-greatest_end i n f m e k = e ∙ ap (λ (j : ℕ). greatest j f) k
-
 -- ---- what it says of each index
 
 -- none passes

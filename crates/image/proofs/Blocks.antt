@@ -55,23 +55,6 @@ any_either (suc n) p q = rw (any_either n p q) (go (any_of n p) (any_of n q) (p 
 
 -- ---- bytes
 
--- the mark of a loop that goes through
-pub mark_step : (n : ℕ) (p : ℕ → Bool) (m r : ℕ) → m ≡ cond (any_of n p) 1 0 → (e : Bool) → p n ≡ not e → r ≡ cond e m 1 → r ≡ cond (any_of (n + 1) p) 1 0
-mark_step n p m r h e k j = j ∙ rw (any_more n p, k, h) (go (any_of n p) e)
-  where
-    go : (t e : Bool) → ◌≡◌ {A = ℕ} (cond e (cond t 1 0) 1) (cond (t || not e) 1 0)
-    go true true = refl
-    go true false = refl
-    go false true = refl
-    go false false = refl
-
-pub mark_end : (i n : ℕ) (p : ℕ → Bool) (m : ℕ) → m ≡ cond (any_of i p) 1 0 → i ≡ n → eqb m 1 ≡ any_of n p
-mark_end i n p m h e = rw (h, e) (go (any_of n p))
-  where
-    go : (t : Bool) → eqb (cond t 1 0) 1 ≡ t
-    go true = refl
-    go false = refl
-
 -- two numbers of two bytes differ where their low or their high bytes do
 word_differs : (a b c d : ℕ) → a < 256 → c < 256 → not (eqb (a + 256 * b) (c + 256 * d)) ≡ (not (eqb a c) || not (eqb b d))
 word_differs a b c d A C = go (eqb a c) (eqb b d) (eqb-true a c) (eqb-false a c) (eqb-true b d) (eqb-false b d)

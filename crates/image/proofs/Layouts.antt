@@ -191,9 +191,6 @@ sound_shaped {l} s =
       lines = omega (arith, y, s.lines);
     }
 
-pub shaped_answer : (whole fixed : Bool) (l : Layout) → accepted (first (tests_for whole fixed l)) ≡ true → Shaped l
-shaped_answer whole fixed l e = shaped whole fixed l (accepted_failed (tests_for whole fixed l) (accepted_is (first (tests_for whole fixed l)) e))
-
 -- the same of a layout whose answer is no refusal
 pub sound_answer : (fixed : Bool) (l : Layout) → accepted (first (layout_tests fixed l)) ≡ true → Sound l
 sound_answer fixed l e = sound fixed l (accepted_failed (layout_tests fixed l) (accepted_is (first (layout_tests fixed l)) e))

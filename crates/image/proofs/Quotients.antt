@@ -9,9 +9,6 @@ use native.Mathlib.Omega.{arith}
 use lib.Arith.{digits_div}
 use Rattle.image.specs.Tests.{div_ceil}
 
-pub pos_of : (n : ℕ) → (n ≡ 0 → ⊥) → 0 < n
-pos_of n h = elim (eq-zero-or-pos n) [ inl e ↦ absurd (h e) | inr l ↦ l ]
-
 -- by a divisor of 0
 pub ceil_zero : (n r : ℕ) → r ≡ 0 → div_ceil n r ≡ 0
 unfolding div_ceil
@@ -39,13 +36,6 @@ ceil_more n r p h =
 pub cell_inside : (n r x : ℕ) → 0 < r → x < n → x / r < div_ceil n r
 unfolding div_ceil
 cell_inside n r x p h = (le-div_iff_mul-le p).1 (omega (arith, suc-mul (x / r) r, div-mul-le_self x r))
-
--- a quotient with a remainder is less than the number
-pub quotient_less : (n r : ℕ) → 0 < r → 0 < n % r → n / r < n
-quotient_less n r p h =
-    let d : n / r * r + n % r ≡ n = div-add-mod' n r in
-    let l : n / r * 1 ≤ n / r * r = mul-le-mul_left (n / r) p in
-    omega arith
 
 -- the cells reach over the pixels
 pub ceil_covers : (n r : ℕ) → 0 < r → n ≤ div_ceil n r * r

@@ -16,9 +16,6 @@ use Rattle.kernel_blocks.proofs.Signed.{holds}
 pub lowered_diff : {z : ℤ} {l : ℕ} → Lowered z l → Diff z l 1329594368
 lowered_diff {l = l} h = subst (λ (x : ℤ). Diff x l 1329594368) (sym h.is) (move l 1329594368 (minus (of_pos l) (of_pos 1329594368)) (omega arith))
 
-pub lowered_of : {z : ℤ} {l : ℕ} → Diff z l 1329594368 → z ≡ pos l -ℤ pos 1329594368
-lowered_of {l = l} d = unique d (move l 1329594368 (minus (of_pos l) (of_pos 1329594368)) (omega arith))
-
 -- an i32 holds it
 pub lowered_back : {z : ℤ} {l : ℕ} → Lowered z l → to_z w32 (of_z w32 z) ≡ z
 lowered_back {z} h = let l = h.most in to_z-of_z w32 z (record { sfits = holds (lowered_diff h) (omega arith) (omega arith) })

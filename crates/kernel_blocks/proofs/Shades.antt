@@ -95,13 +95,6 @@ parted_less {l = l} p = (less_shift, 1220935, l, by_less, p)
 pub parted_more : {u : Float} {l : ℕ} → Part more_shift u l → Parted u
 parted_more {l = l} p = (more_shift, 1220955, l, by_more, p)
 
--- both give the same, so luma's two do
-pub tone_sure : (k x : Float) {u v : Float} {l : ℕ} → Part less_shift u l → Part more_shift v l → tone_bits k u x ≡ tone_bits k v x → ToneSure k x l
-tone_sure k x p q e = rw (sym p.is, sym q.is) e
-
-pub fall_sure : (x y : Float) {u v : Float} {l : ℕ} → Part less_shift u l → Part more_shift v l → fall_bits u x y ≡ fall_bits v x y → FallSure x y l
-fall_sure x y p q e = rw (sym p.is, sym q.is) e
-
 -- ---- from 511 on every colour is 255
 
 red_top : (y c : ℕ) → c ≤ 65536 → min ((510 * (57344000 * y + 307038 * c) + 12558336000 - 510 * (917504000 + 10061021184)) / 25116672000) 255 ≡ min ((510 * (57344000 * min y 511 + 307038 * c) + 12558336000 - 510 * (917504000 + 10061021184)) / 25116672000) 255

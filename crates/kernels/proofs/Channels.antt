@@ -14,9 +14,6 @@ use Rattle.kernels.specs.HalvesUp.{rnd}
 use Rattle.kernels.specs.Kernels.{centred, red_offset, green_offset, blue_offset, exact255, off_centre, exact_at}
 use Rattle.kernels.specs.Inner.Forms.{chroma_offset, plus_chroma, Biased, Suits, raised, chroma_at}
 
-pub product_most : (k c m n : ℕ) → k ≤ m → c ≤ n → k * c ≤ m * n
-product_most k c m n h l = le_trans (mul-le-mul_left k l) (mul-le-mul_right n h)
-
 -- ---- chroma in 256ths, above its centre
 
 pub centred_is : (c : ℕ) → Diff (centred c) (min c 65536) 32768

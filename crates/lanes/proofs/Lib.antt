@@ -1,4 +1,3 @@
 -- Laws of blocks, which callers cite.
-pub mod Filled
 pub mod Made
 pub mod Overwritten

@@ -2,8 +2,7 @@
 //
 // The original leaves this to the compiler, which knows that its slices don't overlap. Here a loop that read and stored in turn would
 // not become wide loads and stores, and one over a block by value does. A block is made by `from_fn`, of which proofs/Made has the laws,
-// and stored by `copy_from_slice`, of which proofs/Overwritten says that it writes a run (`put` of laws). proofs/Filled is the invariant of
-// a loop that makes a block.
+// and stored by `copy_from_slice`, of which proofs/Overwritten says that it writes a run (`put` of laws).
 #![tactic(auto)]
 
 ghost use Rattle.std.specs.Prelude.{◌≡◌, ◌+◌, ◌≤◌, length, get_or};

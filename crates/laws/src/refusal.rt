@@ -24,7 +24,7 @@ pub enum Refusal {
     BadPixelSize,
     // Scratch too short.
     ShortScratch,
-    // An output too short.
+    // An output too short, or the RGB picture that a patch is read from.
     ShortOutput,
     // A row at or past the height.
     BadRow,

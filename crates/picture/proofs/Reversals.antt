@@ -83,9 +83,6 @@ turned_more {b} {n} {at} {input} {s} {t} r to u p q l =
         ∙ put_inside t to b (λ j. get_or input (to + (b - 1 - j)) 0) j 0 h (omega (arith, r.len))
         ∙ ap (λ (x : ℕ). get_or input x 0) (omega arith)
 
-pub turned_end : {b n at : ℕ} {input s t : List ℕ} → Turned b n at input s t → (m : ℕ) → n ≤ m → m ≤ n → Turned b m at input s t
-turned_end {b} {n} {at} {input} {s} {t} r m k l = let e : m ≡ n = omega arith in rw e r
-
 -- samples in front of a run that was turned keep their bytes
 pub reversed_kept : {b n at : ℕ} {input s : List ℕ} → Reversed b n at input s → {c m to : ℕ} {t : List ℕ} → Turned c m to input s t → at + n * b ≤ to → Reversed b n at input t
 reversed_kept {b} {n} {at} r u l = record { byte = λ i t k h. let o = mul-le-mul_right b k in u.before (at + (i * b + t)) (omega arith) ∙ r.byte i t k h }

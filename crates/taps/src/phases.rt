@@ -4,8 +4,8 @@
 ghost use Rattle.std.specs.Prelude.{◌≡◌, true, false, ◌≤◌, ◌<◌};
 ghost use Rattle.taps.specs.Taps.{phase_of, phase_at, phases_of};
 
-// How a pixel of a cell goes across: from the left neighbour to its own cell, or from its own to the right one, and how far. It is no enum,
-// since the C interface has these two fields, and both sides have the fraction.
+// How a pixel of a cell goes across: from the left neighbour to its own cell, or from its own to the right one, and how far. It is a struct,
+// as document 01 has it, and both sides have the fraction.
 #[derive(Clone, Copy)]
 pub struct Phase {
     pub left: bool,

@@ -19,7 +19,3 @@ cells_to {bytes} {n} {row} {len} o i h =
 pub byte_cell : (plane : List ℕ) (row i : ℕ) → cells 1 plane row i ≡ get_or plane (row + i) 0
 unfolding sample_of
 byte_cell plane row i = let e : row + i * 1 ≡ row + i = omega arith in rw e refl
-
--- samples of no other size than one byte have two
-pub two_bytes : {bytes n row len : ℕ} → RowInside bytes n row len → (bytes ≡ 1 → ⊥) → bytes ≡ 2
-two_bytes {bytes} o h = let l = o.one in elim (eq-or-lt_of_le o.two) [ inl e ↦ e | inr k ↦ absurd (h (omega arith)) ]

@@ -42,7 +42,7 @@ fn write_outcome(
 }
 
 // Reads the input to its end, which a read of no bytes is, or as much of it as `buf` has room for, or until a read fails. std's `read_exact`
-// would do, but says nothing of an input that is shorter.
+// fails for an input that is shorter, which here is the usual one, and `read_to_end` wants a heap.
 fn read_all<R: Read>(input: &mut R, buf: &mut [u8]) -> io::Result<usize>
     ensures { IfOk result (λ n. n ≤ length buf.new) }
 {

@@ -1,4 +1,4 @@
--- What was read so far fits the buffer, whose length no read changes; `read_more` promises as much of its read.
+-- What was read so far fits the buffer, whose length no read changes; std's `read` promises as much of one read.
 -- The loop ends since it goes on only where bytes were read, so that less room is left each time.
 use Rattle.std.proofs.Common.{◌-◌, ◌≤◌, length}
 use Rattle.ycbcrtoppm.proofs.read_all.Given as goal
