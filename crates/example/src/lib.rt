@@ -8,10 +8,18 @@
 ghost use Rattle.reconstruction.specs.Geometry.{plain, planes_of};
 ghost use Rattle.reconstruction.specs.Fill.{fill_call, FillGiven};
 
-use reconstruction::{Answer, Axis, ChromaUpsampling, Layout, Range, Strides, YcbcrKernel, fill};
+use reconstruction::{
+    Axis, ChromaUpsampling, Layout, Plane, Planes, Range, Refusal, YcbcrKernel, fill,
+};
 
 // Inner: a picture of 640 by 480 pixels, chroma at half size both ways, to RGB: chroma guided by luma, colour exact.
-pub fn to_rgb(y: &[u8], cb: &[u8], cr: &[u8], scratch: &mut [f32], rgb: &mut [u8]) -> Answer
+pub fn to_rgb<'a>(
+    y: &'a [u8],
+    cb: &'a [u8],
+    cr: &'a [u8],
+    scratch: &mut [f32],
+    rgb: &mut [u8],
+) -> Result<(), Refusal>
     ensures { FillGiven
         (fill_call
         (record { w = 640; h = 480; rh = 2; rv = 2; cw = 320; ch = 240; across = plain; down = plain; sample_bytes = 1; maxval = 255; range = Range.Full })
@@ -32,17 +40,23 @@ pub fn to_rgb(y: &[u8], cb: &[u8], cr: &[u8], scratch: &mut [f32], rgb: &mut [u8
         maxval: 255,
         range: Range::Full,
     };
-    let strides = Strides {
-        y: 640,
-        cb: 320,
-        cr: 320,
+    let planes = Planes {
+        y: Plane {
+            bytes: y,
+            stride: 640,
+        },
+        cb: Plane {
+            bytes: cb,
+            stride: 320,
+        },
+        cr: Plane {
+            bytes: cr,
+            stride: 320,
+        },
     };
     fill(
         layout,
-        y,
-        cb,
-        cr,
-        strides,
+        planes,
         ChromaUpsampling::LumaGuided,
         YcbcrKernel::Exact,
         3,
