@@ -12,8 +12,8 @@ use oracle::{Bytes, Chroma, GuidedReader, Numbers};
 // The paths into what is compared: the public crates, which through-c.rs has under the same names.
 use sources::colorimetry::blend_row;
 use sources::reconstruction::{
-    self as ours, Answer, Axis, ChromaUpsampling, Geometry, Layout, Phase, Pixel, Range, Reader,
-    Siting, Strides, YcbcrKernel,
+    self as ours, Axis, ChromaUpsampling, Geometry, Layout, Phase, Planes, Range, Reader, Refusal,
+    Rgb, Siting, YcbcrKernel,
 };
 
 /// Marsaglia's 64-bit xorshift with the shifts 13, 7, 17.
@@ -44,8 +44,21 @@ struct Picture {
     cr: Plane,
 }
 
-fn strides(p: &Picture) -> Strides {
-    Strides { y: p.y.stride, cb: p.cb.stride, cr: p.cr.stride }
+impl Plane {
+    fn lent(&self) -> ours::Plane<'_> {
+        ours::Plane { bytes: &self.data, stride: self.stride }
+    }
+}
+
+impl Picture {
+    fn lent(&self) -> Planes<'_> {
+        Planes { y: self.y.lent(), cb: self.cb.lent(), cr: self.cr.lent() }
+    }
+}
+
+/// An answer's number: 0 where the call was accepted.
+fn number(answer: Result<(), Refusal>) -> u8 {
+    answer.map_or_else(|why| why.number(), |()| 0)
 }
 
 /// Noise, flat noise with peaks, or a slope; with padding and surplus.
@@ -144,18 +157,16 @@ fn planes(p: &Picture, q: &oracle::Picture) -> [usize; 3] {
     let mut s = vec![f32::NAN; scratch_need(l)];
     let fresh = || vec![42_405u16; l.w * l.h + 3];
     let mut out = fresh();
-    let a = ours::linear_plane(l, &p.cb.data, p.cb.stride, &mut s, &mut out);
-    let linear = a == Answer::Accepted && agrees(&out, &oracle::linear_plane(q, Chroma::Cb));
+    let a = number(ours::linear_plane(l, p.cb.lent(), &mut s, &mut out));
+    let linear = a == 0 && agrees(&out, &oracle::linear_plane(q, Chroma::Cb));
     out = fresh();
-    let a = ours::guided_plane(
-        l, &p.y.data, p.y.stride, &p.cb.data, p.cb.stride, &mut s, &mut out,
-    );
-    let guided = a == Answer::Accepted && agrees(&out, &oracle::guided_plane(q, Chroma::Cb));
+    let a = number(ours::guided_plane(l, p.y.lent(), p.cb.lent(), &mut s, &mut out));
+    let guided = a == 0 && agrees(&out, &oracle::guided_plane(q, Chroma::Cb));
     out = fresh();
-    let a = ours::triangular_plane(l, &p.cb.data, p.cb.stride, &mut out);
+    let a = number(ours::triangular_plane(l, p.cb.lent(), &mut out));
     let triangular = match oracle::triangular_plane(q, Chroma::Cb) {
-        Some(want) => a == Answer::Accepted && agrees(&out, &want),
-        None => a == Answer::Refused(6) && agrees(&out, &[]),
+        Some(want) => a == 0 && agrees(&out, &want),
+        None => a == 6 && agrees(&out, &[]),
     };
     [linear, guided, triangular].map(|same| !same as usize)
 }
@@ -183,41 +194,35 @@ impl Course {
     }
 
     fn open(&mut self, p: &Picture) {
-        let a = ours::open(
-            p.layout, &p.y.data, &p.cb.data, &p.cr.data, strides(p),
-            &self.scratch, self.state,
-        );
-        self.expect(a.answer == Answer::Accepted);
-        self.state = a.reader;
+        let a = ours::open(p.layout, p.lent(), &self.scratch, &mut self.state);
+        self.expect(a.is_ok());
         self.place = 0;
         self.beside.open(&original(p));
     }
 
     fn seek(&mut self, p: &Picture, y: usize) {
-        let a = ours::seek(self.state, y);
+        let before = self.state;
+        let a = number(ours::seek(&mut self.state, y));
         if y < p.layout.h {
             let sought = self.beside.seek(y).is_ok();
-            self.expect(sought && a.answer == Answer::Accepted);
-            self.state = a.reader;
+            self.expect(sought && a == 0);
             self.place = y;
         } else {
             self.refused += 1;
-            self.expect(a.answer == Answer::Refused(11) && a.reader == self.state);
+            self.expect(a == 11 && self.state == before);
         }
     }
 
     fn row(&mut self, p: &Picture, y: usize) {
         let l = p.layout;
         let (mut cb, mut cr) = (vec![-7.0f32; l.w + 2], vec![-9.0f32; l.w + 1]);
-        let a = ours::row(
-            self.state, &p.y.data, &p.cb.data, &p.cr.data, strides(p),
-            y, &mut self.scratch, &mut cb, &mut cr,
-        );
+        let before = self.state;
+        let a = number(ours::row(&mut self.state, p.lent(), y, &mut self.scratch, &mut cb, &mut cr));
         if l.h <= y || y < self.place {
-            let number = if l.h <= y { 11 } else { 12 };
+            let wanted = if l.h <= y { 11 } else { 12 };
             let kept = cb.iter().all(|v| *v == -7.0) && cr.iter().all(|v| *v == -9.0);
             self.refused += 1;
-            self.expect(a.answer == Answer::Refused(number) && a.reader == self.state && kept);
+            self.expect(a == wanted && self.state == before && kept);
             return;
         }
         let Ok((want_cb, want_cr)) = self.beside.row(y) else {
@@ -227,8 +232,7 @@ impl Course {
         let rest = cb[l.w..] == [-7.0, -7.0] && cr[l.w..] == [-9.0];
         let rows = same(&cb[..l.w], &want_cb) && same(&cr[..l.w], &want_cr);
         self.rows += 1;
-        self.expect(a.answer == Answer::Accepted && rest && rows);
-        self.state = a.reader;
+        self.expect(a == 0 && rest && rows);
         self.place = y;
     }
 }
@@ -267,7 +271,7 @@ fn list(r: &mut Random, t: usize) -> Course {
 /// maxval, fixed.
 fn pixels(r: &mut Random, n: usize) -> [usize; 3] {
     use ours::{ycbcr_frac_to_rgb8, ycbcr_to_rgb8_fixed16};
-    let other = |p: Pixel, [r, g, b]: [u8; 3]| (p != Pixel::Rgb(r, g, b)) as usize;
+    let other = |p: Result<Rgb, Refusal>, [r, g, b]: [u8; 3]| (p != Ok(Rgb { r, g, b })) as usize;
     let mut differ = [0; 3];
     for i in 0..n {
         // Chroma of samples up to 255, and every other time any that is accepted.
@@ -312,13 +316,10 @@ fn fill(r: &mut Random, t: usize) -> usize {
         true => (YcbcrKernel::FixedPoint16, oracle::Kernel::Fixed),
         false => (YcbcrKernel::Exact, oracle::Kernel::Exact),
     };
-    let a = ours::fill(
-        l, &p.y.data, &p.cb.data, &p.cr.data, strides(&p),
-        up, kernel, size, &mut s, &mut out,
-    );
+    let a = ours::fill(l, p.lent(), up, kernel, size, &mut s, &mut out);
     let whole = l.w * l.h * size;
     oracle::fill(&original(&p), size, beside, other, &mut want[..whole]).expect("a fill of the original's");
-    (a != Answer::Accepted || out != want) as usize
+    (a.is_err() || out != want) as usize
 }
 
 /// The samples of a plane by row and column.
@@ -351,9 +352,9 @@ fn sited_calls(r: &mut Random, t: usize) -> [usize; 3] {
     let places: Vec<(usize, usize)> = (0..l.h).flat_map(|y| (0..l.w).map(move |x| (x, y))).collect();
     let mut s = vec![f32::NAN; scratch_need(l)];
     let mut out = vec![42_405u16; l.w * l.h + 3];
-    let a = ours::linear_plane(l, &p.cb.data, p.cb.stride, &mut s, &mut out);
+    let a = number(ours::linear_plane(l, p.cb.lent(), &mut s, &mut out));
     let want: Vec<u32> = places.iter().map(|&(x, y)| sited::halves_up(at(&p.cb, x, y) as f64, l.maxval)).collect();
-    let mut plane = a == Answer::Accepted && agrees(&out, &want);
+    let mut plane = a == 0 && agrees(&out, &want);
     if kind == 0 {
         plane &= oracle::linear_plane(&original(&p), Chroma::Cb) == want;
     }
@@ -375,10 +376,10 @@ fn sited_calls(r: &mut Random, t: usize) -> [usize; 3] {
     }
     let kernel = if fixed { YcbcrKernel::FixedPoint16 } else { YcbcrKernel::Exact };
     let mut filled = |up, out: &mut [u8]| {
-        ours::fill(l, &p.y.data, &p.cb.data, &p.cr.data, strides(&p), up, kernel, size, &mut s, out)
+        number(ours::fill(l, p.lent(), up, kernel, size, &mut s, out))
     };
     let a = filled(ChromaUpsampling::Linear, &mut rgb);
-    let mut fill = a == Answer::Accepted && rgb == colours;
+    let mut fill = a == 0 && rgb == colours;
     if kind == 0 {
         let other = if fixed { oracle::Kernel::Fixed } else { oracle::Kernel::Exact };
         let mut want = colours.clone();
@@ -391,15 +392,15 @@ fn sited_calls(r: &mut Random, t: usize) -> [usize; 3] {
     if whole && kind == 0 {
         return [plane, fill, true].map(|same| !same as usize);
     }
-    let refused = Answer::Refused(if whole { 16 } else { 3 });
+    let refused = if whole { 16 } else { 3 };
     let mut others = filled(ChromaUpsampling::LumaGuided, &mut rgb) == refused && rgb == colours;
     let before = out.clone();
-    let a = ours::guided_plane(l, &p.y.data, p.y.stride, &p.cb.data, p.cb.stride, &mut s, &mut out);
+    let a = number(ours::guided_plane(l, p.y.lent(), p.cb.lent(), &mut s, &mut out));
     others &= a == refused && out == before;
-    let a = ours::triangular_plane(l, &p.cb.data, p.cb.stride, &mut out);
-    others &= (a == refused || whole && a == Answer::Refused(6)) && out == before;
-    let reply = ours::open(l, &p.y.data, &p.cb.data, &p.cr.data, strides(&p), &s, closed());
-    others &= reply.answer == refused;
+    let a = number(ours::triangular_plane(l, p.cb.lent(), &mut out));
+    others &= (a == refused || whole && a == 6) && out == before;
+    let mut reader = closed();
+    others &= number(ours::open(l, p.lent(), &s, &mut reader)) == refused && reader == closed();
     [plane, fill, others].map(|same| !same as usize)
 }
 
@@ -416,7 +417,7 @@ fn studio_pixels(r: &mut Random, n: usize) -> usize {
         let (cb, cr) = (chroma(), chroma());
         for y in 0..256 {
             let [r, g, b] = studio::colour(y, cb, cr);
-            differ += (ours::ycbcr_frac_to_rgb8(y, cb, cr, 255, Range::Studio) != Pixel::Rgb(r, g, b)) as usize;
+            differ += (ours::ycbcr_frac_to_rgb8(y, cb, cr, 255, Range::Studio) != Ok(Rgb { r, g, b })) as usize;
         }
     }
     differ
@@ -459,18 +460,19 @@ fn studio_calls(r: &mut Random, t: usize) -> [usize; 2] {
     let mut s = vec![f32::NAN; scratch_need(l)];
     let up = if linear { ChromaUpsampling::Linear } else { ChromaUpsampling::LumaGuided };
     let mut filled = |l: Layout, kernel, out: &mut [u8]| {
-        ours::fill(l, &p.y.data, &p.cb.data, &p.cr.data, strides(&p), up, kernel, size, &mut s, out)
+        number(ours::fill(l, p.lent(), up, kernel, size, &mut s, out))
     };
-    let mut same = filled(l, YcbcrKernel::Exact, &mut rgb) == Answer::Accepted && rgb == want;
-    same &= filled(l, YcbcrKernel::FixedPoint16, &mut rgb) == Answer::Refused(18) && rgb == want;
+    let mut same = filled(l, YcbcrKernel::Exact, &mut rgb) == 0 && rgb == want;
+    same &= filled(l, YcbcrKernel::FixedPoint16, &mut rgb) == 18 && rgb == want;
     let deep = Layout { maxval: 1 + r.below(254) as u32, ..l };
-    same &= filled(deep, YcbcrKernel::Exact, &mut rgb) == Answer::Refused(18) && rgb == want;
+    same &= filled(deep, YcbcrKernel::Exact, &mut rgb) == 18 && rgb == want;
     let mut planes = [vec![42_405u16; l.w * l.h], vec![42_405u16; l.w * l.h]];
+    let mut given = true;
     for (out, range) in planes.iter_mut().zip([Range::Full, Range::Studio]) {
         let l = Layout { range, across: Axis::PLAIN, down: Axis::PLAIN, ..l };
-        ours::guided_plane(l, &p.y.data, p.y.stride, &p.cb.data, p.cb.stride, &mut s, out);
+        given &= ours::guided_plane(l, p.y.lent(), p.cb.lent(), &mut s, out).is_ok();
     }
-    [same, planes[0] == planes[1]].map(|same| !same as usize)
+    [same, given && planes[0] == planes[1]].map(|same| !same as usize)
 }
 
 /// Picture t with one sample above the maxval, in one of its planes or in the padding or surplus of
@@ -483,7 +485,8 @@ fn above(r: &mut Random, t: usize) -> [usize; 2] {
     hold(r, &mut p);
     let (l, bytes) = (p.layout, p.layout.sample_bytes);
     let mut s = vec![f32::NAN; scratch_need(l)];
-    let opened = ours::open(l, &p.y.data, &p.cb.data, &p.cr.data, strides(&p), &s, closed());
+    let mut opened = closed();
+    let mut same = ours::open(l, p.lent(), &s, &mut opened).is_ok();
     let k = r.below(3);
     let (plane, w, h) = match k {
         0 => (&mut p.y, l.w, l.h),
@@ -501,47 +504,42 @@ fn above(r: &mut Random, t: usize) -> [usize; 2] {
         put_sample(&mut plane.data, at, bytes, v);
     }
     let turned_down = |lent: &[usize]| (inside || next) && lent.contains(&k);
-    let want = |lent: &[usize]| if turned_down(lent) { Answer::Refused(17) } else { Answer::Accepted };
+    let want = |lent: &[usize]| if turned_down(lent) { 17 } else { 0 };
 
-    let reply = ours::open(l, &p.y.data, &p.cb.data, &p.cr.data, strides(&p), &s, opened.reader);
-    let mut same = opened.answer == Answer::Accepted && reply.answer == want(&[0, 1, 2]);
-    same &= reply.reader == opened.reader;
+    let mut reader = opened;
+    same &= number(ours::open(l, p.lent(), &s, &mut reader)) == want(&[0, 1, 2]);
+    same &= reader == opened;
     let mut out = vec![42_405u16; l.w * l.h];
-    let untouched = |a: Answer, lent: &[usize], out: &mut Vec<u16>| {
+    let untouched = |a: u8, lent: &[usize], out: &mut Vec<u16>| {
         let kept = out.iter().all(|v| *v == 42_405);
         out.fill(42_405);
-        let other = lent == [1] && a == Answer::Refused(6);
-        (a == want(lent) || other) && (kept || a == Answer::Accepted)
+        let other = lent == [1] && a == 6;
+        (a == want(lent) || other) && (kept || a == 0)
     };
-    let a = ours::linear_plane(l, &p.cb.data, p.cb.stride, &mut s, &mut out);
+    let a = number(ours::linear_plane(l, p.cb.lent(), &mut s, &mut out));
     same &= untouched(a, &[1], &mut out);
-    let a = ours::triangular_plane(l, &p.cb.data, p.cb.stride, &mut out);
+    let a = number(ours::triangular_plane(l, p.cb.lent(), &mut out));
     same &= untouched(a, &[1], &mut out);
-    let a = ours::guided_plane(l, &p.y.data, p.y.stride, &p.cb.data, p.cb.stride, &mut s, &mut out);
+    let a = number(ours::guided_plane(l, p.y.lent(), p.cb.lent(), &mut s, &mut out));
     same &= untouched(a, &[0, 1], &mut out);
     for up in [ChromaUpsampling::Linear, ChromaUpsampling::LumaGuided] {
         // 8, 9 and 10 come behind 17.
         let (size, room, space) = [(3, l.w * l.h * 3, s.len()), (5, 0, 0), (3, 0, s.len()), (4, 0, 0)][t % 4];
         let mut rgb = vec![160u8; room];
-        let a = ours::fill(
-            l, &p.y.data, &p.cb.data, &p.cr.data, strides(&p),
-            up, YcbcrKernel::Exact, size, &mut s[..space], &mut rgb,
-        );
-        let other = [Answer::Accepted, Answer::Refused(8), Answer::Refused(10), Answer::Refused(9)][t % 4];
-        let answer = if turned_down(&[0, 1, 2]) { Answer::Refused(17) } else { other };
-        same &= a == answer && (a == Answer::Accepted || rgb.iter().all(|v| *v == 160));
+        let a = number(ours::fill(l, p.lent(), up, YcbcrKernel::Exact, size, &mut s[..space], &mut rgb));
+        let other = [0, 8, 10, 9][t % 4];
+        let answer = if turned_down(&[0, 1, 2]) { 17 } else { other };
+        same &= a == answer && (a == 0 || rgb.iter().all(|v| *v == 160));
     }
 
     let mut beside = GuidedReader::new();
     beside.open(&original(&p));
     let (mut cb, mut cr) = (vec![0f32; l.w], vec![0f32; l.w]);
     let y = r.below(l.h);
-    let a = ours::row(
-        opened.reader, &p.y.data, &p.cb.data, &p.cr.data, strides(&p), y, &mut s, &mut cb, &mut cr,
-    );
+    let a = ours::row(&mut opened, p.lent(), y, &mut s, &mut cb, &mut cr);
     let Ok(rows) = beside.row(y) else { panic!("a row of the original's") };
     let bits = |v: &[f32]| v.iter().map(|x| x.to_bits()).collect::<Vec<u32>>();
-    let row = a.answer == Answer::Accepted && bits(&cb) == bits(&rows.0) && bits(&cr) == bits(&rows.1);
+    let row = a.is_ok() && bits(&cb) == bits(&rows.0) && bits(&cr) == bits(&rows.1);
     [same, row].map(|same| !same as usize)
 }
 
@@ -608,21 +606,22 @@ impl Side {
 
     fn open(&mut self, k: usize) -> bool {
         let p = &self.pictures[k].0;
-        let a = ours::open(p.layout, &p.y.data, &p.cb.data, &p.cr.data, strides(p), &self.scratch, self.state);
-        (self.state, self.current, self.place) = (a.reader, Some(k), 0);
-        a.answer == Answer::Accepted
+        let a = ours::open(p.layout, p.lent(), &self.scratch, &mut self.state);
+        (self.current, self.place) = (Some(k), 0);
+        a.is_ok()
     }
 
     fn seek(&mut self, y: usize) -> bool {
-        let a = ours::seek(self.state, y);
+        let before = self.state;
+        let a = number(ours::seek(&mut self.state, y));
         let Some(k) = self.current else {
-            return a.answer == Answer::Refused(1) && a.reader == self.state;
+            return a == 1 && self.state == before;
         };
         if self.pictures[k].0.layout.h <= y {
-            return a.answer == Answer::Refused(11) && a.reader == self.state;
+            return a == 11 && self.state == before;
         }
-        (self.state, self.place) = (a.reader, y);
-        a.answer == Answer::Accepted
+        self.place = y;
+        a == 0
     }
 
     /// What a row call of this reader is refused for, but for its planes and scratch.
@@ -639,17 +638,15 @@ impl Side {
 
     fn rgb_row(&mut self, y: usize, room: usize) -> bool {
         let p = &self.pictures[self.current.unwrap_or(0)].0;
-        let (mut out, before) = (vec![165; room], self.scratch.clone());
-        let a = ours::rgb_row(
-            self.state, &p.y.data, &p.cb.data, &p.cr.data, strides(p), y, &mut self.scratch, &mut out,
-        );
+        let (mut out, before, state) = (vec![165; room], self.scratch.clone(), self.state);
+        let a = number(ours::rgb_row(&mut self.state, p.lent(), y, &mut self.scratch, &mut out));
         if let Some(&n) = self.refusals(y, room).iter().min() {
-            return a.answer == Answer::Refused(n) && a.reader == self.state && out == vec![165; room]
+            return a == n && self.state == state && out == vec![165; room]
                 && same_bits(&self.scratch, &before);
         }
-        (self.state, self.place) = (a.reader, y);
+        self.place = y;
         let (given, rest) = out.split_at(self.row(y).len());
-        a.answer == Answer::Accepted && given == self.row(y) && rest.iter().all(|b| *b == 165)
+        a == 0 && given == self.row(y) && rest.iter().all(|b| *b == 165)
     }
 }
 
@@ -661,10 +658,11 @@ fn same_bits(a: &[f32], b: &[f32]) -> bool {
 fn blend(a: &mut Side, b: &mut Side, y: usize, weight: usize, room: usize) -> (bool, bool) {
     let (p, q) = (&a.pictures[a.current.unwrap_or(0)].0, &b.pictures[b.current.unwrap_or(0)].0);
     let (mut out, before) = (vec![165; room], (a.scratch.clone(), b.scratch.clone()));
-    let g = blend_row(
-        a.state, &p.y.data, &p.cb.data, &p.cr.data, strides(p), &mut a.scratch,
-        b.state, &q.y.data, &q.cb.data, &q.cr.data, strides(q), &mut b.scratch, y, weight, &mut out,
-    );
+    let states = (a.state, b.state);
+    let g = number(blend_row(
+        &mut a.state, p.lent(), &mut a.scratch,
+        &mut b.state, q.lent(), &mut b.scratch, y, weight, &mut out,
+    ));
     let (l, m) = (p.layout, q.layout);
     let like = (l.w, l.h, l.rh, l.rv, l.cw, l.ch, l.range) == (m.w, m.h, m.rh, m.rv, m.cw, m.ch, m.range);
     let mut found = [a.refusals(y, room), b.refusals(y, room)].concat();
@@ -672,14 +670,14 @@ fn blend(a: &mut Side, b: &mut Side, y: usize, weight: usize, room: usize) -> (b
         found = vec![22];
     }
     if let Some(&n) = found.iter().min() {
-        let same = g.answer == Answer::Refused(n) && g.early == a.state && g.late == b.state && out == vec![165; room]
+        let same = g == n && (a.state, b.state) == states && out == vec![165; room]
             && same_bits(&a.scratch, &before.0) && same_bits(&b.scratch, &before.1);
         return (same, false);
     }
-    (a.state, a.place, b.state, b.place) = (g.early, y, g.late, y);
+    (a.place, b.place) = (y, y);
     let mixed = a.row(y).iter().zip(b.row(y)).map(|(a, b)| ((16 - weight) * *a as usize + weight * *b as usize + 8) / 16);
     let n = a.row(y).len();
-    let same = g.answer == Answer::Accepted && out[..n].iter().map(|b| *b as usize).eq(mixed) && out[n..].iter().all(|b| *b == 165);
+    let same = g == 0 && out[..n].iter().map(|b| *b as usize).eq(mixed) && out[n..].iter().all(|b| *b == 165);
     (same, true)
 }
 
@@ -720,7 +718,7 @@ fn pairs() -> usize {
     for n in 0..131_072u32 {
         let (y, cb, cr) = (255 * (n >> 16), n >> 8 & 255, n & 255);
         let [r, g, b] = oracle::ycbcr_to_rgb8_fixed16(y, cb, cr);
-        differ += (ours::ycbcr_to_rgb8_fixed16(y, cb, cr) != Pixel::Rgb(r, g, b)) as usize;
+        differ += (ours::ycbcr_to_rgb8_fixed16(y, cb, cr) != Ok(Rgb { r, g, b })) as usize;
     }
     differ
 }

@@ -1,8 +1,8 @@
 //! Random refills, beside the original's fills of the planes before and after and document 02's W13 by
 //! its sentences: which calls are refused, which rows are converted again, and that all others stay.
 
-use crate::{original, ours, plane, scratch_need, strides, Picture, Plane, Random};
-use ours::{Answer, Axis, Layout, Range, Rectangle, YcbcrKernel};
+use crate::{number, original, ours, plane, scratch_need, Picture, Plane, Random};
+use ours::{Axis, Layout, Range, Rectangle, YcbcrKernel};
 
 /// What the refills of a run came to.
 #[derive(Default)]
@@ -123,7 +123,7 @@ fn before(r: &mut Random, new: &Picture, cells: Rectangle) -> Picture {
 }
 
 /// 17, then, where size and scratch are right, 19, 10 and 21.
-fn wanted(old: &Picture, new: &Picture, cells: Rectangle, room: usize, size: usize) -> Answer {
+fn wanted(old: &Picture, new: &Picture, cells: Rectangle, room: usize, size: usize) -> u8 {
     let l = new.layout;
     let pairs = [(&old.y, &new.y), (&old.cb, &new.cb), (&old.cr, &new.cr)];
     let each = |k: usize, f: &dyn Fn(usize, usize) -> bool| {
@@ -132,24 +132,24 @@ fn wanted(old: &Picture, new: &Picture, cells: Rectangle, room: usize, size: usi
     };
     let above = |p: &Plane, k: usize| each(k, &|j, i| sample(l, p, j, i) > l.maxval);
     if (0..3).any(|k| above(pairs[k].0, k) || above(pairs[k].1, k)) {
-        return Answer::Refused(17);
+        return 17;
     }
     let end = |start: usize, n: usize| start as u128 + n as u128;
     let some = cells.width > 0 && cells.height > 0;
     if some && (end(cells.left, cells.width) > l.cw as u128 || end(cells.top, cells.height) > l.ch as u128) {
-        return Answer::Refused(19);
+        return 19;
     }
     if room < l.w * l.h * size {
-        return Answer::Refused(10);
+        return 10;
     }
     let differ = |k: usize| {
         let (p, q) = pairs[k];
         each(k, &|j, i| (k == 0 || !holds(cells, i, j)) && sample(l, p, j, i) != sample(l, q, j, i))
     };
     if (0..3).any(differ) {
-        return Answer::Refused(21);
+        return 21;
     }
-    Answer::Accepted
+    0
 }
 
 /// Whether the cell row of row y is within two of a row of the rectangle.
@@ -176,12 +176,12 @@ pub fn refill(r: &mut Random, t: usize, found: &mut Found) {
     };
     let answer = wanted(&old, &new, cells, room, size);
     // Half of the pictures are the conversion before the change.
-    let held = r.below(2) == 0 && room >= whole && answer != Answer::Refused(17);
+    let held = r.below(2) == 0 && room >= whole && answer != 17;
     if held {
         fill(&old, &mut out[..whole]);
     }
     let mut want = out.clone();
-    if answer == Answer::Accepted {
+    if answer == 0 {
         let mut after = out.clone();
         fill(&new, &mut after[..whole]);
         for y in (0..l.h).filter(|&y| near(l, cells, y)) {
@@ -195,12 +195,8 @@ pub fn refill(r: &mut Random, t: usize, found: &mut Found) {
         found.refused += 1;
     }
     let mut s = vec![-1.25f32; scratch_need(l) + 3];
-    let given = ours::refill(
-        l, &old.y.data, &old.cb.data, &old.cr.data, strides(&old),
-        &new.y.data, &new.cb.data, &new.cr.data, strides(&new),
-        cells, kernel, size, &mut s, &mut out,
-    );
-    let kept = if answer == Answer::Accepted && cells.width > 0 && cells.height > 0 { scratch_need(l) } else { 0 };
+    let given = number(ours::refill(l, old.lent(), new.lent(), cells, kernel, size, &mut s, &mut out));
+    let kept = if answer == 0 && cells.width > 0 && cells.height > 0 { scratch_need(l) } else { 0 };
     let touched = s[kept..].iter().any(|&v| v != -1.25);
     found.differ += (given != answer || out != want || touched) as usize;
 }

@@ -33,10 +33,14 @@ pub mod reconstruction {
     };
     use crate::{guarded, guarded_floats};
 
+    /// A refusal by its number.
     #[derive(Clone, Copy, Debug, PartialEq)]
-    pub enum Answer {
-        Accepted,
-        Refused(u8),
+    pub struct Refusal(u8);
+
+    impl Refusal {
+        pub fn number(self) -> u8 {
+            self.0
+        }
     }
 
     #[derive(Clone, Copy, Debug, PartialEq)]
@@ -76,15 +80,21 @@ pub mod reconstruction {
         pub range: Range,
     }
 
-    #[derive(Clone, Copy, Debug, PartialEq)]
-    pub struct Strides {
-        pub y: usize,
-        pub cb: usize,
-        pub cr: usize,
+    #[derive(Clone, Copy)]
+    pub struct Plane<'a> {
+        pub bytes: &'a [u8],
+        pub stride: usize,
     }
 
-    pub(crate) fn raw_strides(s: Strides) -> ChromaStrides {
-        ChromaStrides { y: s.y, cb: s.cb, cr: s.cr }
+    #[derive(Clone, Copy)]
+    pub struct Planes<'a> {
+        pub y: Plane<'a>,
+        pub cb: Plane<'a>,
+        pub cr: Plane<'a>,
+    }
+
+    pub(crate) fn raw_strides(p: Planes) -> ChromaStrides {
+        ChromaStrides { y: p.y.stride, cb: p.cb.stride, cr: p.cr.stride }
     }
 
     #[derive(Clone, Copy, Debug, PartialEq)]
@@ -123,15 +133,11 @@ pub mod reconstruction {
         pub f_next: usize,
     }
 
-    pub struct Reply {
-        pub answer: Answer,
-        pub reader: Reader,
-    }
-
     #[derive(Clone, Copy, Debug, PartialEq)]
-    pub enum Pixel {
-        Rgb(u8, u8, u8),
-        Refused(u8),
+    pub struct Rgb {
+        pub r: u8,
+        pub g: u8,
+        pub b: u8,
     }
 
     #[derive(Clone, Copy)]
@@ -146,10 +152,10 @@ pub mod reconstruction {
         FixedPoint16 = 1,
     }
 
-    pub(crate) fn answer(refusal: u32) -> Answer {
+    pub(crate) fn answer(refusal: u32) -> Result<(), Refusal> {
         match refusal {
-            0 => Answer::Accepted,
-            n => Answer::Refused(n as u8),
+            0 => Ok(()),
+            n => Err(Refusal(n as u8)),
         }
     }
 
@@ -181,8 +187,10 @@ pub mod reconstruction {
         }
     }
 
-    fn reply(r: ChromaReply) -> Reply {
-        Reply { answer: answer(r.refusal), reader: state(r.reader) }
+    /// What a call answered; the reader is as it left it, also where it refused.
+    fn reply(r: ChromaReply, reader: &mut Reader) -> Result<(), Refusal> {
+        *reader = state(r.reader);
+        answer(r.refusal)
     }
 
     /// The state that C's stands for.
@@ -204,20 +212,17 @@ pub mod reconstruction {
         }
     }
 
-    fn pixel(p: ChromaPixel) -> Pixel {
-        match p.refusal {
-            0 => Pixel::Rgb(p.r, p.g, p.b),
-            n => Pixel::Refused(n as u8),
-        }
+    fn pixel(p: ChromaPixel) -> Result<Rgb, Refusal> {
+        answer(p.refusal).map(|()| Rgb { r: p.r, g: p.g, b: p.b })
     }
 
-    pub fn linear_plane(layout: Layout, plane: &[u8], stride: usize, s: &mut [f32], out: &mut [u16]) -> Answer {
+    pub fn linear_plane(layout: Layout, plane: Plane, s: &mut [f32], out: &mut [u16]) -> Result<(), Refusal> {
         guarded_floats(s, |s| {
             guarded(out, 4_660, |out| {
                 // SAFETY: each pointer and length are one slice's.
                 answer(unsafe {
                     chroma_linear_plane(
-                        raw_layout(layout), plane.as_ptr(), plane.len(), stride,
+                        raw_layout(layout), plane.bytes.as_ptr(), plane.bytes.len(), plane.stride,
                         s.as_mut_ptr(), s.len(), out.as_mut_ptr(), out.len(),
                     )
                 })
@@ -225,26 +230,26 @@ pub mod reconstruction {
         })
     }
 
-    pub fn triangular_plane(layout: Layout, plane: &[u8], stride: usize, out: &mut [u16]) -> Answer {
+    pub fn triangular_plane(layout: Layout, plane: Plane, out: &mut [u16]) -> Result<(), Refusal> {
         guarded(out, 4_660, |out| {
             // SAFETY: each pointer and length are one slice's.
             answer(unsafe {
                 chroma_triangular_plane(
-                    raw_layout(layout), plane.as_ptr(), plane.len(), stride, out.as_mut_ptr(), out.len(),
+                    raw_layout(layout), plane.bytes.as_ptr(), plane.bytes.len(), plane.stride, out.as_mut_ptr(), out.len(),
                 )
             })
         })
     }
 
     pub fn guided_plane(
-        layout: Layout, y: &[u8], y_stride: usize, c: &[u8], c_stride: usize, s: &mut [f32], out: &mut [u16],
-    ) -> Answer {
+        layout: Layout, y: Plane, c: Plane, s: &mut [f32], out: &mut [u16],
+    ) -> Result<(), Refusal> {
         guarded_floats(s, |s| {
             guarded(out, 4_660, |out| {
                 // SAFETY: each pointer and length are one slice's.
                 answer(unsafe {
                     chroma_guided_plane(
-                        raw_layout(layout), y.as_ptr(), y.len(), y_stride, c.as_ptr(), c.len(), c_stride,
+                        raw_layout(layout), y.bytes.as_ptr(), y.bytes.len(), y.stride, c.bytes.as_ptr(), c.bytes.len(), c.stride,
                         s.as_mut_ptr(), s.len(), out.as_mut_ptr(), out.len(),
                     )
                 })
@@ -254,41 +259,41 @@ pub mod reconstruction {
 
     #[allow(clippy::too_many_arguments)]
     pub fn open(
-        layout: Layout, y: &[u8], cb: &[u8], cr: &[u8], strides: Strides,
-        s: &[f32], reader: Reader,
-    ) -> Reply {
-        let strides = raw_strides(strides);
+        layout: Layout, planes: Planes, s: &[f32], reader: &mut Reader,
+    ) -> Result<(), Refusal> {
+        let Planes { y, cb, cr } = planes;
         // SAFETY: each pointer and length are one slice's, and nothing is written.
         reply(unsafe {
             chroma_open(
-                raw_layout(layout), y.as_ptr(), y.len(), cb.as_ptr(), cb.len(), cr.as_ptr(), cr.len(), strides,
-                s.as_ptr(), s.len(), raw_reader(reader),
+                raw_layout(layout), y.bytes.as_ptr(), y.bytes.len(), cb.bytes.as_ptr(), cb.bytes.len(),
+                cr.bytes.as_ptr(), cr.bytes.len(), raw_strides(planes),
+                s.as_ptr(), s.len(), raw_reader(*reader),
             )
-        })
+        }, reader)
     }
 
-    pub fn seek(reader: Reader, y: usize) -> Reply {
+    pub fn seek(reader: &mut Reader, y: usize) -> Result<(), Refusal> {
         // SAFETY: no pointer is passed.
-        reply(unsafe { chroma_seek(raw_reader(reader), y) })
+        reply(unsafe { chroma_seek(raw_reader(*reader), y) }, reader)
     }
 
     #[allow(clippy::too_many_arguments)]
     pub fn row(
-        reader: Reader, y: &[u8], cb: &[u8], cr: &[u8], strides: Strides,
-        row: usize, s: &mut [f32], out_cb: &mut [f32], out_cr: &mut [f32],
-    ) -> Reply {
-        let strides = raw_strides(strides);
+        reader: &mut Reader, planes: Planes, row: usize, s: &mut [f32], out_cb: &mut [f32], out_cr: &mut [f32],
+    ) -> Result<(), Refusal> {
+        let Planes { y, cb, cr } = planes;
         guarded_floats(s, |s| {
             guarded_floats(out_cb, |b| {
                 guarded_floats(out_cr, |r| {
                     // SAFETY: each pointer and length are one slice's; the copies overlap nothing.
                     reply(unsafe {
                         chroma_row(
-                            raw_reader(reader), y.as_ptr(), y.len(), cb.as_ptr(), cb.len(), cr.as_ptr(), cr.len(),
-                            strides, row, s.as_mut_ptr(), s.len(),
+                            raw_reader(*reader), y.bytes.as_ptr(), y.bytes.len(), cb.bytes.as_ptr(), cb.bytes.len(),
+                            cr.bytes.as_ptr(), cr.bytes.len(), raw_strides(planes),
+                            row, s.as_mut_ptr(), s.len(),
                             b.as_mut_ptr(), b.len(), r.as_mut_ptr(), r.len(),
                         )
-                    })
+                    }, reader)
                 })
             })
         })
@@ -296,46 +301,46 @@ pub mod reconstruction {
 
     #[allow(clippy::too_many_arguments)]
     pub fn rgb_row(
-        reader: Reader, y: &[u8], cb: &[u8], cr: &[u8], strides: Strides,
-        row: usize, s: &mut [f32], out: &mut [u8],
-    ) -> Reply {
-        let strides = raw_strides(strides);
+        reader: &mut Reader, planes: Planes, row: usize, s: &mut [f32], out: &mut [u8],
+    ) -> Result<(), Refusal> {
+        let Planes { y, cb, cr } = planes;
         guarded_floats(s, |s| {
             guarded(out, 165, |out| {
                 // SAFETY: each pointer and length are one slice's; the copies overlap nothing.
                 reply(unsafe {
                     chroma_rgb_row(
-                        raw_reader(reader), y.as_ptr(), y.len(), cb.as_ptr(), cb.len(), cr.as_ptr(), cr.len(),
-                        strides, row, s.as_mut_ptr(), s.len(), out.as_mut_ptr(), out.len(),
+                        raw_reader(*reader), y.bytes.as_ptr(), y.bytes.len(), cb.bytes.as_ptr(), cb.bytes.len(),
+                        cr.bytes.as_ptr(), cr.bytes.len(), raw_strides(planes),
+                        row, s.as_mut_ptr(), s.len(), out.as_mut_ptr(), out.len(),
                     )
-                })
+                }, reader)
             })
         })
     }
 
-    pub fn ycbcr_frac_to_rgb8(y: u32, cb256: u32, cr256: u32, maxval: u32, range: Range) -> Pixel {
+    pub fn ycbcr_frac_to_rgb8(y: u32, cb256: u32, cr256: u32, maxval: u32, range: Range) -> Result<Rgb, Refusal> {
         // SAFETY: no pointer is passed.
         pixel(unsafe { chroma_exact_pixel(y, cb256, cr256, maxval, range as u32) })
     }
 
-    pub fn ycbcr_to_rgb8_fixed16(y: u32, cb: u32, cr: u32) -> Pixel {
+    pub fn ycbcr_to_rgb8_fixed16(y: u32, cb: u32, cr: u32) -> Result<Rgb, Refusal> {
         // SAFETY: no pointer is passed.
         pixel(unsafe { chroma_fixed_pixel(y, cb, cr) })
     }
 
     #[allow(clippy::too_many_arguments)]
     pub fn fill(
-        layout: Layout, y: &[u8], cb: &[u8], cr: &[u8], strides: Strides,
-        upsampling: ChromaUpsampling, kernel: YcbcrKernel, size: usize, s: &mut [f32], out: &mut [u8],
-    ) -> Answer {
-        let strides = raw_strides(strides);
+        layout: Layout, planes: Planes, upsampling: ChromaUpsampling, kernel: YcbcrKernel, size: usize, s: &mut [f32], out: &mut [u8],
+    ) -> Result<(), Refusal> {
+        let Planes { y, cb, cr } = planes;
         guarded_floats(s, |s| {
             guarded(out, 165, |out| {
                 // SAFETY: each pointer and length are one slice's; the copies overlap nothing.
                 answer(unsafe {
                     chroma_fill(
-                        raw_layout(layout), y.as_ptr(), y.len(), cb.as_ptr(), cb.len(), cr.as_ptr(), cr.len(),
-                        strides, upsampling as u32, kernel as u32, size,
+                        raw_layout(layout), y.bytes.as_ptr(), y.bytes.len(), cb.bytes.as_ptr(), cb.bytes.len(),
+                        cr.bytes.as_ptr(), cr.bytes.len(), raw_strides(planes),
+                        upsampling as u32, kernel as u32, size,
                         s.as_mut_ptr(), s.len(), out.as_mut_ptr(), out.len(),
                     )
                 })
@@ -345,20 +350,20 @@ pub mod reconstruction {
 
     #[allow(clippy::too_many_arguments)]
     pub fn refill(
-        layout: Layout, old_y: &[u8], old_cb: &[u8], old_cr: &[u8], old_strides: Strides,
-        y: &[u8], cb: &[u8], cr: &[u8], strides: Strides,
-        cells: Rectangle, kernel: YcbcrKernel, size: usize, s: &mut [f32], out: &mut [u8],
-    ) -> Answer {
-        let (old_strides, strides) = (raw_strides(old_strides), raw_strides(strides));
+        layout: Layout, old: Planes, new: Planes, cells: Rectangle, kernel: YcbcrKernel, size: usize, s: &mut [f32], out: &mut [u8],
+    ) -> Result<(), Refusal> {
+        let (Planes { y: old_y, cb: old_cb, cr: old_cr }, Planes { y, cb, cr }) = (old, new);
         let Rectangle { left, top, width, height } = cells;
         guarded_floats(s, |s| {
             guarded(out, 165, |out| {
                 // SAFETY: each pointer and length are one slice's; the copies overlap nothing.
                 answer(unsafe {
                     chroma_refill(
-                        raw_layout(layout), old_y.as_ptr(), old_y.len(), old_cb.as_ptr(), old_cb.len(),
-                        old_cr.as_ptr(), old_cr.len(), old_strides,
-                        y.as_ptr(), y.len(), cb.as_ptr(), cb.len(), cr.as_ptr(), cr.len(), strides,
+                        raw_layout(layout), old_y.bytes.as_ptr(), old_y.bytes.len(),
+                        old_cb.bytes.as_ptr(), old_cb.bytes.len(),
+                        old_cr.bytes.as_ptr(), old_cr.bytes.len(), raw_strides(old),
+                        y.bytes.as_ptr(), y.bytes.len(), cb.bytes.as_ptr(), cb.bytes.len(),
+                        cr.bytes.as_ptr(), cr.bytes.len(), raw_strides(new),
                         ChromaRectangle { left, top, width, height }, kernel as u32, size,
                         s.as_mut_ptr(), s.len(), out.as_mut_ptr(), out.len(),
                     )
@@ -370,35 +375,31 @@ pub mod reconstruction {
 
 pub mod colorimetry {
     use crate::raw::chroma_blend_row;
-    use crate::reconstruction::{answer, raw_reader, raw_strides, state, Answer, Reader, Strides};
+    use crate::reconstruction::{answer, raw_reader, raw_strides, state, Planes, Reader, Refusal};
     use crate::{guarded, guarded_floats};
-
-    pub struct BlendReply {
-        pub answer: Answer,
-        pub early: Reader,
-        pub late: Reader,
-    }
 
     #[allow(clippy::too_many_arguments)]
     pub fn blend_row(
-        early: Reader, y: &[u8], cb: &[u8], cr: &[u8], strides: Strides, s: &mut [f32],
-        late: Reader, late_y: &[u8], late_cb: &[u8], late_cr: &[u8], late_strides: Strides, t: &mut [f32],
+        early: &mut Reader, early_planes: Planes, s: &mut [f32], late: &mut Reader, late_planes: Planes, t: &mut [f32],
         row: usize, weight: usize, out: &mut [u8],
-    ) -> BlendReply {
+    ) -> Result<(), Refusal> {
+        let Planes { y, cb, cr } = early_planes;
+        let Planes { y: late_y, cb: late_cb, cr: late_cr } = late_planes;
         guarded_floats(s, |s| {
             guarded_floats(t, |t| {
                 guarded(out, 165, |out| {
                     // SAFETY: each pointer and length are one slice's; the copies overlap nothing.
                     let r = unsafe {
                         chroma_blend_row(
-                            raw_reader(early), y.as_ptr(), y.len(), cb.as_ptr(), cb.len(), cr.as_ptr(), cr.len(),
-                            raw_strides(strides), s.as_mut_ptr(), s.len(),
-                            raw_reader(late), late_y.as_ptr(), late_y.len(), late_cb.as_ptr(), late_cb.len(),
-                            late_cr.as_ptr(), late_cr.len(), raw_strides(late_strides), t.as_mut_ptr(), t.len(),
-                            row, weight, out.as_mut_ptr(), out.len(),
+                            raw_reader(*early), y.bytes.as_ptr(), y.bytes.len(), cb.bytes.as_ptr(), cb.bytes.len(),
+                            cr.bytes.as_ptr(), cr.bytes.len(), raw_strides(early_planes), s.as_mut_ptr(), s.len(),
+                            raw_reader(*late), late_y.bytes.as_ptr(), late_y.bytes.len(),
+                            late_cb.bytes.as_ptr(), late_cb.bytes.len(), late_cr.bytes.as_ptr(), late_cr.bytes.len(),
+                            raw_strides(late_planes), t.as_mut_ptr(), t.len(), row, weight, out.as_mut_ptr(), out.len(),
                         )
                     };
-                    BlendReply { answer: answer(r.refusal), early: state(r.early), late: state(r.late) }
+                    (*early, *late) = (state(r.early), state(r.late));
+                    answer(r.refusal)
                 })
             })
         })
