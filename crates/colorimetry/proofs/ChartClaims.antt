@@ -48,7 +48,6 @@ mix_is true x y i k e = (refl, ap (λ (o : Option Between). first_in o) e, ap (�
     weight_in : Option Between → ℕ
     weight_in None = 0
     weight_in (Some p) = p.weight
-
 mix_is false x y i k e = absurd (none_mix i k e)
 
 -- ---- the chart of a reading

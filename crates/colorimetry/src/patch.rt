@@ -116,12 +116,7 @@ fn whole_patch(s: Sums, count: usize) -> [u8; 3]
 
 // The mean of the pixels that the rectangle shares with a picture of w by h pixels, and beside it the whole-number mean. Refusals 2, 19 and
 // 10, in this order.
-pub fn patch_mean(
-    rectangle: Rectangle,
-    w: usize,
-    h: usize,
-    rgb: &[u8],
-) -> Result<Patched, Refusal>
+pub fn patch_mean(rectangle: Rectangle, w: usize, h: usize, rgb: &[u8]) -> Result<Patched, Refusal>
     ensures { PatchGiven (patch_call rectangle w h rgb.now) (patch_reply result) }
 {
     patch_answer(rectangle, w, h, rgb)?;

@@ -57,12 +57,7 @@ fn sample_block<const BYTES: usize>(plane: &[u8], at: usize) -> [u16; Block::LEN
 }
 
 // Inner: luma of the sixteen columns from x on.
-pub fn luma_block(
-    layout: Layout,
-    plane: Plane<'_>,
-    row: usize,
-    x: usize,
-) -> [u16; Block::LEN]
+pub fn luma_block(layout: Layout, plane: Plane<'_>, row: usize, x: usize) -> [u16; Block::LEN]
     requires { LumaRow layout (seen plane) row × (x + Block.LEN ≤ layout.w) }
     ensures { Listed Block.LEN result (λ k. sample_at layout.sample_bytes (seen plane.entry) row (x + k)) }
 {

@@ -160,12 +160,7 @@ pub fn to_layout(l: ChromaLayout) -> Layout
 
 // Inner: the planes that C lends as three slices and their strides.
 #[tactic(auto, unfolding(crate::specs::Types::as_planes))]
-pub fn to_planes<'a>(
-    y: &'a [u8],
-    cb: &'a [u8],
-    cr: &'a [u8],
-    strides: ChromaStrides,
-) -> Planes<'a>
+pub fn to_planes<'a>(y: &'a [u8], cb: &'a [u8], cr: &'a [u8], strides: ChromaStrides) -> Planes<'a>
     ensures { planes_seen result ≡ as_planes y.now cb.now cr.now strides }
 {
     Planes {

@@ -48,10 +48,7 @@ pub fn fill_answer(
     laws::first([
         (image::above_planes(layout, planes), Refusal::AboveMaxval),
         (laws::outside(3, 4, size), Refusal::BadPixelSize),
-        (
-            image::short_scratch(layout, s.len()),
-            Refusal::ShortScratch,
-        ),
+        (image::short_scratch(layout, s.len()), Refusal::ShortScratch),
         (short, Refusal::ShortOutput),
     ])
 }

@@ -29,15 +29,7 @@ pub fn fill(
 {
     fill_answer(layout, planes, upsampling, kernel, size, s, out)?;
     fill_rows(
-        layout,
-        planes,
-        upsampling,
-        kernel,
-        size,
-        0,
-        layout.h,
-        s,
-        out,
+        layout, planes, upsampling, kernel, size, 0, layout.h, s, out,
     );
     Ok(())
 }

@@ -70,10 +70,7 @@ fn lent_answer(
     let short = laws::volume_passes(layout.w, layout.h, size, out.len());
     laws::first([
         (laws::outside(3, 4, size), Refusal::BadPixelSize),
-        (
-            image::short_scratch(layout, s.len()),
-            Refusal::ShortScratch,
-        ),
+        (image::short_scratch(layout, s.len()), Refusal::ShortScratch),
         (cells.past_cells(layout), Refusal::BadRectangle),
         (short, Refusal::ShortOutput),
     ])

@@ -45,7 +45,14 @@ fn chroma_part(layout: Layout, plane: Plane<'_>, k: Chroma, j: usize, s: &mut [f
     let y = row_at(layout, Buffer::Luma, j);
     let c = row_at(layout, Buffer::Cells(k), j);
     let products = row_at(layout, Buffer::ProductSums(k), j);
-    load_row(plane.bytes, layout.sample_bytes, j * plane.stride, layout.cw, s, c);
+    load_row(
+        plane.bytes,
+        layout.sample_bytes,
+        j * plane.stride,
+        layout.cw,
+        s,
+        c,
+    );
     sum_row(s, Products { a: y, b: c }, layout.cw, products);
 }
 

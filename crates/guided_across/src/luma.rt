@@ -25,14 +25,7 @@ fn row_sum(layout: Layout, plane: Plane<'_>, x: usize, y: usize, n: usize) -> u3
 
 // The sum of n samples from column x on in each of the m rows from row y on. The limit of a row, 262,140, is that of four samples of 65,535.
 #[tactic(auto, using(crate::proofs::Areas::sum_next), unfolding(laws::specs::Sums::sum_to, crate::specs::Inner::Luma::cell_sum))]
-fn cell_sum(
-    layout: Layout,
-    plane: Plane<'_>,
-    x: usize,
-    y: usize,
-    n: usize,
-    m: usize,
-) -> u32
+fn cell_sum(layout: Layout, plane: Plane<'_>, x: usize, y: usize, n: usize, m: usize) -> u32
     requires luma_pixels { LumaPixels layout (seen plane) }
     requires n_bound { (x + n ≤ layout.w) × (y + m ≤ layout.h) × (n ≤ 4) × (m ≤ 4) }
     ensures { (result ≡ cell_sum layout (seen plane.entry) x y n m) × (result ≤ 262140 * m) }
@@ -83,13 +76,7 @@ fn luma_cells(
 // The luma of the cells at the row's beginning that are made by blocks, and how many those are. Blocks are for ratio 2 across, samples of
 // one byte and sixteen full cells or more; none are made otherwise, and the last cell of an odd width is left to `luma_cells`.
 #[tactic(auto, using(crate::proofs::Areas::luma_none, crate::proofs::Areas::cell_down, crate::proofs::Areas::full_cells, crate::proofs::Areas::row_within))]
-fn luma_head(
-    layout: Layout,
-    plane: Plane<'_>,
-    j: usize,
-    s: &mut [f32],
-    dst: usize,
-) -> usize
+fn luma_head(layout: Layout, plane: Plane<'_>, j: usize, s: &mut [f32], dst: usize) -> usize
     requires luma_pixels { LumaPixels layout (seen plane) }
     requires j_lt_ch { (j < layout.ch) × (dst + layout.cw ≤ length s.old) }
     ensures { (result ≤ layout.cw) × (s.new ≡ luma_run layout (seen plane.entry) j dst 0 result s.old) }

@@ -67,14 +67,7 @@ fn extreme_run(
 
 // The extremes round the cells of chroma row j that have neighbours on both sides, by the loop for their number of bytes.
 #[tactic(auto, using(guided_across::proofs::Areas::row_within))]
-fn extreme_inner(
-    layout: Layout,
-    plane: Plane<'_>,
-    pick: Pick,
-    j: usize,
-    s: &mut [f32],
-    dst: usize,
-)
+fn extreme_inner(layout: Layout, plane: Plane<'_>, pick: Pick, j: usize, s: &mut [f32], dst: usize)
     requires { ChromaCells layout (seen plane)
         × (j < layout.ch) × (2 ≤ layout.cw) × (dst + layout.cw ≤ length s.old) }
     ensures { s.new ≡ extreme_run layout (seen plane.entry) pick j dst 1 (layout.cw - 2) s.old }

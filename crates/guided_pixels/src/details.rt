@@ -31,14 +31,7 @@ impl Detail<'_> {
         requires { LumaPixels layout (seen self.plane) × (self.y < layout.h) × (x < layout.w) }
         ensures { result ≡ f32 (sample_at layout.sample_bytes (seen self.entry.plane) self.entry.y x) }
     {
-        sample_at(
-            layout,
-            self.plane,
-            layout.w,
-            layout.h,
-            x,
-            self.y,
-        )
+        sample_at(layout, self.plane, layout.w, layout.h, x, self.y)
     }
 }
 
@@ -92,10 +85,6 @@ pub fn detail_row(layout: Layout, plane: Plane<'_>, y: usize, s: &mut [f32])
     ensures { s.new ≡ detail_line layout (seen plane.entry) y s.old }
 {
     let src = column_at(layout, RowOfCells::Samples);
-    let line = Detail {
-        plane,
-        y,
-        src,
-    };
+    let line = Detail { plane, y, src };
     row(layout, line, s, Window::DETAIL * layout.w);
 }

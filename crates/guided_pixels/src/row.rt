@@ -37,13 +37,7 @@ fn component(layout: Layout, k: Chroma, y: usize, s: &mut [f32])
 
 // Inner: picture row `row` of Cb, and of Cr where both are asked for, from the window that scratch holds. No chroma plane is looked at, so
 // that the promise is for any.
-pub fn guided_row(
-    layout: Layout,
-    y: Plane<'_>,
-    components: Components,
-    row: usize,
-    s: &mut [f32],
-)
+pub fn guided_row(layout: Layout, y: Plane<'_>, components: Components, row: usize, s: &mut [f32])
     requires { LumaPixels layout (seen y)
         × (row < layout.h) × (scratch_need layout ≤ length s.old) }
     ensures { (cb cr : Seen) → s.new ≡ window_row

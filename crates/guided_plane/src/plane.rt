@@ -51,24 +51,14 @@ fn plane_answer(
     let short = laws::product_passes(layout.w, layout.h, room);
     laws::first([
         (above_pair(layout, y, c), Refusal::AboveMaxval),
-        (
-            image::short_scratch(layout, space),
-            Refusal::ShortScratch,
-        ),
+        (image::short_scratch(layout, space), Refusal::ShortScratch),
         (short, Refusal::ShortOutput),
     ])
 }
 
 // Makes one row: its steps over scratch, then the finished row rounded into out. The chroma plane is lent as both components, and only
 // Cb is asked for.
-fn plane_row(
-    layout: Layout,
-    y: Plane<'_>,
-    c: Plane<'_>,
-    row: usize,
-    s: &mut [f32],
-    out: &mut [u16],
-)
+fn plane_row(layout: Layout, y: Plane<'_>, c: Plane<'_>, row: usize, s: &mut [f32], out: &mut [u16])
     requires lent { Lent layout (planes_with (seen y) (seen c)) Components.CbAlone }
     requires row_lt_h { (row < layout.h) × (scratch_need layout ≤ length s.old) × (layout.w * layout.h ≤ length out.old) }
     ensures s_after { s.new ≡ guided_step
@@ -84,13 +74,7 @@ fn plane_row(
 }
 
 // Makes every row of the plane in turn.
-fn plane_rows(
-    layout: Layout,
-    y: Plane<'_>,
-    c: Plane<'_>,
-    s: &mut [f32],
-    out: &mut [u16],
-)
+fn plane_rows(layout: Layout, y: Plane<'_>, c: Plane<'_>, s: &mut [f32], out: &mut [u16])
     requires lent { Lent layout (planes_with (seen y) (seen c)) Components.CbAlone }
     requires layout_in_bounds { (scratch_need layout ≤ length s.old) × (layout.w * layout.h ≤ length out.old) }
     ensures out_after { out.new ≡ guided_plane

@@ -110,13 +110,5 @@ pub fn guided_step(
         (components_of components) first n s.old }
 {
     let k = counters_before(layout, first, n);
-    row_steps(
-        layout,
-        planes,
-        components,
-        k.h_next,
-        k.f_next,
-        first + n,
-        s,
-    );
+    row_steps(layout, planes, components, k.h_next, k.f_next, first + n, s);
 }

@@ -9,14 +9,7 @@ use image::{Layout, Plane};
 
 // Inner: the sample in column x of row y of a plane of w columns and h rows, as a whole number.
 #[tactic(auto, using(crate::proofs::Windows::whole_inside), unfolding(image::specs::Samples::sample_at))]
-pub fn whole_at(
-    layout: Layout,
-    plane: Plane<'_>,
-    w: usize,
-    h: usize,
-    x: usize,
-    y: usize,
-) -> u16
+pub fn whole_at(layout: Layout, plane: Plane<'_>, w: usize, h: usize, x: usize, y: usize) -> u16
     requires { Sound layout × (short_plane layout w h (seen plane) ≡ false) × (x < w) × (y < h) }
     ensures { result ≡ sample_at layout.sample_bytes (seen plane.entry) y x }
 {
@@ -25,14 +18,7 @@ pub fn whole_at(
 }
 
 // Inner: the sample in column x of row y of a plane of w columns and h rows, as a float. Samples have sixteen bits, so that none is rounded.
-pub fn sample_at(
-    layout: Layout,
-    plane: Plane<'_>,
-    w: usize,
-    h: usize,
-    x: usize,
-    y: usize,
-) -> f32
+pub fn sample_at(layout: Layout, plane: Plane<'_>, w: usize, h: usize, x: usize, y: usize) -> f32
     requires { Sound layout × (short_plane layout w h (seen plane) ≡ false) × (x < w) × (y < h) }
     ensures { result ≡ f32 (sample_at layout.sample_bytes (seen plane.entry) y x) }
 {

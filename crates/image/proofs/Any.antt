@@ -185,7 +185,7 @@ lists_differ [] (y ∷ ys) e = let h : 0 ≡ length (y ∷ ys) = e in absurd (om
 lists_differ (x ∷ xs) [] e = let h : length (x ∷ xs) ≡ 0 = e in absurd (omega arith)
 lists_differ (x ∷ xs) (y ∷ ys) e =
     go (eqb x y) (lists_differ xs ys (let h : length (x ∷ xs) ≡ length (y ∷ ys) = e in omega arith))
-      ∙ sym (any_first (length xs) (λ k. not (eqb (get_or (x ∷ xs) k 0) (get_or (y ∷ ys) k 0))))
+    ∙ sym (any_first (length xs) (λ k. not (eqb (get_or (x ∷ xs) k 0) (get_or (y ∷ ys) k 0))))
   where
     rest : Bool
     rest = any_of (length xs) (λ k. not (eqb (get_or xs k 0) (get_or ys k 0)))
@@ -197,8 +197,8 @@ lists_differ (x ∷ xs) (y ∷ ys) e =
 pub slices_differ : (n at to : ℕ) (p q : List ℕ) → at + n ≤ length p → to + n ≤ length q → not (pointwise eqb (take (at + n - at) (drop at p)) (take (to + n - to) (drop to q))) ≡ any_of n (λ k. not (eqb (get_or p (at + k) 0) (get_or q (to + k) 0)))
 slices_differ n at to p q g h =
     lists_differ xs ys (long at p g ∙ sym (long to q h))
-      ∙ ap (λ m. any_of m (λ k. not (eqb (get_or xs k 0) (get_or ys k 0)))) (long at p g)
-      ∙ any_same n _ _ (λ k l. rw (there at p k l, there to q k l) refl)
+    ∙ ap (λ m. any_of m (λ k. not (eqb (get_or xs k 0) (get_or ys k 0)))) (long at p g)
+    ∙ any_same n _ _ (λ k l. rw (there at p k l, there to q k l) refl)
   where
     xs : List ℕ
     xs = take (at + n - at) (drop at p)

@@ -47,12 +47,7 @@ fn row_differs(layout: Layout, p: Plane<'_>, q: Plane<'_>, block: Rectangle, j: 
 }
 
 // Whether two planes differ in a rectangle of samples.
-fn block_differs(
-    layout: Layout,
-    p: Plane<'_>,
-    q: Plane<'_>,
-    block: Rectangle,
-) -> bool
+fn block_differs(layout: Layout, p: Plane<'_>, q: Plane<'_>, block: Rectangle) -> bool
     requires { Sound layout
         × Reaches layout block (seen p)
         × Reaches layout block (seen q) }
@@ -100,12 +95,7 @@ fn trimmed(cells: Rectangle) -> Rectangle
 }
 
 // Whether two chroma planes differ in the rows above and below the rectangle.
-fn rows_differ(
-    layout: Layout,
-    p: Plane<'_>,
-    q: Plane<'_>,
-    cells: Rectangle,
-) -> bool
+fn rows_differ(layout: Layout, p: Plane<'_>, q: Plane<'_>, cells: Rectangle) -> bool
     requires { Sound layout
         × (short_plane layout layout.cw layout.ch (seen p) ≡ false)
         × (short_plane layout layout.cw layout.ch (seen q) ≡ false)
@@ -133,12 +123,7 @@ fn rows_differ(
 }
 
 // Whether two chroma planes differ in the rectangle's own rows, left or right of it.
-fn sides_differ(
-    layout: Layout,
-    p: Plane<'_>,
-    q: Plane<'_>,
-    cells: Rectangle,
-) -> bool
+fn sides_differ(layout: Layout, p: Plane<'_>, q: Plane<'_>, cells: Rectangle) -> bool
     requires { Sound layout
         × (short_plane layout layout.cw layout.ch (seen p) ≡ false)
         × (short_plane layout layout.cw layout.ch (seen q) ≡ false)
@@ -166,12 +151,7 @@ fn sides_differ(
 }
 
 // Whether two chroma planes that pass 7 differ outside a rectangle that passes 19.
-fn cells_differ(
-    layout: Layout,
-    p: Plane<'_>,
-    q: Plane<'_>,
-    cells: Rectangle,
-) -> bool
+fn cells_differ(layout: Layout, p: Plane<'_>, q: Plane<'_>, cells: Rectangle) -> bool
     requires { Sound layout
         × (short_plane layout layout.cw layout.ch (seen p) ≡ false)
         × (short_plane layout layout.cw layout.ch (seen q) ≡ false)

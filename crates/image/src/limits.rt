@@ -60,7 +60,13 @@ pub fn plane_above(layout: Layout, plane: Plane<'_>, w: usize, h: usize) -> bool
         return false;
     }
     for y in 0..h {
-        if row_above(plane, layout.sample_bytes, y * plane.stride, w, layout.maxval) {
+        if row_above(
+            plane,
+            layout.sample_bytes,
+            y * plane.stride,
+            w,
+            layout.maxval,
+        ) {
             return true;
         }
     }

@@ -13,19 +13,16 @@ use laws::{Refusal, outside};
 
 // The first refusal of `ycbcr_frac_to_rgb8` that applies. 16,776,960 is 65,535 * 256, the greatest sample in 256ths.
 #[tactic(auto, unfolding(crate::specs::Pixels::exact_tests, crate::specs::Pixels::bad_exact))]
-fn exact_answer(
-    y: u32,
-    cb256: u32,
-    cr256: u32,
-    maxval: u32,
-    range: Range,
-) -> Result<(), Refusal>
+fn exact_answer(y: u32, cb256: u32, cr256: u32, maxval: u32, range: Range) -> Result<(), Refusal>
     ensures { result ≡ first (exact_tests range maxval y cb256 cr256) }
 {
     let past = 65_535 < y || 16_776_960 < cb256 || 16_776_960 < cr256;
     laws::first([
         (bad_range(range, false, maxval), Refusal::BadRange),
-        (past || outside(1, 65_535, maxval as usize), Refusal::BadPixel),
+        (
+            past || outside(1, 65_535, maxval as usize),
+            Refusal::BadPixel,
+        ),
     ])
 }
 
@@ -34,10 +31,7 @@ fn exact_answer(
 fn fixed_answer(y: u32, cb: u32, cr: u32) -> Result<(), Refusal>
     ensures { result ≡ first (fixed_tests y cb cr) }
 {
-    laws::first([(
-        65_535 < y || 65_535 < cb || 65_535 < cr,
-        Refusal::BadPixel,
-    )])
+    laws::first([(65_535 < y || 65_535 < cb || 65_535 < cr, Refusal::BadPixel)])
 }
 
 // The exact kernel's colour in full range.

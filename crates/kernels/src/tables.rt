@@ -17,8 +17,11 @@ use crate::entries::{BLUE, GREEN_CB, GREEN_CR, RED};
 
 // The tables where one entry is read.
 static RED_ENTRIES: [i32; 256] = RED;
+
 static BLUE_ENTRIES: [i32; 256] = BLUE;
+
 static GREEN_CB_ENTRIES: [i32; 256] = GREEN_CB;
+
 static GREEN_CR_ENTRIES: [i32; 256] = GREEN_CR;
 
 // What is added to the entries of a table so that none lies below 0.

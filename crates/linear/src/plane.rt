@@ -23,7 +23,16 @@ pub fn linear_row(layout: Layout, plane: Plane<'_>, y: usize, s: &mut [f32], dst
     let a = t.i0 * plane.stride;
     let b = t.i1 * plane.stride;
     let cells = 2 * layout.w;
-    down_row(plane.bytes, layout.sample_bytes, a, b, t.f, layout.cw, s, cells);
+    down_row(
+        plane.bytes,
+        layout.sample_bytes,
+        a,
+        b,
+        t.f,
+        layout.cw,
+        s,
+        cells,
+    );
     across_row(layout.across, s, cells, layout.cw, layout.rh, dst, layout.w);
 }
 
@@ -46,10 +55,7 @@ pub fn linear_answer(
     let short = laws::product_passes(layout.w, layout.h, room);
     laws::first([
         (above, Refusal::AboveMaxval),
-        (
-            image::short_scratch(layout, space),
-            Refusal::ShortScratch,
-        ),
+        (image::short_scratch(layout, space), Refusal::ShortScratch),
         (short, Refusal::ShortOutput),
     ])
 }

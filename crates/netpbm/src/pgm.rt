@@ -113,12 +113,7 @@ fn rows_missing(len: usize, rows: usize, due: usize) -> bool
 
 // The first thing that is wrong with the image whose magic stands at `at` and whose header holds these numbers, where this maxval is wanted.
 #[tactic(auto, unfolding(crate::specs::Inner::Held::held_tests))]
-fn image_answer(
-    input: &[u8],
-    at: usize,
-    header: Header,
-    wanted: usize,
-) -> Result<(), Refusal>
+fn image_answer(input: &[u8], at: usize, header: Header, wanted: usize) -> Result<(), Refusal>
     requires { (header.width.value ≤ 65536) × (header.height.value ≤ 65536) × (header.maxval.end ≤ 49154) }
     ensures { result ≡ first (held_tests input.now at header wanted) }
 {

@@ -24,11 +24,7 @@ impl Reading {
 
 // The answer to the whole input: the three images' own, then 14 for bytes left over, 2 for the Y image's sides and 5 for the ratios.
 #[tactic(auto, unfolding(crate::specs::Inner::HeldInput::answer_held))]
-fn whole_answer(
-    images: Result<(), Refusal>,
-    left: bool,
-    layout: Layout,
-) -> Result<(), Refusal>
+fn whole_answer(images: Result<(), Refusal>, left: bool, layout: Layout) -> Result<(), Refusal>
     ensures { result ≡ answer_held images left layout }
 {
     images?;

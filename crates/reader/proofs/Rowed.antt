@@ -20,14 +20,14 @@ rowed k a e h = row_handed k (accepted_failed _ (sym e ∙ h))
 pub lent : (r : Reader) (ps : Planes) → bad_state r ≡ false → bad_planes (reader_layout r) ps ≡ false → Lent (reader_layout r) ps Both
 unfolding bad_planes
 lent r ps e h =
-  let n = neither _ _ h in
-  let m = neither _ _ n.1 in
-  record { sound = (fine r e).sound; luma = n.0; cb = m.0; cr = λ _. m.1 }
+    let n = neither _ _ h in
+    let m = neither _ _ n.1 in
+    record { sound = (fine r e).sound; luma = n.0; cb = m.0; cr = λ _. m.1 }
 
 -- scratch after the steps is as long as before
 pub room_after : (k : RowCall) (s : List Float) → scratch_need (reader_layout k.reader) ≤ length k.scratch → s ≡ row_scratch k → 3 * (reader_layout k.reader).w ≤ length s
 unfolding row_scratch
 room_after k s h e =
-  let f = front_fits (reader_layout k.reader) in
-  let z = ap length e ∙ length_row _ _ _ _ _ _ _ in
-  omega (arith, h)
+    let f = front_fits (reader_layout k.reader) in
+    let z = ap length e ∙ length_row _ _ _ _ _ _ _ in
+    omega (arith, h)

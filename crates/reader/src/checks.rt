@@ -28,10 +28,7 @@ pub fn row_answer(
     laws::first([
         (reader_state::bad_state(reader), Refusal::BadState),
         (image::bad_planes(layout, planes), Refusal::BadPlane),
-        (
-            image::short_scratch(layout, s.len()),
-            Refusal::ShortScratch,
-        ),
+        (image::short_scratch(layout, s.len()), Refusal::ShortScratch),
         (short, Refusal::ShortOutput),
         (layout.h <= row, Refusal::BadRow),
         (row < reader.place, Refusal::RowPassed),

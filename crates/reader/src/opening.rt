@@ -34,10 +34,7 @@ fn open_answer(layout: Layout, planes: Planes<'_>, s: &[f32]) -> Result<(), Refu
     ])?;
     laws::first([
         (image::above_planes(layout, planes), Refusal::AboveMaxval),
-        (
-            image::short_scratch(layout, s.len()),
-            Refusal::ShortScratch,
-        ),
+        (image::short_scratch(layout, s.len()), Refusal::ShortScratch),
     ])
 }
 

@@ -25,10 +25,7 @@ pub fn rgb_row_answer(
     laws::first([
         (reader_state::bad_state(reader), Refusal::BadState),
         (image::bad_planes(layout, planes), Refusal::BadPlane),
-        (
-            image::short_scratch(layout, s.len()),
-            Refusal::ShortScratch,
-        ),
+        (image::short_scratch(layout, s.len()), Refusal::ShortScratch),
         (
             laws::product_passes(layout.w, 3, out.len()),
             Refusal::ShortOutput,

@@ -24,17 +24,7 @@ fn exact_row(layout: Layout, plane: Plane<'_>, row: usize, s: &[f32], out: &mut 
         Exact layout (seen plane.entry) row s.now 0 3 out.old }
 {
     let none = [[0i32; 256]; 0];
-    colour_rows::colour_row(
-        layout,
-        YcbcrKernel::Exact,
-        3,
-        plane,
-        row,
-        s,
-        out,
-        0,
-        &none,
-    );
+    colour_rows::colour_row(layout, YcbcrKernel::Exact, 3, plane, row, s, out, 0, &none);
 }
 
 // Row `row` as w pixels of three bytes to the front of out: guided, by the exact kernel, and the reader moved as by `row`. Surplus bytes are

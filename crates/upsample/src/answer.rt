@@ -39,8 +39,5 @@ pub fn triangular_answer(layout: Layout, plane: Plane<'_>, room: usize) -> Resul
     ])?;
     let above = image::plane_above(layout, plane, layout.cw, layout.ch);
     let short = laws::product_passes(layout.w, layout.h, room);
-    laws::first([
-        (above, Refusal::AboveMaxval),
-        (short, Refusal::ShortOutput),
-    ])
+    laws::first([(above, Refusal::AboveMaxval), (short, Refusal::ShortOutput)])
 }

@@ -50,11 +50,7 @@ fn triangular(layout: Layout, plane: Plane<'_>, out: &mut [u16])
 
 // One whole chroma plane by triangular weights: w by h values into out. It answers refusals 2, 3, 4, 18, 5, 6,
 // 16, 7, 17 and 10, and takes no scratch.
-pub fn triangular_plane(
-    layout: Layout,
-    plane: Plane<'_>,
-    out: &mut [u16],
-) -> Result<(), Refusal>
+pub fn triangular_plane(layout: Layout, plane: Plane<'_>, out: &mut [u16]) -> Result<(), Refusal>
     ensures { TriangularGiven layout (seen plane.entry) out.old result out.new }
 {
     triangular_answer(layout, plane, out.len())?;

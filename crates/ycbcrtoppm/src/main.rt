@@ -23,11 +23,7 @@ const SCRATCH: usize = 5_120;
 const OUT: usize = 147_472;
 
 // Writes the picture that stands at the front of `out`, or the refusal's line, to standard output.
-fn write_outcome(
-    rt: &impl Print,
-    outcome: Result<usize, Refusal>,
-    out: &[u8],
-) -> io::Result<()>
+fn write_outcome(rt: &impl Print, outcome: Result<usize, Refusal>, out: &[u8]) -> io::Result<()>
     requires { written_length outcome ≤ length out.now }
 {
     match outcome {

@@ -24,33 +24,33 @@ passes y s out room e l = let m = most y s out e in side_passes (rgb_row_call y 
 
 pub returns-in_err-rgb_row-clause-accepts : goal.returns-in_err-rgb_row-clause-accepts
 returns-in_err-rgb_row-clause-accepts c =
-  let a = c.args in
-  let s = side_of a.late.now (planes_seen a.planes) a.s.now in
-  absurd (not_refused _ _ _ (passes a.row s a.out.now _ c.requires.out_value (omega arith)) c.rgb_row.ensures.answers c.in_err-rgb_row.was)
+    let a = c.args in
+    let s = side_of a.late.now (planes_seen a.planes) a.s.now in
+    absurd (not_refused _ _ _ (passes a.row s a.out.now _ c.requires.out_value (omega arith)) c.rgb_row.ensures.answers c.in_err-rgb_row.was)
 
 pub returns-in_err-rgb_row-clause-gives : goal.returns-in_err-rgb_row-clause-gives
 returns-in_err-rgb_row-clause-gives c =
-  let a = c.args in
-  let s = side_of a.late.now (planes_seen a.planes) a.s.now in
-  absurd (not_refused _ _ _ (passes a.row s a.out.now _ c.requires.out_value (omega arith)) c.rgb_row.ensures.answers c.in_err-rgb_row.was)
+    let a = c.args in
+    let s = side_of a.late.now (planes_seen a.planes) a.s.now in
+    absurd (not_refused _ _ _ (passes a.row s a.out.now _ c.requires.out_value (omega arith)) c.rgb_row.ensures.answers c.in_err-rgb_row.was)
 
 pub overflow_mul-w : goal.overflow_mul-w
 overflow_mul-w c =
-  let a = c.args in
-  let m = most a.row (side_of a.late.now (planes_seen a.planes) a.s.now) a.out.now c.requires.out_value in
-  omega (arith, m)
+    let a = c.args in
+    let m = most a.row (side_of a.late.now (planes_seen a.planes) a.s.now) a.out.now c.requires.out_value in
+    omega (arith, m)
 
 pub mix_bytes-requires : goal.mix_bytes-requires
 mix_bytes-requires c =
-  let a = c.args in
-  let s = side_of a.late.now (planes_seen a.planes) a.s.now in
-  let m = most a.row s a.out.now c.requires.out_value in
-  let n = enough a.row s a.out.now c.requires.out_value in
-  (c.requires.weight_bound, omega (arith, m), n)
+    let a = c.args in
+    let s = side_of a.late.now (planes_seen a.planes) a.s.now in
+    let m = most a.row s a.out.now c.requires.out_value in
+    let n = enough a.row s a.out.now c.requires.out_value in
+    (c.requires.weight_bound, omega (arith, m), n)
 
 pub returns-clause-gives : goal.returns-clause-gives
 returns-clause-gives c =
-  let a = c.args in
-  let s = side_of a.late.now (planes_seen a.planes) a.s.now in
-  let m = most a.row s a.out.now c.requires.out_value in
-  late_given _ s _ _ _ _ _ _ _ c.requires.out_value (omega (arith, m)) c.rgb_row.ensures c.mix_bytes.ensures
+    let a = c.args in
+    let s = side_of a.late.now (planes_seen a.planes) a.s.now in
+    let m = most a.row s a.out.now c.requires.out_value in
+    late_given _ s _ _ _ _ _ _ _ c.requires.out_value (omega (arith, m)) c.rgb_row.ensures c.mix_bytes.ensures

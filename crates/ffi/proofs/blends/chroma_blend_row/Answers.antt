@@ -12,9 +12,9 @@ neither a b e f = rw (e, f) refl
 
 pub returns : goal.returns
 returns c =
-  let e : (strange_reader c.args.early || strange_reader c.args.late) ≡ false = neither _ _ (sym c.strange_reader.ensures ∙ c.if-strange_reader.false) (sym c.strange_reader-else-strange_reader.ensures ∙ c.if-strange_reader-2.false) in
-  blend_plain e (record {
-    reply = blend_reply c.blend_row-answer.result c.blend_row-answer.new.early c.blend_row-answer.new.late;
-    given = rw (sym c.to_reader-first.ensures, sym c.to_planes.ensures, sym c.to_reader-second.ensures, sym c.to_planes-2.ensures) c.blend_row-answer.ensures;
-    is = c.blend_reply_to.ensures;
-  })
+    let e : (strange_reader c.args.early || strange_reader c.args.late) ≡ false = neither _ _ (sym c.strange_reader.ensures ∙ c.if-strange_reader.false) (sym c.strange_reader-else-strange_reader.ensures ∙ c.if-strange_reader-2.false) in
+    blend_plain e (record {
+      reply = blend_reply c.blend_row-answer.result c.blend_row-answer.new.early c.blend_row-answer.new.late;
+      given = rw (sym c.to_reader-first.ensures, sym c.to_planes.ensures, sym c.to_reader-second.ensures, sym c.to_planes-2.ensures) c.blend_row-answer.ensures;
+      is = c.blend_reply_to.ensures;
+    })

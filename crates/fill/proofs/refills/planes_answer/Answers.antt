@@ -6,7 +6,7 @@ use Rattle.fill.proofs.refills.planes_answer.Goals as goal
 
 pub either_above-requires : goal.either_above-requires
 either_above-requires c =
-  let o = sound _ c.args.layout (accepted_failed _ (sym c.answer.ensures ∙ c.in_ok-answer.was)) in
-  let f = accepted_failed _ (sym c.first.ensures ∙ c.in_ok-first.was) in
-  let p = neither _ _ (sym c.either_short.ensures ∙ f.1.0) in
-  (o, p.0, p.1)
+    let o = sound _ c.args.layout (accepted_failed _ (sym c.answer.ensures ∙ c.in_ok-answer.was)) in
+    let f = accepted_failed _ (sym c.first.ensures ∙ c.in_ok-first.was) in
+    let p = neither _ _ (sym c.either_short.ensures ∙ f.1.0) in
+    (o, p.0, p.1)

@@ -8,6 +8,6 @@ use Rattle.fill.proofs.refills.refill_answer.Goals as goal
 
 pub other_change-changed-requires : goal.other_change-changed-requires
 other_change-changed-requires c =
-  let a = c.args in
-  let t = lent_taken (refill_call a.layout (planes_seen a.old) (planes_seen a.new) a.cells a.kernel a.size a.s.now a.out.now) (accepted_failed _ (sym c.lent_answer.ensures ∙ c.in_ok-lent_answer.was)) in
-  (t.planes.sound, t.planes.old, t.planes.new, t.cells)
+    let a = c.args in
+    let t = lent_taken (refill_call a.layout (planes_seen a.old) (planes_seen a.new) a.cells a.kernel a.size a.s.now a.out.now) (accepted_failed _ (sym c.lent_answer.ensures ∙ c.in_ok-lent_answer.was)) in
+    (t.planes.sound, t.planes.old, t.planes.new, t.cells)

@@ -8,13 +8,13 @@ use Rattle.laws.proofs.refusal.first.Goals as goal
 
 pub returns-then-applies : goal.returns-then-applies
 returns-then-applies g c =
-  sym (c.loop-applies.invariant
+    sym (c.loop-applies.invariant
     ∙ at_drop_more first c.args.tests c.loop-applies.applies-index (false, BadState) (let z = c.well_formed in omega arith)
     ∙ refused_here _ _ _ c.if-applies.true)
 
 pub loop-applies-preserved : goal.loop-applies-preserved
 loop-applies-preserved g c =
-  c.loop-applies.invariant
+    c.loop-applies.invariant
     ∙ at_drop_more first c.args.tests c.loop-applies.applies-index (false, BadState) (let z = c.well_formed in omega arith)
     ∙ passed_over _ _ _ c.if-applies.false
 

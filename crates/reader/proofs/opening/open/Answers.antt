@@ -9,5 +9,5 @@ use Rattle.reader.proofs.opening.open.Goals as goal
 
 pub after_open-requires : goal.after_open-requires
 after_open-requires c =
-  let a = c.args in
-  sound _ _ (open_handed (open_call a.layout (planes_seen a.planes) a.s.now a.reader.now) (accepted_failed _ (sym (c.open_answer.ensures a.reader.now) ∙ c.in_ok-open_answer.was))).layout
+    let a = c.args in
+    sound _ _ (open_handed (open_call a.layout (planes_seen a.planes) a.s.now a.reader.now) (accepted_failed _ (sym (c.open_answer.ensures a.reader.now) ∙ c.in_ok-open_answer.was))).layout

@@ -7,5 +7,5 @@ use Rattle.reader.proofs.seeking.seek.Goals as goal
 
 pub after_seek-requires : goal.after_seek-requires
 after_seek-requires c =
-  let h = seek_handed (seek_call c.args.y c.args.reader.now) (accepted_failed _ (sym c.seek_answer.ensures ∙ c.in_ok-seek_answer.was)) in
-  record { sound = (fine _ h.state).sound; y_lt_h = h.inside }
+    let h = seek_handed (seek_call c.args.y c.args.reader.now) (accepted_failed _ (sym c.seek_answer.ensures ∙ c.in_ok-seek_answer.was)) in
+    record { sound = (fine _ h.state).sound; y_lt_h = h.inside }
