@@ -6,9 +6,8 @@ use mathlib.Core.List.{List}
 use Prim.Native.Nat.{ℕ, ◌*◌, ◌≤◌}
 use lib.Ieee.{Float}
 use lib.ListN.{length}
-use Rattle.laws.specs.Refusals.{Answer}
-use Rattle.std.specs.Prelude.{Ok, Err}
 use Rattle.laws.specs.Refusals.{accepted, first}
+use Rattle.std.specs.Prelude.{Ok}
 use Rattle.laws.specs.Lists.{put}
 use Rattle.laws.proofs.Refusals.{accepted_failed}
 use Rattle.reconstruction.specs.Fill.{pixels}

@@ -13,9 +13,8 @@ use Rattle.guided.specs.Calls.{OpenCall}
 use Rattle.guided.specs.Events.{Event, RanRow, Run}
 use Rattle.reconstruction.specs.Reader.{side_colour}
 use Rattle.reconstruction.specs.Lists.{guided_colour}
-use Rattle.colorimetry.specs.Blends.{BlendReply}
+use Rattle.colorimetry.specs.Blends.{BlendReply, BlendCall, BlendGiven, blend_tests, blend_colour}
 use Rattle.colorimetry.specs.Mixes.{mix_colour}
-use Rattle.colorimetry.specs.Blends.{BlendCall, BlendGiven, blend_tests, blend_colour}
 use Rattle.colorimetry.specs.BlendClaims.{early_event, late_event, BlendClaims}
 use Rattle.colorimetry.proofs.Mixing.{mix_first, mix_last}
 use Rattle.colorimetry.proofs.BlendHanded.{BlendHanded, blend_handed}

@@ -10,21 +10,17 @@ use lib.Dec.{T}
 use lib.ListN.{length}
 use lib.Ieee.{Float}
 use lib.Ieee.Bits.{is_true}
-use Rattle.laws.specs.Refusals.{Answer}
-use Rattle.laws.specs.Refusals.{first, accepted}
+use Rattle.laws.specs.Refusals.{Answer, first, accepted}
 use Rattle.laws.proofs.Refusals.{accepted_is, accepted_failed}
 use Rattle.colorimetry.specs.declared.patch.Patch.TheVariants as P
-use Rattle.colorimetry.specs.Patches.{PatchReply}
-use Rattle.colorimetry.specs.Charts.{ChartReply}
-use Rattle.colorimetry.specs.Patches.{channel_mean, has_mean, pick_patch, PatchGiven}
-use Rattle.colorimetry.specs.Charts.{ChartCall, shades_of, shade_at, mix_at, distance, mix_off, candidate_off, bad_chart, chart_tests, whole_colour, has_reading, nearest_of, between_of, ChartGiven}
+use Rattle.colorimetry.specs.Patches.{PatchReply, channel_mean, has_mean, pick_patch, PatchGiven}
+use Rattle.colorimetry.specs.Charts.{ChartReply, ChartCall, shades_of, shade_at, mix_at, distance, mix_off, candidate_off, bad_chart, chart_tests, whole_colour, has_reading, nearest_of, between_of, ChartGiven, given_if, pair_of, pair_given}
 use Rattle.colorimetry.specs.ChartClaims.{FirstLeast, OnChart, Before, shade_from, mix_from, ChartClaims}
 use Rattle.colorimetry.proofs.Least.{least_found, least_only}
 use Rattle.colorimetry.proofs.Mixing.{mix_between, mix_first, mix_last}
 use Rattle.colorimetry.proofs.Readings.{chart_shades, reading_is}
 use Rattle.std.specs.Prelude.{Option, None, Some}
 use Rattle.colorimetry.specs.declared.shade.Between.{Between}
-use Rattle.colorimetry.specs.Charts.{given_if, pair_of, pair_given}
 
 -- ---- what was given is the definition's
 

@@ -10,9 +10,8 @@ use native.Mathlib.Omega.{arith}
 use lib.Dec.{ltb}
 use lib.ListN.{length, get_or}
 use borrow.Author.Tests.{ltb-false, lt-ltb}
-use Rattle.laws.specs.Refusals.{Answer}
-use Rattle.std.specs.Prelude.{Ok, Err}
 use Rattle.laws.specs.Refusals.{first, accepted}
+use Rattle.std.specs.Prelude.{Ok, Err}
 use Rattle.laws.proofs.Limits.{neither, within}
 use Rattle.laws.proofs.Refusals.{accepted_failed}
 use Rattle.laws.proofs.Rows.{row_fits}
@@ -20,8 +19,7 @@ use Rattle.laws.proofs.Sums.{sum_same}
 use Rattle.colorimetry.specs.declared.patch.Patch.{Patch}
 use Rattle.colorimetry.specs.declared.patch.Patch.TheVariants.{Mean, Nothing}
 use Rattle.laws.specs.declared.refusal.Refusal.{Refusal}
-use Rattle.colorimetry.specs.Patches.{patch_reply}
-use Rattle.colorimetry.specs.Patches.{PatchCall, channel_at, shared_of, across_of, down_of, count_of, channel_sum, channel_mean, whole_mean, bad_sides, passes, passes_end, patch_tests, has_mean, PatchGiven}
+use Rattle.colorimetry.specs.Patches.{patch_reply, PatchCall, channel_at, shared_of, across_of, down_of, count_of, channel_sum, channel_mean, whole_mean, bad_sides, passes, passes_end, patch_tests, has_mean, PatchGiven}
 use Rattle.colorimetry.specs.Inner.Sums.{row_sum, area_sum, Inside}
 
 -- ---- what was handed

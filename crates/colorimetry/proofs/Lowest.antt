@@ -6,12 +6,9 @@ use native.Mathlib.Omega.{arith}
 use lib.Ieee.{Float}
 use Rattle.laws.specs.Refusals.{place_of, Ascending, Lowest}
 use Rattle.laws.proofs.Refusals.{given_lowest}
-use Rattle.colorimetry.specs.Blends.{BlendReply}
-use Rattle.colorimetry.specs.Patches.{PatchReply}
-use Rattle.colorimetry.specs.Charts.{ChartReply}
-use Rattle.colorimetry.specs.Patches.{PatchCall, patch_tests, PatchGiven}
-use Rattle.colorimetry.specs.Charts.{ChartCall, chart_tests, ChartGiven}
-use Rattle.colorimetry.specs.Blends.{BlendCall, blend_tests, BlendGiven}
+use Rattle.colorimetry.specs.Blends.{BlendReply, BlendCall, blend_tests, BlendGiven}
+use Rattle.colorimetry.specs.Patches.{PatchReply, PatchCall, patch_tests, PatchGiven}
+use Rattle.colorimetry.specs.Charts.{ChartReply, ChartCall, chart_tests, ChartGiven}
 
 pub patch_ascends : (c : PatchCall) → Ascending 0 (patch_tests c)
 unfolding place_of Ascending patch_tests

@@ -11,14 +11,12 @@ use lib.Dec.{T, ltb}
 use lib.Ieee.{Float, binary64}
 use lib.Ieee.Bits.{is_true}
 use borrow.Author.Tests.{lt-ltb}
-use Rattle.laws.specs.Refusals.{Answer}
-use Rattle.laws.specs.Refusals.{first, accepted}
+use Rattle.laws.specs.Refusals.{Answer, first, accepted}
 use Rattle.laws.proofs.Refusals.{accepted_is}
 use Rattle.laws.proofs.Sums.{sum_same, sum_within}
 use Rattle.laws.proofs.Values.{cast_value}
 use Rattle.colorimetry.specs.declared.patch.Patch.TheVariants.{Mean, Nothing}
-use Rattle.colorimetry.specs.Patches.{PatchReply}
-use Rattle.colorimetry.specs.Patches.{PatchCall, channel_at, shared_of, across_of, down_of, count_of, channel_sum, channel_mean, passes_end, bad_sides, patch_tests, has_mean, pick_patch, PatchGiven}
+use Rattle.colorimetry.specs.Patches.{PatchReply, PatchCall, channel_at, shared_of, across_of, down_of, count_of, channel_sum, channel_mean, passes_end, bad_sides, patch_tests, has_mean, pick_patch, PatchGiven}
 use Rattle.colorimetry.specs.PatchClaims.{Shared, Bytes, with_rgb, too_short, PatchClaims}
 use Rattle.colorimetry.proofs.Handed.{PatchHanded, patch_handed, count_most, factor_some}
 use Rattle.colorimetry.proofs.Means.{whole_within, mean_once, mean_within}

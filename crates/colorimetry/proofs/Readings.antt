@@ -9,20 +9,15 @@ use native.Mathlib.Omega.{arith}
 use lib.Dec.{ltb, eqb}
 use lib.ListN.{length}
 use borrow.Author.Tests.{ltb-true}
-use Rattle.laws.specs.Refusals.{Answer}
-use Rattle.std.specs.Prelude.{Ok, Err}
-use Rattle.laws.specs.Refusals.{first, accepted}
+use Rattle.laws.specs.Refusals.{Answer, first, accepted}
+use Rattle.std.specs.Prelude.{Err, Some}
 use Rattle.laws.proofs.Limits.{neither, within}
 use Rattle.laws.proofs.Refusals.{refused_here, passed_over}
-use Rattle.colorimetry.specs.Patches.{PatchReply}
-use Rattle.colorimetry.specs.Charts.{ChartReply}
-use Rattle.colorimetry.specs.Patches.{PatchCall, count_of, patch_tests, has_mean, PatchGiven}
-use Rattle.colorimetry.specs.Charts.{ChartCall, no_reading, shades_of, shade_off, candidate_off, bad_chart, chart_tests, whole_colour, has_reading, nearest_of, between_of, ChartGiven}
+use Rattle.colorimetry.specs.Patches.{PatchReply, PatchCall, count_of, patch_tests, has_mean, PatchGiven}
+use Rattle.colorimetry.specs.Charts.{ChartCall, no_reading, shades_of, shade_off, candidate_off, bad_chart, chart_tests, whole_colour, has_reading, nearest_of, between_of, ChartGiven, pair_given}
 use Rattle.colorimetry.specs.Inner.Search.{Least}
 use Rattle.colorimetry.proofs.Least.{least_is}
 use Rattle.laws.specs.declared.refusal.Refusal.TheVariants.{BadChart}
-use Rattle.std.specs.Prelude.{None, Some}
-use Rattle.colorimetry.specs.Charts.{pair_of, pair_given}
 
 -- ---- a good chart
 

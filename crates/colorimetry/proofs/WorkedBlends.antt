@@ -26,9 +26,8 @@ use Rattle.reconstruction.specs.Fill.{pixel, pixels}
 use Rattle.reconstruction.specs.Lists.{row_of, event_of, guided_colour}
 use Rattle.reconstruction.specs.Reader.{Side, side_of, side_reader, side_scratch}
 use Rattle.reconstruction.proofs.Laws.{planes_c, open_c, open_c_answer, bytes_c, early_row, late_row}
-use Rattle.colorimetry.specs.Blends.{BlendReply}
+use Rattle.colorimetry.specs.Blends.{BlendReply, BlendCall, blend_call, same_range, same_geometry, unlike_of, blend_tests, blend_colour, BlendGiven}
 use Rattle.colorimetry.specs.Mixes.{mix_of, mix_colour}
-use Rattle.colorimetry.specs.Blends.{BlendCall, blend_call, same_range, same_geometry, unlike_of, blend_tests, blend_colour, BlendGiven}
 use Rattle.colorimetry.specs.BlendClaims.{early_event, late_event}
 use Rattle.colorimetry.proofs.BlendClaims.{blend_claims}
 use Rattle.laws.specs.declared.refusal.Refusal.TheVariants.{BadState, Unlike}

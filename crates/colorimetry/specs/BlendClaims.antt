@@ -4,9 +4,8 @@ use Rattle.reconstruction.specs.Fill.{pixels}
 use Rattle.reconstruction.specs.Lists.{RowEvent, Event, RanRow, Run, event_of, guided_colour}
 use Rattle.reconstruction.specs.Reader.{OpenCall, side_colour}
 use Rattle.reconstruction.specs.Refusals.{accepted}
-use Rattle.colorimetry.specs.Blends.{BlendReply}
+use Rattle.colorimetry.specs.Blends.{BlendReply, BlendCall, BlendGiven}
 use Rattle.colorimetry.specs.Mixes.{mix_colour}
-use Rattle.colorimetry.specs.Blends.{BlendCall, BlendGiven}
 
 -- the event that a blend is in each reader's list
 abbrev pub early_event : BlendCall → BlendReply → List Float → RowEvent

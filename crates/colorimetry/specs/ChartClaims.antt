@@ -1,14 +1,10 @@
 -- What follows from the promise of `chart_reading` and is claimed beside it. Statements only.
-use Rattle.std.specs.Prelude.{◌≡◌, ◌⊎◌, ℕ, ◌+◌, ◌≤◌, ◌<◌, min, max, T}
+use Rattle.std.specs.Prelude.{◌≡◌, ◌⊎◌, ℕ, ◌+◌, ◌≤◌, ◌<◌, min, max, T, None, Some}
 use Rattle.reconstruction.specs.Refusals.{accepted}
 use Rattle.colorimetry.specs.declared.patch.Patch.TheVariants as P
-use Rattle.colorimetry.specs.Patches.{PatchReply}
-use Rattle.colorimetry.specs.Charts.{ChartReply}
+use Rattle.colorimetry.specs.Patches.{PatchReply, PatchGiven}
+use Rattle.colorimetry.specs.Charts.{ChartReply, ChartCall, shades_of, shade_off, mix_off, first_least, whole_colour, ChartGiven, pair_given}
 use Rattle.colorimetry.specs.Mixes.{mix_of}
-use Rattle.colorimetry.specs.Patches.{PatchGiven}
-use Rattle.colorimetry.specs.Charts.{ChartCall, shades_of, shade_off, mix_off, first_least, whole_colour, ChartGiven}
-use Rattle.std.specs.Prelude.{None, Some}
-use Rattle.colorimetry.specs.Charts.{pair_given}
 
 -- "the least .., the first on a tie": of d 0, .. d (n - 1), none is less than d r and each before it is greater
 pub record FirstLeast (d : ℕ → ℕ) (n r : ℕ) : Type 0 where

@@ -1,9 +1,8 @@
 -- W9, 'Nearest shade on the chart': the reading of a patch on a chart of shades. Definitions only.
-use Rattle.std.specs.Prelude.{◌≡◌, Bool, true, false, ◌||◌, ◌&&◌, not, cond, List, [], ◌∷◌, ℕ, zero, suc, ◌+◌, ◌-◌, ◌*◌, ◌/◌, ◌%◌, ltb, eqb, get_or, length}
+use Rattle.std.specs.Prelude.{◌≡◌, Bool, true, false, ◌||◌, ◌&&◌, not, cond, List, [], ◌∷◌, ℕ, zero, suc, ◌+◌, ◌-◌, ◌*◌, ◌/◌, ◌%◌, ltb, eqb, get_or, length, Option, Some, None, Result, Ok, Err}
 use Rattle.laws.specs.Numbers.{outside_of}
 use Rattle.reconstruction.specs.Geometry.{Rectangle}
 use Rattle.reconstruction.specs.Refusals.{Answer, Test, first, accepted}
-use Rattle.std.specs.Prelude.{Option, Some, None, Result, Ok, Err}
 use Rattle.laws.specs.declared.refusal.Refusal.{Refusal}
 use Rattle.colorimetry.specs.declared.shade.Between.{Between}
 use Rattle.colorimetry.specs.declared.shade.ChartReading.{ChartReading}

@@ -5,8 +5,7 @@ use Rattle.std.specs.Float.Ieee.{of_int, round, le}
 use Rattle.std.specs.Float.Ieee.Exact.{HasValue}
 use Rattle.reconstruction.specs.Refusals.{first, accepted}
 use Rattle.colorimetry.specs.declared.patch.Patch.TheVariants.{Nothing}
-use Rattle.colorimetry.specs.Patches.{PatchReply}
-use Rattle.colorimetry.specs.Patches.{PatchCall, patch_call, channel_at, across_of, down_of, count_of, channel_sum, channel_mean, whole_mean, patch_tests, PatchGiven}
+use Rattle.colorimetry.specs.Patches.{PatchReply, PatchCall, patch_call, channel_at, across_of, down_of, count_of, channel_sum, channel_mean, whole_mean, patch_tests, PatchGiven}
 
 -- the rectangle and the picture share the pixel in row y, column x
 pub record Shared (c : PatchCall) (y x : ℕ) : Type 0 where

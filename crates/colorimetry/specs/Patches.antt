@@ -1,12 +1,11 @@
 -- W8, 'Strip patches': the mean colour of a rectangle of an RGB picture. Definitions only.
-use Rattle.std.specs.Prelude.{◌≡◌, Bool, true, false, ◌||◌, ◌&&◌, cond, List, [], ◌∷◌, ℕ, ◌+◌, ◌-◌, ◌*◌, min, ltb, get_or, length, pos, Float}
+use Rattle.std.specs.Prelude.{◌≡◌, Bool, true, false, ◌||◌, ◌&&◌, cond, List, [], ◌∷◌, ℕ, ◌+◌, ◌-◌, ◌*◌, min, ltb, get_or, length, pos, Float, Result, Ok, Err}
 use Rattle.std.specs.Float.{binary64}
 use Rattle.std.specs.Float.Ieee.{of_int, div}
 use Rattle.laws.specs.Numbers.{outside_of}
 use Rattle.laws.specs.Rounding.{half_up}
 use Rattle.laws.specs.Sums.{sum_to}
 use Rattle.reconstruction.specs.Geometry.{Rectangle}
-use Rattle.std.specs.Prelude.{Result, Ok, Err}
 use Rattle.laws.specs.declared.refusal.Refusal.{Refusal}
 use Rattle.reconstruction.specs.Refusals.{Answer, Test, first, accepted}
 use Rattle.colorimetry.specs.declared.patch.Patch.{Patch}

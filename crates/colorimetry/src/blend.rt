@@ -1,6 +1,5 @@
 // A row between two photographs, from their readers.
-ghost use Rattle.std.specs.Prelude.{◌≡◌, ◌≤◌};
-ghost use Rattle.std.specs.Prelude.{Ok};
+ghost use Rattle.std.specs.Prelude.{◌≡◌, ◌≤◌, Ok};
 ghost use Rattle.reconstruction.specs.Geometry.{planes_seen};
 ghost use Rattle.reconstruction.specs.Reader.{side_of, rgb_row_call};
 ghost use Rattle.reconstruction.specs.Refusals.{first, rgb_row_tests};

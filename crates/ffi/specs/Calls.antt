@@ -1,6 +1,5 @@
 -- What the calls for C promise: the Rattle calls' own records, of the values that C's stand for. Definitions only.
-use Rattle.std.specs.Prelude.{◌≡◌, Bool, true, false, ◌||◌, ℕ, eqb, ltb}
-use Rattle.std.specs.Prelude.{Ok, Err}
+use Rattle.std.specs.Prelude.{◌≡◌, Bool, true, false, ◌||◌, ℕ, eqb, ltb, Ok, Err}
 use Rattle.laws.specs.Refusals.{Answer, number_of}
 use Rattle.guided.specs.Calls.{Reply}
 use Rattle.kernels.specs.Pixels.{Pixel}

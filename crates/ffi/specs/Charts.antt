@@ -1,6 +1,5 @@
 -- What C gets of a reading on a chart. Definitions only.
-use Rattle.std.specs.Prelude.{◌≡◌, ℕ}
-use Rattle.std.specs.Prelude.{Option, Some, None}
+use Rattle.std.specs.Prelude.{◌≡◌, ℕ, Option, Some, None}
 use Rattle.colorimetry.specs.declared.shade.Between.{Between}
 use Rattle.colorimetry.specs.Charts.{ChartReply}
 use Rattle.ffi.specs.declared.charts.ChromaChartReading.{ChromaChartReading}

@@ -1,8 +1,7 @@
 -- What C's structs and numbers stand for. Definitions only.
-use Rattle.std.specs.Prelude.{Bool, true, false, ◌||◌, cond, List, [], ◌∷◌, ℕ, eqb, ltb, get_or}
+use Rattle.std.specs.Prelude.{Bool, true, false, ◌||◌, cond, List, [], ◌∷◌, ℕ, eqb, ltb, get_or, Ok, Err}
 use Rattle.std.specs.Float.{nan}
 use Rattle.laws.specs.Refusals.{Answer, number_of}
-use Rattle.std.specs.Prelude.{Ok, Err}
 use Rattle.laws.specs.declared.axes.Siting.{Siting}
 use Rattle.laws.specs.declared.axes.Siting.TheVariants.{Centred, CoSited}
 use Rattle.laws.specs.declared.axes.Axis.{Axis}

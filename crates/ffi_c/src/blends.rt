@@ -3,7 +3,7 @@ ghost use Rattle.std.specs.Prelude.{◌≡◌, ◌||◌};
 ghost use Rattle.rgb_rows.specs.RgbRows.{side_of};
 ghost use Rattle.colorimetry.specs.Blends.{blend_call, BlendGiven};
 ghost use Rattle.ffi.specs.Types.{as_planes, as_reader, strange_reader};
-ghost use Rattle.ffi.specs.Blends.{blend_reply_to, BlendChecked};
+ghost use Rattle.ffi.specs.Blends.{BlendChecked};
 
 use ffi::{ChromaBlendReply, ChromaReader, ChromaStrides};
 

@@ -1,7 +1,7 @@
 // The reading of a patch on a chart, for C, exported.
 ghost use Rattle.std.specs.Prelude.{◌≡◌};
 ghost use Rattle.colorimetry.specs.Charts.{chart_call, ChartGiven};
-ghost use Rattle.ffi.specs.Charts.{reading_given, shade_index, pair_of, weight_of, chroma_reading, ReadChart};
+ghost use Rattle.ffi.specs.Charts.{ReadChart};
 ghost use Rattle.ffi.specs.Patches.{as_rectangle};
 
 use ffi::{ChromaChartReading, ChromaRectangle};

@@ -3,7 +3,7 @@ use mathlib.Core.Path.{◌≡◌, subst}
 use Prim.Native.Nat.{◌*◌}
 use lib.ListN.{length}
 use borrow.Author.Tests.{ltb-false}
-use Rattle.std.specs.Prelude.{Ok, Err}
+use Rattle.std.specs.Prelude.{Ok}
 use Rattle.laws.specs.Refusals.{first}
 use Rattle.laws.proofs.Refusals.{Failed, accepted_failed, failed_both}
 use Rattle.image.specs.Tests.{tests_for}

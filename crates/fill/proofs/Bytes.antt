@@ -10,8 +10,7 @@ use native.Mathlib.Nat.{eq-or-lt_of_le, le_of_suc-le-suc}
 use native.Mathlib.Omega.{arith}
 use lib.ListN.{length, get_or}
 use lib.Ieee.{Float}
-use Rattle.laws.specs.Refusals.{Answer}
-use Rattle.laws.specs.Refusals.{accepted}
+use Rattle.laws.specs.Refusals.{Answer, accepted}
 use Rattle.laws.proofs.Refusals.{accepted_is}
 use Rattle.laws.proofs.Rows.{row_fits}
 use Rattle.image.specs.Picture.{picture_of}

@@ -15,8 +15,7 @@ use Rattle.image.specs.Inner.Tests.{Shaped}
 use Rattle.image.specs.Samples.{sample_at}
 use Rattle.image.specs.declared.chroma.Chroma.{Chroma}
 use Rattle.image.specs.declared.chroma.Chroma.TheVariants.{Cb, Cr}
-use Rattle.image.specs.Picture.{chroma_plane, inside, picture_of}
-use Rattle.image.specs.Picture.{Planes}
+use Rattle.image.specs.Picture.{chroma_plane, inside, picture_of, Planes}
 use Rattle.image.proofs.Pictures.{inside_is}
 use Rattle.taps.specs.Taps.{tap_by}
 use Rattle.taps.specs.Inner.Taps.{TapGiven}

@@ -13,8 +13,7 @@ use Rattle.laws.proofs.Rows.{row_fits}
 use Rattle.image.specs.declared.layout.Layout.{Layout}
 use Rattle.image.specs.Samples.{sample_at}
 use Rattle.image.specs.declared.chroma.Chroma.TheVariants.{Cb, Cr}
-use Rattle.image.specs.Picture.{picture_of}
-use Rattle.image.specs.Picture.{Planes}
+use Rattle.image.specs.Picture.{picture_of, Planes}
 use Rattle.image.proofs.Pictures.{inside_is}
 use Rattle.image.specs.Scratch.{scratch_need}
 use Rattle.guided.specs.Scratch.{finished_at}

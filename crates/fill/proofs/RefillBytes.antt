@@ -12,14 +12,12 @@ use lib.Dec.{ltb}
 use lib.ListN.{get_or}
 use lib.Ieee.{Float}
 use borrow.Author.Tests.{ltb-true, ltb-false}
-use Rattle.laws.specs.Refusals.{Answer}
-use Rattle.laws.specs.Refusals.{accepted}
+use Rattle.laws.specs.Refusals.{Answer, accepted}
 use Rattle.laws.proofs.Refusals.{accepted_is}
 use Rattle.laws.proofs.Rows.{row_fits}
 use Rattle.image.specs.declared.layout.Layout.{Layout}
 use Rattle.image.specs.declared.rectangle.Rectangle.{Rectangle}
-use Rattle.image.specs.Picture.{picture_of}
-use Rattle.image.specs.Picture.{Planes}
+use Rattle.image.specs.Picture.{picture_of, Planes}
 use Rattle.image.specs.Rectangles.{is_empty}
 use Rattle.guided_rows.specs.CatchingUp.{guided_rows}
 use Rattle.kernels.specs.Kernels.{Colour}

@@ -6,13 +6,11 @@ use Prim.Native.Nat.{ℕ, zero, suc, ◌+◌, ◌-◌, ◌≤◌, zero-le}
 use native.Mathlib.Nat.{le_refl}
 use lib.ListN.{get_or}
 use lib.Ieee.{Float, nan}
-use Rattle.laws.specs.Refusals.{Answer}
-use Rattle.laws.specs.Refusals.{accepted}
+use Rattle.laws.specs.Refusals.{Answer, accepted}
 use Rattle.laws.proofs.Refusals.{accepted_is}
 use Rattle.image.specs.declared.chroma.Chroma.TheVariants.{Cb, Cr}
 use Rattle.image.specs.declared.layout.Layout.{Layout}
-use Rattle.image.specs.Picture.{picture_of}
-use Rattle.image.specs.Picture.{Planes}
+use Rattle.image.specs.Picture.{picture_of, Planes}
 use Rattle.image.specs.Scratch.{scratch_need}
 use Rattle.image.proofs.Surplus.{SameBehind, call_behind}
 use Rattle.linear.proofs.Surplus.{linear_row_behind}

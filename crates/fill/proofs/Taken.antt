@@ -5,14 +5,13 @@ use mathlib.Core.List.{List, [], ◌∷◌, ◌++◌}
 use Prim.Native.Nat.{◌*◌}
 use lib.ListN.{length}
 use borrow.Author.Tests.{ltb-false}
-use Rattle.std.specs.Prelude.{Ok, Err}
+use Rattle.std.specs.Prelude.{Ok}
 use Rattle.laws.specs.Refusals.{Test, first}
 use Rattle.laws.proofs.Refusals.{Failed, accepted_failed, failed_both}
 use Rattle.image.specs.declared.layout.Layout.{Layout}
 use Rattle.image.specs.Tests.{tests_for}
 use Rattle.image.specs.Inner.Tests.{Sound}
-use Rattle.image.specs.Picture.{bad_planes}
-use Rattle.image.specs.Picture.{Planes}
+use Rattle.image.specs.Picture.{bad_planes, Planes}
 use Rattle.image.specs.Rectangles.{past_cells}
 use Rattle.image.specs.Differences.{other_change}
 use Rattle.image.specs.Scratch.{scratch_need}

@@ -5,8 +5,7 @@ use mathlib.Core.Bool.{true, false}
 use mathlib.Core.List.{List}
 use Prim.Native.Nat.{ℕ, ◌/◌, ◌<◌}
 use lib.Ieee.{Float}
-use Rattle.laws.specs.Refusals.{Answer}
-use Rattle.laws.specs.Refusals.{accepted}
+use Rattle.laws.specs.Refusals.{Answer, accepted}
 use Rattle.laws.proofs.Refusals.{accepted_is}
 use Rattle.image.specs.declared.layout.Layout.{Layout}
 use Rattle.image.specs.declared.rectangle.Rectangle.{Rectangle}
@@ -14,8 +13,7 @@ use Rattle.image.specs.Inner.Tests.{Sound}
 use Rattle.image.specs.Samples.{sample_at}
 use Rattle.image.specs.declared.chroma.Chroma.{Chroma}
 use Rattle.image.specs.declared.chroma.Chroma.TheVariants.{Cb, Cr}
-use Rattle.image.specs.Picture.{chroma_plane, picture_of, SameButRange}
-use Rattle.image.specs.Picture.{Planes}
+use Rattle.image.specs.Picture.{chroma_plane, picture_of, SameButRange, Planes}
 use Rattle.image.specs.Differences.{differs, differs_outside, other_change}
 use Rattle.image.proofs.Layouts.{neither}
 use Rattle.image.proofs.Pictures.{inside_is}

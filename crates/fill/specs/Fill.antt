@@ -1,12 +1,10 @@
 -- 'fill to RGB (linear or guided)' of document 01: what it gives. Why it turns a call down stands in specs/Tests. Definitions only.
 use Rattle.std.specs.Prelude.{◌≡◌, cond, List, [], ◌∷◌, ℕ, zero, suc, ◌+◌, ◌*◌, Float}
-use Rattle.laws.specs.Refusals.{first, accepted}
-use Rattle.laws.specs.Refusals.{Answer}
+use Rattle.laws.specs.Refusals.{first, accepted, Answer}
 use Rattle.image.specs.declared.layout.Layout.{Layout}
 use Rattle.image.specs.declared.chroma.Chroma.{Chroma}
 use Rattle.image.specs.declared.chroma.Chroma.TheVariants.{Cb, Cr}
-use Rattle.image.specs.Picture.{Picture, picture_of}
-use Rattle.image.specs.Picture.{Planes}
+use Rattle.image.specs.Picture.{Picture, picture_of, Planes}
 use Rattle.linear.specs.Linear.{linear_sample, linear_row}
 use Rattle.guided.specs.Guided.{guided_sample}
 use Rattle.guided_rows.specs.CatchingUp.{guided_rows}

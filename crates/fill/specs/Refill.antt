@@ -1,13 +1,11 @@
 -- Document 02's W13, 'Painting out glare': "convert again in place only the rows whose cell row is within two of it". Definitions only.
 use Rattle.std.specs.Prelude.{◌≡◌, Bool, true, ◌&&◌, ◌||◌, not, cond, List, [], ◌∷◌, ◌++◌, ℕ, zero, suc, ◌+◌, ◌-◌, ◌*◌, ◌/◌, min, leb, ltb, length, Float}
-use Rattle.laws.specs.Refusals.{Test, first, accepted}
+use Rattle.laws.specs.Refusals.{Test, first, accepted, Answer}
 use Rattle.laws.specs.Numbers.{outside_of}
-use Rattle.laws.specs.Refusals.{Answer}
 use Rattle.image.specs.declared.layout.Layout.{Layout}
 use Rattle.image.specs.declared.rectangle.Rectangle.{Rectangle}
 use Rattle.image.specs.Tests.{bad_siting, tests_for}
-use Rattle.image.specs.Picture.{picture_of, bad_planes}
-use Rattle.image.specs.Picture.{Planes}
+use Rattle.image.specs.Picture.{picture_of, bad_planes, Planes}
 use Rattle.image.specs.Limits.{above_any}
 use Rattle.image.specs.Rectangles.{is_empty, past_cells}
 use Rattle.image.specs.Differences.{other_change}

@@ -4,8 +4,7 @@ use Rattle.laws.specs.Refusals.{Test}
 use Rattle.image.specs.declared.layout.Layout.{Layout}
 use Rattle.laws.specs.Numbers.{outside_of}
 use Rattle.image.specs.Tests.{bad_siting, tests_for}
-use Rattle.image.specs.Picture.{bad_planes}
-use Rattle.image.specs.Picture.{Planes}
+use Rattle.image.specs.Picture.{bad_planes, Planes}
 use Rattle.image.specs.Limits.{above_any}
 use Rattle.image.specs.Scratch.{scratch_need}
 use Rattle.kernels.specs.declared.kernel.YcbcrKernel.{YcbcrKernel}

@@ -1,5 +1,5 @@
 // Rows of a fill: chroma into scratch, then colour into out.
-ghost use Rattle.std.specs.Prelude.{◌≡◌, true, ◌+◌, ◌-◌, ◌*◌, ◌≤◌, ◌<◌, length};
+ghost use Rattle.std.specs.Prelude.{◌≡◌, ◌+◌, ◌-◌, ◌*◌, ◌≤◌, ◌<◌, length};
 ghost use Rattle.image.specs.Picture.{picture_of, planes_seen};
 ghost use Rattle.linear.specs.Linear.{linear_row};
 ghost use Rattle.linear.specs.Inner.Linear.{Ready};

@@ -10,8 +10,7 @@ use native.Mathlib.Omega.{arith}
 use lib.Dec.{T, leb, ltb, eqb}
 use lib.ListN.{length}
 use borrow.Author.Tests.{ltb-false, leb-false, eqb-true, not-false}
-use Rattle.laws.specs.Refusals.{Answer}
-use Rattle.laws.specs.Refusals.{Test, first, accepted}
+use Rattle.laws.specs.Refusals.{Answer, Test, first, accepted}
 use Rattle.laws.proofs.Refusals.{Failed, accepted_failed, accepted_is, failed_both}
 use Rattle.image.specs.Tests.{bad_siting, layout_tests}
 use Rattle.image.specs.Inner.Tests.{Sound}

@@ -9,7 +9,7 @@ use lib.Dec.{ltb}
 use lib.ListN.{length, get_or}
 use lib.Ieee.{Float}
 use borrow.Author.Tests.{le-ltb, lt-leb}
-use Rattle.std.specs.Prelude.{Ok, Err}
+use Rattle.std.specs.Prelude.{Ok}
 use Rattle.laws.specs.Floats.{f32}
 use Rattle.laws.specs.Refusals.{first}
 use Rattle.laws.proofs.Refusals.{failed_accepted}

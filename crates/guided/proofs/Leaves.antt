@@ -10,14 +10,13 @@ use lib.Dec.{ltb, eqb}
 use lib.ListN.{length, get_or, replicate, length-replicate}
 use lib.Ieee.{nan}
 use borrow.Author.Tests.{le-ltb, lt-leb}
-use Rattle.std.specs.Prelude.{Ok, Err}
+use Rattle.std.specs.Prelude.{Ok}
 use Rattle.laws.specs.Refusals.{first, accepted}
 use Rattle.laws.proofs.Refusals.{accepted_failed, accepted_is, failed_accepted, passed_early}
 use Rattle.image.specs.declared.layout.Layout.{Layout}
 use Rattle.image.specs.Tests.{bad_siting, layout_tests, bad_plane}
 use Rattle.image.specs.Samples.{Plane, sample_of, sample_at}
-use Rattle.image.specs.Picture.{short_plane, bad_planes}
-use Rattle.image.specs.Picture.{Planes}
+use Rattle.image.specs.Picture.{short_plane, bad_planes, Planes}
 use Rattle.image.specs.Limits.{above, above_any}
 use Rattle.image.proofs.Any.{none_any}
 use Rattle.image.specs.Scratch.{scratch_need}

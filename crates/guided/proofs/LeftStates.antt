@@ -23,10 +23,9 @@ use Rattle.image.proofs.Layouts.{sound, plain_axes}
 use Rattle.fround.specs.Rounding.{is_same_float}
 use Rattle.fround.proofs.Laws.{same_float}
 use Rattle.taps.specs.declared.phases.Phase.{Phase}
-use Rattle.taps.specs.Taps.{fraction_of, phase_of, pick_phase}
+use Rattle.taps.specs.Taps.{fraction_of, phase_of, pick_phase, phase_at, phases_of}
 use Rattle.guided.specs.declared.geometry.Geometry.{Geometry}
 use Rattle.guided.specs.declared.state.Reader.{Reader}
-use Rattle.taps.specs.Taps.{phase_at, phases_of}
 use Rattle.guided.specs.Calls.{geometry_of, reader_layout, top_of, fresh_h, fresh_f, done_h, done_f, reader_at, after_open, after_seek, after_row, same_phase, phase_in, bad_phases, bad_counters, bad_state}
 use Rattle.guided.proofs.Acceptance.{state_tests, fine, both}
 

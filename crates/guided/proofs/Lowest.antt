@@ -5,8 +5,7 @@ use lib.Ieee.{Float}
 use Rattle.laws.specs.Refusals.{place_of, Ascending, Lowest}
 use Rattle.laws.proofs.Refusals.{given_lowest}
 use Rattle.image.specs.Tests.{tests_for}
-use Rattle.guided.specs.Calls.{Reply}
-use Rattle.guided.specs.Calls.{OpenCall, SeekCall, RowCall, open_tests, seek_tests, row_tests, OpenGiven, SeekGiven, RowGiven}
+use Rattle.guided.specs.Calls.{Reply, OpenCall, SeekCall, RowCall, open_tests, seek_tests, row_tests, OpenGiven, SeekGiven, RowGiven}
 
 pub open_ascends : (o : OpenCall) → Ascending 0 (open_tests o)
 unfolding place_of Ascending tests_for open_tests

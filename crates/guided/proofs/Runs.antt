@@ -19,8 +19,7 @@ use Rattle.image.proofs.Layouts.{sound}
 use Rattle.image.specs.Samples.{sample_at}
 use Rattle.image.specs.declared.chroma.Chroma.{Chroma}
 use Rattle.image.specs.declared.chroma.Chroma.TheVariants.{Cb, Cr}
-use Rattle.image.specs.Picture.{chroma_plane, picture_of, bad_planes}
-use Rattle.image.specs.Picture.{Planes}
+use Rattle.image.specs.Picture.{chroma_plane, picture_of, bad_planes, Planes}
 use Rattle.image.proofs.Pictures.{inside_is, padding_unseen}
 use Rattle.image.specs.Scratch.{cell_at}
 use Rattle.guided.specs.declared.state.Reader.{Reader}

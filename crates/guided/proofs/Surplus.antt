@@ -17,8 +17,7 @@ use Rattle.image.specs.Picture.{Picture, picture_of}
 use Rattle.image.specs.Scratch.{scratch_need}
 use Rattle.image.proofs.Surplus.{SameBehind, run_behind, call_behind}
 use Rattle.guided.specs.Scratch.{slot_at, result_at, column_at, finished_at, detail_at, Stored, num_stored, Down, num_down, parts, down_parts, across_over, down_over, horizontal, finish, across_rows, h_at, catch_up, luma_column, detail_row, component_columns, finished_row, components_over, row_steps}
-use Rattle.guided.specs.Calls.{reader_layout, RowCall, RowGiven, row_tests, row_scratch}
-use Rattle.guided.specs.Calls.{Reply}
+use Rattle.guided.specs.Calls.{reader_layout, RowCall, RowGiven, row_tests, row_scratch, Reply}
 use Rattle.guided.proofs.Places.{slot_fits, result_fits, column_fits, finished_place, detail_place, front_fits}
 use Rattle.guided.proofs.Held.{across_small, down_small}
 use Rattle.guided.proofs.Acceptance.{fine, row_handed}

@@ -23,8 +23,7 @@ use Rattle.image.specs.Tests.{bad_size, bad_ratio, bad_samples, bad_range, div_c
 use Rattle.image.specs.Samples.{sample_of, sample_at}
 use Rattle.image.specs.declared.chroma.Chroma.{Chroma}
 use Rattle.image.specs.declared.chroma.Chroma.TheVariants.{Cb, Cr}
-use Rattle.image.specs.Picture.{chroma_plane, inside, picture_of, ranged, SameButRange, short_plane, bad_planes}
-use Rattle.image.specs.Picture.{Planes}
+use Rattle.image.specs.Picture.{chroma_plane, inside, picture_of, ranged, SameButRange, short_plane, bad_planes, Planes}
 use Rattle.image.specs.Limits.{any_of, above, above_any}
 use Rattle.taps.specs.Taps.{spot_at, sited_at, spot_of, tap_by, phase_of}
 use Rattle.image.specs.Scratch.{scratch_need}

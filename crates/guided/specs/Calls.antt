@@ -9,8 +9,7 @@ use Rattle.image.specs.declared.layout.Layout.{Layout}
 use Rattle.image.specs.Tests.{bad_siting, layout_tests}
 use Rattle.image.specs.declared.chroma.Chroma.{Chroma}
 use Rattle.image.specs.declared.chroma.Chroma.TheVariants.{Cb, Cr}
-use Rattle.image.specs.Picture.{chroma_plane, picture_of, bad_planes}
-use Rattle.image.specs.Picture.{Planes}
+use Rattle.image.specs.Picture.{chroma_plane, picture_of, bad_planes, Planes}
 use Rattle.image.specs.Limits.{above_any}
 use Rattle.fround.specs.Rounding.{is_same_float}
 use Rattle.taps.specs.declared.phases.Phase.{Phase}

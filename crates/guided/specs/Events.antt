@@ -6,12 +6,10 @@ use Rattle.laws.specs.Refusals.{accepted}
 use Rattle.image.specs.Samples.{sample_at}
 use Rattle.image.specs.declared.chroma.Chroma.{Chroma}
 use Rattle.image.specs.declared.chroma.Chroma.TheVariants.{Cb, Cr}
-use Rattle.image.specs.Picture.{Picture, chroma_plane, picture_of, SameButRange}
-use Rattle.image.specs.Picture.{Planes}
+use Rattle.image.specs.Picture.{Picture, chroma_plane, picture_of, SameButRange, Planes}
 use Rattle.guided.specs.declared.state.Reader.{Reader}
-use Rattle.guided.specs.Calls.{Reply}
+use Rattle.guided.specs.Calls.{Reply, OpenCall, SeekCall, RowCall, OpenGiven, SeekGiven, RowGiven}
 use Rattle.guided.specs.Guided.{guided_row}
-use Rattle.guided.specs.Calls.{OpenCall, SeekCall, RowCall, OpenGiven, SeekGiven, RowGiven}
 
 -- ---- events
 

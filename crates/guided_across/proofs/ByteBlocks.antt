@@ -1,10 +1,10 @@
 -- Cells of bytes by sixteens: their sums row by row, and a block more, which may overlap those before.
-use mathlib.Core.Path.{◌≡◌, refl, sym, ap, ◌∙◌}
+use mathlib.Core.Path.{◌≡◌, refl, ap, ◌∙◌}
 use mathlib.Core.List.{List}
 use Prim.Native.Nat.{ℕ, ◌+◌, ◌*◌, ◌≤◌, ◌<◌}
 use native.Mathlib.Numerals.{add-one}
 use native.Mathlib.Omega.{arith}
-use lib.ListN.{length, get_or, replicate}
+use lib.ListN.{get_or, replicate}
 use Rattle.std.proofs.lemmas.List.{get_or-replicate}
 use lib.Ieee.{Float, nan}
 use Rattle.laws.specs.Floats.{f32, ◌⊘◌}

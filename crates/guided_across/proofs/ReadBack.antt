@@ -14,8 +14,7 @@ use Rattle.image.specs.declared.layout.Layout.{Layout}
 use Rattle.image.specs.Samples.{Plane, sample_at}
 use Rattle.image.specs.declared.chroma.Chroma.{Chroma}
 use Rattle.image.specs.declared.chroma.Chroma.TheVariants.{Cb, Cr}
-use Rattle.image.specs.Picture.{Picture, chroma_plane, picture_of}
-use Rattle.image.specs.Picture.{Planes}
+use Rattle.image.specs.Picture.{Picture, chroma_plane, picture_of, Planes}
 use Rattle.image.proofs.Pictures.{inside_is}
 use Rattle.image.specs.Scratch.{scratch_need, cell_at}
 use Rattle.guided.specs.Guided.{three, luma_of, cell_luma, cell_of, across_val}

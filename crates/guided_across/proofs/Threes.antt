@@ -4,7 +4,7 @@ use mathlib.Core.Path.{◌≡◌, refl, sym, ap, ◌∙◌}
 use mathlib.Core.List.{List}
 use Prim.Native.Nat.{ℕ, ◌+◌, ◌-◌, ◌≤◌, ◌<◌, min}
 use native.Mathlib.Omega.{arith}
-use lib.ListN.{get_or, set}
+use lib.ListN.{set}
 use lib.Ieee.{Float, nan}
 use Rattle.laws.specs.Floats.{◌⊕◌}
 use Rattle.laws.specs.Lists.{put}

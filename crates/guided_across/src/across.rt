@@ -1,10 +1,8 @@
 // A chroma row across: for luma a row of cells, a row of their sums and a row of the sums of their squares, for each component a row of
 // cells and a row of the sums of its products with luma. A component's own sums are formed where its slopes are made.
 ghost use Rattle.std.specs.Prelude.{◌≡◌, ◌≤◌, ◌<◌, length};
-ghost use Rattle.image.specs.Inner.Tests.{Sound};
 ghost use Rattle.image.specs.Samples.{sample_at, seen};
-ghost use Rattle.image.specs.Picture.{picture_of, planes_seen};
-ghost use Rattle.image.specs.Picture.{Planes, planes_seen};
+ghost use Rattle.image.specs.Picture.{picture_of, planes_seen, Planes};
 ghost use Rattle.image.specs.Scratch.{scratch_need};
 ghost use Rattle.guided.specs.Scratch.{horizontal};
 ghost use Rattle.guided_across.specs.Inner.Luma.{LumaPixels};

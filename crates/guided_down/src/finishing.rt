@@ -1,5 +1,5 @@
 // A chroma row down, from the sums of the rows round it and from its plane: the original's `GuidedRows::finish`.
-ghost use Rattle.std.specs.Prelude.{◌≡◌, List, ℕ, ◌≤◌, ◌<◌, length};
+ghost use Rattle.std.specs.Prelude.{◌≡◌, ℕ, ◌≤◌, ◌<◌, length};
 ghost use Rattle.image.specs.Samples.{Plane as Seen, seen};
 ghost use Rattle.image.specs.Picture.{picture_of};
 ghost use Rattle.image.specs.Scratch.{scratch_need};

@@ -3,14 +3,12 @@ use mathlib.Core.Path.{◌≡◌, refl, ap, ◌∙◌}
 use mathlib.Core.List.{List}
 use Prim.Native.Nat.{ℕ, ◌+◌, ◌*◌, ◌≤◌, ◌<◌}
 use native.Mathlib.Omega.{arith}
-use lib.Ieee.{Float, nan}
-use lib.ListN.{get_or}
+use lib.Ieee.{Float}
 use Rattle.laws.specs.Floats.{f32, ◌⊖◌}
 use Rattle.laws.specs.Lists.{put}
 use Rattle.laws.proofs.Lists.{put_same}
 use Rattle.laws.proofs.Counts.{none_plus, plus_none}
 use Rattle.image.specs.declared.layout.Layout.{Layout}
-use Rattle.image.specs.Inner.Tests.{Sound}
 use Rattle.image.specs.Samples.{Plane, sample_at}
 use Rattle.image.specs.Scratch.{cell_at, scratch_need}
 use Rattle.guided.specs.Guided.{across_to, detail_of}

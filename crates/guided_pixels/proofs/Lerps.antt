@@ -1,14 +1,11 @@
 -- Cells lerped across, and the pixels that are made of them: only the cells of the row are looked at.
-use mathlib.Core.Path.{◌≡◌, refl, ap, ◌∙◌}
-use Prim.Native.Nat.{ℕ, ◌+◌, ◌-◌, ◌/◌, ◌%◌, ◌<◌, min}
-use native.Mathlib.Omega.{arith}
+use mathlib.Core.Path.{◌≡◌, ap, ◌∙◌}
+use Prim.Native.Nat.{ℕ, ◌+◌, ◌-◌, ◌/◌, ◌%◌, ◌<◌}
 use lib.Ieee.{Float}
 use Rattle.image.specs.declared.layout.Layout.{Layout}
-use Rattle.image.specs.Inner.Tests.{Sound}
 use Rattle.taps.specs.declared.phases.Phase.{Phase}
 use Rattle.taps.specs.Taps.{phase_of}
 use Rattle.guided.specs.Guided.{across_to}
-use Rattle.guided.proofs.Taken.{own_column}
 use Rattle.guided_pixels.specs.Inner.Across.{phased}
 
 -- a pixel's phase is lerped at its own cell

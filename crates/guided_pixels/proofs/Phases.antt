@@ -1,6 +1,6 @@
 -- The pixels of a cell by its phases, and rows cell by cell.
 -- `pixel_is` is the heart: pixel k of cell i has quotient i and rest k by the ratio.
-use mathlib.Core.Path.{◌≡◌, refl, sym, ap, ◌∙◌}
+use mathlib.Core.Path.{◌≡◌, refl, ap, ◌∙◌}
 use mathlib.Core.Bool.{Bool, true, false, cond}
 use mathlib.Core.List.{List, [], ◌∷◌}
 use Prim.Native.Nat.{ℕ, zero, suc, ◌+◌, ◌-◌, ◌*◌, ◌/◌, ◌%◌, ◌≤◌, ◌<◌, min}
@@ -8,18 +8,16 @@ use native.Mathlib.Nat.{zero-mul}
 use native.Mathlib.Omega.{arith}
 use borrow.Author.Tests.{lt-leb}
 use lib.Arith.{digits_div, digits_mod}
-use lib.ListN.{length, get_or}
+use lib.ListN.{get_or}
 use lib.Ieee.{Float, nan, div, of_int}
 use Rattle.laws.specs.Floats.{f32}
-use Rattle.laws.proofs.Rows.{next_row, row_fits}
+use Rattle.laws.proofs.Rows.{next_row}
 use Rattle.image.specs.declared.layout.Layout.{Layout}
 use Rattle.image.specs.Inner.Tests.{Sound}
 use Rattle.taps.specs.declared.phases.Phase.{Phase}
-use Rattle.taps.specs.Taps.{lerp_of, phase_of}
+use Rattle.taps.specs.Taps.{lerp_of, phase_of, phase_at, phases_of}
 use Rattle.guided.specs.Guided.{across_to}
-use Rattle.taps.specs.Taps.{phase_at, phases_of}
 use Rattle.image.proofs.Layouts.{begins}
-use Rattle.laws.proofs.Counts.{none_plus, part_rest}
 use Rattle.guided_pixels.specs.Inner.Across.{phased}
 
 -- ---- a cell that has both neighbours

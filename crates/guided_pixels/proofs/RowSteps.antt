@@ -9,8 +9,7 @@ use Rattle.image.specs.declared.layout.Layout.{Layout}
 use Rattle.image.specs.Samples.{sample_at}
 use Rattle.image.specs.declared.chroma.Chroma.{Chroma}
 use Rattle.image.specs.declared.chroma.Chroma.TheVariants.{Cb, Cr}
-use Rattle.image.specs.Picture.{picture_of}
-use Rattle.image.specs.Picture.{Planes}
+use Rattle.image.specs.Picture.{picture_of, Planes}
 use Rattle.image.proofs.Pictures.{inside_is}
 use Rattle.image.specs.Scratch.{cell_at}
 use Rattle.guided.specs.Guided.{detail_of}

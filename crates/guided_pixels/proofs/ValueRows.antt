@@ -1,22 +1,20 @@
 -- A component's values: only its rows of cells and the detail are looked at.
 -- These rows lie behind the finished rows: `inputs_inside`.
-use mathlib.Core.Path.{◌≡◌, refl, sym, ap, ◌∙◌}
+use mathlib.Core.Path.{◌≡◌, refl, ap, ◌∙◌}
 use mathlib.Core.List.{List}
 use Prim.Native.Nat.{ℕ, ◌+◌, ◌*◌, ◌/◌, ◌≤◌, ◌<◌}
 use native.Mathlib.Omega.{arith}
-use lib.ListN.{get_or}
-use lib.Ieee.{Float, nan}
+use lib.Ieee.{Float}
 use Rattle.laws.specs.Floats.{◌⊕◌, ◌⊗◌}
 use Rattle.laws.specs.Lists.{put}
 use Rattle.laws.proofs.Lists.{put_same}
 use Rattle.image.specs.declared.layout.Layout.{Layout}
-use Rattle.image.specs.Inner.Tests.{Sound}
 use Rattle.image.specs.declared.chroma.Chroma.{Chroma}
 use Rattle.fround.specs.Rounding.{fmin, fmax}
-use Rattle.image.specs.Scratch.{cell_at, scratch_need}
+use Rattle.image.specs.Scratch.{scratch_need}
 use Rattle.guided.specs.Guided.{across_to, value_of}
-use Rattle.guided.specs.Scratch.{detail_at, finished_at, result_at, first_down, Down, Least, Greatest, num_down, column_at}
-use Rattle.guided.proofs.Places.{buffer_behind, result_fits, column_behind, column_fits, detail_place}
+use Rattle.guided.specs.Scratch.{finished_at, result_at, Down, Least, Greatest, num_down, column_at}
+use Rattle.guided.proofs.Places.{buffer_behind, result_fits, column_behind, column_fits}
 use Rattle.guided.proofs.Held.{down_small}
 use Rattle.guided_pixels.specs.declared.value_inputs.ValueInputs.{ValueInputs}
 use Rattle.laws.proofs.Counts.{none_plus, plus_none}

@@ -3,7 +3,6 @@ ghost use Rattle.std.specs.Prelude.{◌≡◌, ◌≤◌, ◌<◌, length};
 ghost use Rattle.image.specs.Inner.Tests.{Sound};
 ghost use Rattle.image.specs.Samples.{Plane as Seen, seen};
 ghost use Rattle.image.specs.Picture.{picture_of};
-ghost use Rattle.image.specs.Picture.{Planes};
 ghost use Rattle.image.specs.Scratch.{scratch_need};
 ghost use Rattle.guided_across.specs.Inner.Luma.{LumaPixels};
 ghost use Rattle.guided_window.specs.Inner.Lent.{components_of};

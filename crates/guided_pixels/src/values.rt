@@ -1,10 +1,8 @@
 // A component's values in the pixels of a picture row, from its rows of cells and the detail: document 01's "c + a·(luma − y), then raised to
 // the least and lowered to the greatest c" of a pixel's cell, c and a being the cells and slopes lerped across.
-ghost use Rattle.std.specs.Prelude.{◌≡◌, ℕ, ◌+◌, ◌*◌, ◌≤◌, ◌<◌, length, get_or};
-ghost use Rattle.std.specs.Float.{nan};
+ghost use Rattle.std.specs.Prelude.{◌≡◌, ℕ, ◌+◌, ◌*◌, ◌≤◌, ◌<◌, length};
 ghost use Rattle.image.specs.Inner.Tests.{Sound};
 ghost use Rattle.image.specs.Scratch.{cell_at, scratch_need};
-ghost use Rattle.guided.specs.Guided.{across_to};
 ghost use Rattle.guided_pixels.specs.Inner.Values.{InputsInside, CellGiven, value_at, value_row};
 ghost use Rattle.guided_pixels.specs.Inner.Laws.{value_keeps, cell_keeps, value_within};
 

@@ -4,8 +4,7 @@ use mathlib.Core.List.{List, [], ◌∷◌}
 use Prim.Native.Nat.{ℕ, ◌≤◌}
 use lib.ListN.{length, get_or}
 use lib.Ieee.{Float, nan}
-use Rattle.laws.specs.Refusals.{Answer}
-use Rattle.laws.specs.Refusals.{accepted}
+use Rattle.laws.specs.Refusals.{Answer, accepted}
 use Rattle.laws.proofs.Refusals.{accepted_is}
 use Rattle.image.specs.declared.chroma.Chroma.TheVariants.{Cb}
 use Rattle.image.specs.declared.layout.Layout.{Layout}

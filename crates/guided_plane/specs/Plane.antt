@@ -1,14 +1,12 @@
 -- A whole chroma plane, guided by luma: the reasons for turning the call down, and what it gives. Definitions only.
 use Rattle.std.specs.Prelude.{◌≡◌, Bool, false, ◌||◌, cond, List, [], ◌∷◌, ◌++◌, ℕ, ◌*◌, ltb, length, Float}
 use Rattle.laws.specs.Lists.{rows}
-use Rattle.laws.specs.Refusals.{Test, first, accepted}
-use Rattle.laws.specs.Refusals.{Answer}
+use Rattle.laws.specs.Refusals.{Test, first, accepted, Answer}
 use Rattle.image.specs.declared.layout.Layout.{Layout}
 use Rattle.image.specs.Tests.{bad_siting, layout_tests}
 use Rattle.image.specs.Samples.{Plane}
 use Rattle.image.specs.declared.chroma.Chroma.TheVariants.{Cb}
-use Rattle.image.specs.Picture.{Picture, picture_of, short_plane}
-use Rattle.image.specs.Picture.{Planes}
+use Rattle.image.specs.Picture.{Picture, picture_of, short_plane, Planes}
 use Rattle.image.specs.Limits.{above}
 use Rattle.fround.specs.Rounding.{round_clamped}
 use Rattle.image.specs.Scratch.{scratch_need}

@@ -1,6 +1,6 @@
 -- Loops that write a run: their invariant is that s is what `put` leaves of the run so far. `put_more` is a turn of a value, and
 -- `put_block` a turn of a block, which may overlap those before.
-use Rattle.std.proofs.Common.{◌≡◌, ℕ, ◌+◌, ◌≤◌, ◌<◌, List, length, set, refl, sym, ap, ◌∙◌, add-one, arith}
+use Rattle.std.proofs.Common.{◌≡◌, ℕ, ◌+◌, ◌≤◌, ◌<◌, List, length, set, refl, sym, ap, ◌∙◌, add-one}
 use Rattle.laws.specs.Lists.{put}
 use Rattle.laws.proofs.Lists.{put_same, put_over}
 

@@ -14,8 +14,7 @@ use borrow.Author.Tests.{lt-ltb, le-ltb, ltb-true, ltb-false}
 use Rattle.image.specs.declared.layout.Layout.{Layout}
 use Rattle.image.specs.Tests.{most_of}
 use Rattle.image.specs.Samples.{Plane, sample_of, sample_at, place}
-use Rattle.image.specs.Picture.{inside, picture_of}
-use Rattle.image.specs.Picture.{Planes}
+use Rattle.image.specs.Picture.{inside, picture_of, Planes}
 use Rattle.image.specs.Limits.{any_of, above, above_any, exceeds}
 use Rattle.image.specs.Inner.Limits.{greatest}
 use Rattle.image.proofs.Layouts.{neither}

@@ -13,8 +13,7 @@ use Rattle.image.proofs.Layouts.{neither}
 use lib.ListN.{length}
 use Rattle.image.specs.declared.layout.Layout.{Layout}
 use Rattle.image.specs.Samples.{Plane, place}
-use Rattle.image.specs.Picture.{short_plane, bad_planes}
-use Rattle.image.specs.Picture.{Planes}
+use Rattle.image.specs.Picture.{short_plane, bad_planes, Planes}
 
 -- ---- the steps of the test: the stride is below the row; the data ends before the first row's end; it ends before the last row's
 

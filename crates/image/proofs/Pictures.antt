@@ -10,8 +10,7 @@ use borrow.Author.Tests.{lt-ltb, ltb-true}
 use Rattle.image.specs.declared.layout.Layout.{Layout}
 use Rattle.image.specs.Samples.{sample_of, sample_at}
 use Rattle.image.specs.declared.chroma.Chroma.{Chroma}
-use Rattle.image.specs.Picture.{Picture, chroma_plane, inside, picture_of}
-use Rattle.image.specs.Picture.{Planes}
+use Rattle.image.specs.Picture.{Picture, chroma_plane, inside, picture_of, Planes}
 
 -- inside the picture stands the sample itself
 pub inside_is : (w h : ℕ) (f : ℕ → ℕ → ℕ) (x y : ℕ) → x < w → y < h → inside w h f y x ≡ f y x

@@ -3,8 +3,7 @@ use Rattle.std.specs.Prelude.{Bool, false, ◌||◌, ℕ, zero, suc, ltb}
 use Rattle.image.specs.declared.layout.Layout.{Layout}
 use Rattle.image.specs.Samples.{Plane, sample_at}
 use Rattle.image.specs.declared.chroma.Chroma.TheVariants.{Cb, Cr}
-use Rattle.image.specs.Picture.{Picture}
-use Rattle.image.specs.Picture.{Planes}
+use Rattle.image.specs.Picture.{Picture, Planes}
 
 -- some i below n passes
 unfoldable pub any_of : ℕ → (ℕ → Bool) → Bool

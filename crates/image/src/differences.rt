@@ -1,7 +1,7 @@
 // Refusal 21's test: whether two pictures differ where no change was announced.
 //
 // The bytes of a row are compared as slices, whole, and it is asked between rows whether any differed.
-ghost use Rattle.std.specs.Prelude.{◌≡◌, ◌||◌, not, cond, false, ◌+◌, ◌*◌, ◌≤◌, ◌<◌, eqb, length, get_or};
+ghost use Rattle.std.specs.Prelude.{◌≡◌, ◌||◌, not, false, ◌+◌, ◌*◌, ◌≤◌, ◌<◌, eqb, length, get_or};
 ghost use Rattle.image.specs.Inner.Tests.{Sound};
 ghost use Rattle.image.specs.Picture.{short_plane, bad_planes, planes_seen};
 ghost use Rattle.image.specs.Samples.{seen};

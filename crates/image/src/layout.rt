@@ -1,7 +1,7 @@
 // Sizes, ratios, axes, sample bytes, maxval and range, and the tests on them. Each test but 5's answers for every number, so that any may be asked first.
 ghost use Rattle.std.specs.Prelude.{◌≡◌, cond, ◌*◌, ◌≤◌};
 ghost use Rattle.laws.specs.Refusals.{first};
-ghost use Rattle.image.specs.Tests.{most_of, div_ceil, bad_size, bad_pair, bad_ratio, bad_samples, bad_range, bad_chroma, co_sited, bad_siting, tests_for, layout_tests};
+ghost use Rattle.image.specs.Tests.{most_of, div_ceil, bad_size, bad_pair, bad_ratio, bad_samples, bad_range, bad_chroma, bad_siting, tests_for, layout_tests};
 
 use laws::{Axis, Refusal, Siting, outside};
 

@@ -2,9 +2,8 @@
 // 4080/219, since 255 * (y - 16) / 219 is y + (36 y - 4080) / 219, and chroma's. It is near enough to be exact but close to a half, where the
 // plain form serves. Chroma is a float here, in 256ths less its centre.
 ghost use Rattle.std.specs.Prelude.{◌≡◌, ℕ, ◌≤◌, min};
-ghost use Rattle.kernels.specs.T871.{studio255};
 ghost use Rattle.kernels.specs.Inner.Forms.{studio_chroma};
-ghost use Rattle.kernel_blocks.specs.Inner.Floating.{Chroma, Centred};
+ghost use Rattle.kernel_blocks.specs.Inner.Floating.{Chroma};
 ghost use Rattle.kernel_blocks.specs.Inner.Studio.{luma_part, less_shift, Part, Parted, Tone, Toned, tone_bits, fall_bits, ToneSure, FallSure, ToneByte, FallByte};
 
 use crate::chroma_offsets::{Grid, in_256ths};

@@ -2,9 +2,8 @@
 use mathlib.Core.Path.{◌≡◌, refl, ap, ◌∙◌}
 use Prim.Native.Nat.{ℕ}
 use native.Mathlib.Omega.{arith}
-use Rattle.laws.specs.Refusals.{Answer}
+use Rattle.laws.specs.Refusals.{Answer, first, place_of, Ascending, Lowest}
 use Rattle.std.specs.Prelude.{Ok, Err}
-use Rattle.laws.specs.Refusals.{first, place_of, Ascending, Lowest}
 use Rattle.laws.proofs.Refusals.{given_lowest}
 use Rattle.image.specs.declared.layout.Range.{Range}
 use Rattle.kernels.specs.Kernels.{Colour, fixed255}

@@ -13,7 +13,6 @@ use lib.Signed.{non_neg}
 use mir.Val.{to_z, of_z, SFits}
 use mir.Facts.{to_z-of_z}
 use mir.Syntax.{w32}
-use Rattle.laws.specs.Differences.{floor_div}
 use Rattle.laws.specs.Inner.Differences.{Diff}
 use Rattle.laws.proofs.Differences.{of_pos, move, plus}
 use Rattle.kernels.specs.Kernels.{fixed_red, fixed_blue, fixed_green_cb, fixed_green_cr}

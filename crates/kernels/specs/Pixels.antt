@@ -1,8 +1,6 @@
 -- What the single-pixel calls answer. Definitions only.
-use Rattle.std.specs.Prelude.{Bool, true, false, ◌||◌, List, [], ◌∷◌, ℕ, ltb, eqb}
-use Rattle.laws.specs.Refusals.{Answer}
-use Rattle.std.specs.Prelude.{Result, Ok, Err}
-use Rattle.laws.specs.Refusals.{Test, first}
+use Rattle.std.specs.Prelude.{Bool, true, false, ◌||◌, List, [], ◌∷◌, ℕ, ltb, eqb, Result, Ok, Err}
+use Rattle.laws.specs.Refusals.{Answer, Test, first}
 use Rattle.laws.specs.Numbers.{outside_of}
 use Rattle.image.specs.declared.layout.Range.{Range}
 use Rattle.image.specs.declared.layout.Range.TheVariants.{Full, Studio}

@@ -9,7 +9,6 @@
 //
 // The four functions below are each one sum. They stay four: a shared one would have to be told its table, its raise and its rule.
 ghost use Rattle.std.specs.Prelude.{◌≡◌, ◌-◌, ◌*◌, ◌<◌};
-ghost use Rattle.kernels.specs.Kernels.{fixed_red, fixed_blue, fixed_green_cb, fixed_green_cr};
 ghost use Rattle.kernels.specs.Inner.Forms.{raised_fixed};
 ghost use Rattle.kernels.specs.Inner.Tables.{Tabled};
 

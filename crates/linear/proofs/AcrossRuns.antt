@@ -1,7 +1,7 @@
 -- Outputs between neighbouring cells: which cells and which fraction each has, shown once for any ratio and either siting.
 -- The hard step is `centred_between`: output r / 2 + m lies between cells m / r and m / r + 1, by splitting m as (m / r) * r + m % r. Co-sited,
 -- output m does by the definition.
-use mathlib.Core.Path.{◌≡◌, refl, sym, ap, subst, ◌∙◌}
+use mathlib.Core.Path.{◌≡◌, refl, sym, ap, ◌∙◌}
 use mathlib.Core.List.{List, [], ◌∷◌}
 use Prim.Native.Nat.{ℕ, zero, suc, ◌+◌, ◌-◌, ◌*◌, ◌/◌, ◌%◌, ◌≤◌, ◌<◌}
 use native.Mathlib.Nat.{mul_comm, le_of_mul-le-mul_right, le_trans, div-add-mod', mod-lt, div-lt_iff_lt-mul, div-mul-le_self}
@@ -18,7 +18,7 @@ use Rattle.laws.specs.declared.axes.Axis.{Axis}
 use Rattle.taps.specs.declared.positions.Tap.{Tap}
 use Rattle.taps.specs.Taps.{lerp_of, spot_at, sited_at, spot_of, tap_on, tap_by}
 use Rattle.linear.specs.Linear.{across_by}
-use Rattle.linear.specs.Inner.AcrossRows.{head_of, lead_of, part_of, parts_in, between_at, between_run, across_run}
+use Rattle.linear.specs.Inner.AcrossRows.{head_of, part_of, parts_in, between_at, between_run, across_run}
 use Rattle.image.specs.Scratch.{cell_at}
 
 -- output j of pair i, as a loop that has read the pair's cells a and b stores it

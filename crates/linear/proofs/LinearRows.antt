@@ -12,7 +12,7 @@ use lib.Ieee.{Float, nan}
 use Rattle.laws.specs.Lists.{put}
 use Rattle.laws.proofs.Lists.{put_same, put_inside, length_put}
 use Rattle.image.specs.declared.layout.Layout.{Layout}
-use Rattle.std.specs.Prelude.{Ok, Err}
+use Rattle.std.specs.Prelude.{Ok}
 use Rattle.laws.specs.Refusals.{first}
 use Rattle.laws.proofs.Refusals.{accepted_failed, failed_both}
 use Rattle.image.specs.Tests.{tests_for}
@@ -23,11 +23,10 @@ use Rattle.fround.specs.Rounding.{round_clamped}
 use Rattle.taps.specs.declared.positions.Tap.{Tap}
 use Rattle.taps.specs.Taps.{tap_by}
 use Rattle.taps.specs.Inner.Taps.{TapGiven}
-use Rattle.linear.specs.Linear.{down_by, linear_down, linear_sample, linear_row, linear_scratch, linear_cells_at, linear_tests}
+use Rattle.linear.specs.Linear.{down_by, linear_down, linear_sample, linear_row, linear_scratch, linear_cells_at, linear_tests, across_by}
 use Rattle.linear.specs.Inner.Linear.{Ready}
 use Rattle.image.specs.Scratch.{scratch_need, cell_at}
 use Rattle.linear.specs.Inner.Down.{down_run}
-use Rattle.linear.specs.Linear.{across_by}
 use Rattle.linear.specs.Inner.AcrossRows.{across_run}
 use Rattle.linear.specs.Inner.Stores.{store_run}
 use Rattle.taps.proofs.Spots.{tap_given, own_cell}

@@ -16,8 +16,7 @@ use lib.Ieee.Scale.{grid}
 use Rattle.laws.specs.Floats.{f32}
 use Rattle.laws.proofs.Values.{whole_value}
 use Rattle.taps.specs.Taps.{Spot, lerp_of, fraction_of, tap_on}
-use Rattle.linear.specs.Linear.{down_by}
-use Rattle.linear.specs.Linear.{across_by}
+use Rattle.linear.specs.Linear.{down_by, across_by}
 use Rattle.linear.specs.Bound.{Spanned}
 use Rattle.taps.proofs.Spots.{Valid}
 use Rattle.taps.proofs.Table.{Fraction, tap_fraction}

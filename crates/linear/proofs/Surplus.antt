@@ -5,8 +5,7 @@ use Prim.Native.Nat.{ℕ, zero, suc, ◌≤◌}
 use native.Mathlib.Omega.{arith}
 use lib.ListN.{get_or}
 use lib.Ieee.{Float, nan}
-use Rattle.laws.specs.Refusals.{Answer}
-use Rattle.laws.specs.Refusals.{accepted}
+use Rattle.laws.specs.Refusals.{Answer, accepted}
 use Rattle.image.specs.declared.layout.Layout.{Layout}
 use Rattle.image.specs.Samples.{Plane}
 use Rattle.image.specs.Scratch.{scratch_need}

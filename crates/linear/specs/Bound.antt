@@ -1,9 +1,8 @@
 -- What is claimed of linear floats: "Its float lies within 1/16 of the exact bilinear value, a fraction of whole numbers, for samples up to 65,535"; that it
 -- is that value where both denominators are 1, 2 or 4 (W5); and that it never leaves the span of its cells. Statements only.
-use Rattle.std.specs.Prelude.{◌≡◌, ◌⊎◌, false, ℕ, ◌+◌, ◌-◌, ◌*◌, ◌/◌, ◌%◌, ◌≤◌, ◌<◌, min, T, Float}
+use Rattle.std.specs.Prelude.{◌≡◌, ◌⊎◌, false, ℕ, ◌+◌, ◌-◌, ◌*◌, ◌/◌, ◌%◌, ◌≤◌, ◌<◌, min, T, Float, Ok}
 use Rattle.std.specs.Float.{nan, inf, fin}
 use Rattle.std.specs.Float.Ieee.{up, down, le}
-use Rattle.std.specs.Prelude.{Ok, Err}
 use Rattle.laws.specs.declared.axes.Siting.{Siting}
 use Rattle.laws.specs.declared.axes.Siting.TheVariants.{Centred, CoSited}
 use Rattle.laws.specs.Floats.{f32, over, under}

@@ -3,8 +3,7 @@
 use Rattle.std.specs.Prelude.{◌≡◌, false, cond, List, [], ◌∷◌, ◌++◌, ℕ, zero, suc, ◌*◌, ltb, length, Float}
 use Rattle.laws.specs.Floats.{f32}
 use Rattle.laws.specs.Lists.{put, rows}
-use Rattle.laws.specs.Refusals.{Test, first, accepted}
-use Rattle.laws.specs.Refusals.{Answer}
+use Rattle.laws.specs.Refusals.{Test, first, accepted, Answer}
 use Rattle.image.specs.declared.layout.Layout.{Layout}
 use Rattle.image.specs.Tests.{tests_for}
 use Rattle.image.specs.Samples.{Plane, sample_at}

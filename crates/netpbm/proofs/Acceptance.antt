@@ -10,9 +10,8 @@ use native.Mathlib.Omega.{arith}
 use lib.Dec.{ltb, eqb}
 use lib.ListN.{length}
 use borrow.Author.Tests.{ltb-false, le-ltb, eq-eqb, eqb-false}
-use Rattle.laws.specs.Refusals.{Answer}
-use Rattle.std.specs.Prelude.{Ok, Err}
-use Rattle.laws.specs.Refusals.{first}
+use Rattle.laws.specs.Refusals.{Answer, first}
+use Rattle.std.specs.Prelude.{Ok, Err, Result}
 use Rattle.laws.specs.Numbers.{outside_of}
 use Rattle.laws.proofs.Refusals.{Failed, accepted_failed, failed_accepted, failed_both}
 use Rattle.image.specs.declared.layout.Layout.{Layout}
@@ -25,7 +24,6 @@ use Rattle.netpbm.specs.Inner.Reading.{read_as, pick_reading, reading_of}
 use Rattle.netpbm.specs.Inner.Taken.{Taken}
 use Rattle.netpbm.proofs.Fields.{ImageInside, image_inside, rows_behind}
 use Rattle.netpbm.proofs.Ratios.{Fits, ratio_fits}
-use Rattle.std.specs.Prelude.{Result}
 use Rattle.laws.specs.declared.refusal.Refusal.{Refusal}
 use Rattle.netpbm.specs.declared.reading.Reading.{Reading}
 

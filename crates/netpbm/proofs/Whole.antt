@@ -10,9 +10,8 @@ use native.Mathlib.Omega.{arith}
 use lib.Dec.{ltb, eqb}
 use lib.ListN.{length}
 use borrow.Author.Tests.{le-ltb, lt-ltb, eqb-false}
-use Rattle.laws.specs.Refusals.{Answer}
+use Rattle.laws.specs.Refusals.{Answer, Test, first, accepted}
 use Rattle.std.specs.Prelude.{Result, Ok, Err}
-use Rattle.laws.specs.Refusals.{Test, first, accepted}
 use Rattle.laws.specs.Inner.Refusals.{further}
 use Rattle.laws.proofs.Refusals.{accepted_is, accepted_failed, failed_accepted, failed_both, refused_early, passed_early, refused_here, passed_over, first_further, further_same}
 use Rattle.image.specs.declared.layout.Layout.{Layout}

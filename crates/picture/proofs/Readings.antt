@@ -13,13 +13,11 @@ use lib.ListN.{length, drop, take, length-drop}
 use lib.Seq.{take_all}
 use lib.Ieee.{Float}
 use borrow.Author.Tests.{le-ltb, lt-ltb}
-use Rattle.laws.specs.Refusals.{Answer}
+use Rattle.laws.specs.Refusals.{Answer, first, accepted}
 use Rattle.std.specs.Prelude.{Ok, Err}
-use Rattle.laws.specs.Refusals.{first, accepted}
 use Rattle.laws.proofs.Refusals.{accepted_failed, failed_accepted, passed_early, refused_early, refused_here, passed_over}
 use Rattle.image.specs.declared.layout.Layout.{Layout}
-use Rattle.image.specs.Picture.{Picture, short_plane, bad_planes, picture_of}
-use Rattle.image.specs.Picture.{Planes}
+use Rattle.image.specs.Picture.{Picture, short_plane, bad_planes, picture_of, Planes}
 use Rattle.image.specs.Tests.{bad_siting, bad_plane, layout_tests}
 use Rattle.image.specs.Inner.Tests.{Sound}
 use Rattle.image.proofs.Layouts.{sound}

@@ -8,9 +8,8 @@ use native.Mathlib.Omega.{arith}
 use lib.ListN.{length, length-append}
 use lib.Ieee.{Float}
 use borrow.Author.Tests.{le-ltb, ltb-false}
-use Rattle.laws.specs.Refusals.{Answer}
+use Rattle.laws.specs.Refusals.{Answer, first, accepted}
 use Rattle.std.specs.Prelude.{Ok, Err}
-use Rattle.laws.specs.Refusals.{first, accepted}
 use Rattle.laws.proofs.Refusals.{accepted_failed, failed_both, passed_early, refused_early}
 use Rattle.image.specs.Limits.{exceeds}
 use Rattle.image.specs.Scratch.{scratch_need}

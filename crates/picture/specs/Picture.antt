@@ -1,9 +1,7 @@
 -- 'The picture program' of document 01 as one call: the reasons for turning the input down, and the bytes that it writes.
 -- Definitions only.
-use Rattle.std.specs.Prelude.{◌≡◌, Bool, true, false, cond, List, [], ◌∷◌, ◌++◌, ℕ, ◌+◌, ◌*◌, ltb, length, drop, Float}
-use Rattle.laws.specs.Refusals.{Answer}
-use Rattle.std.specs.Prelude.{Ok, Err}
-use Rattle.laws.specs.Refusals.{Test, first}
+use Rattle.std.specs.Prelude.{◌≡◌, Bool, true, false, cond, List, [], ◌∷◌, ◌++◌, ℕ, ◌+◌, ◌*◌, ltb, length, drop, Float, Ok, Err, Result}
+use Rattle.laws.specs.Refusals.{Answer, Test, first}
 use Rattle.image.specs.declared.layout.Layout.{Layout}
 use Rattle.image.specs.declared.chroma.Chroma.{Chroma}
 use Rattle.image.specs.declared.chroma.Chroma.TheVariants.{Cb, Cr}
@@ -17,7 +15,6 @@ use Rattle.guided_rows.specs.CatchingUp.{guided_rows}
 use Rattle.netpbm.specs.Images.{image_sample}
 use Rattle.netpbm.specs.Lines.{ppm_header}
 use Rattle.netpbm.specs.Reading.{cb_at, cr_at, input_layout, reading_tests}
-use Rattle.std.specs.Prelude.{Result, Ok, Err}
 use Rattle.laws.specs.declared.refusal.Refusal.{Refusal}
 use Rattle.laws.specs.declared.refusal.Refusal.TheVariants.{ShortScratch, ShortOutput, AboveMaxval}
 

@@ -9,15 +9,13 @@ use lib.Dec.{T, leb, ltb}
 use lib.ListN.{length, replicate, length-replicate}
 use lib.Ieee.{Float, nan}
 use borrow.Author.Tests.{le-ltb}
-use Rattle.laws.specs.Refusals.{Answer}
-use Rattle.std.specs.Prelude.{Ok, Err}
-use Rattle.laws.specs.Refusals.{accepted, first}
+use Rattle.laws.specs.Refusals.{Answer, accepted, first}
+use Rattle.std.specs.Prelude.{Ok}
 use Rattle.laws.proofs.Refusals.{Failed, accepted_is, failed_accepted}
 use Rattle.image.specs.Picture.{bad_planes}
 use Rattle.image.specs.Scratch.{scratch_need}
 use Rattle.guided.specs.declared.state.Reader.{Reader}
-use Rattle.guided.specs.Calls.{Reply}
-use Rattle.guided.specs.Calls.{reader_layout, bad_state, row_tests}
+use Rattle.guided.specs.Calls.{Reply, reader_layout, bad_state, row_tests}
 use Rattle.guided.specs.Events.{RanRow}
 use Rattle.guided.proofs.Acceptance.{all_failed, is_true}
 use Rattle.rgb_rows.specs.RgbRows.{Side, RgbRowCall, RgbRowGiven, rgb_row_tests, row_of, side_reader, side_scratch, event_of}

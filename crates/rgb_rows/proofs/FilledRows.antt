@@ -9,8 +9,7 @@ use native.Mathlib.Omega.{arith}
 use lib.Dec.{T}
 use lib.ListN.{length, get_or, take, replicate, length-replicate}
 use lib.Ieee.{Float, nan}
-use Rattle.laws.specs.Refusals.{Answer}
-use Rattle.laws.specs.Refusals.{accepted}
+use Rattle.laws.specs.Refusals.{Answer, accepted}
 use Rattle.laws.specs.Lists.{put, table}
 use Rattle.laws.proofs.Lists.{take_put, table_at}
 use Rattle.image.specs.declared.layout.Layout.{Layout}
@@ -26,9 +25,8 @@ use Rattle.kernels.specs.declared.kernel.YcbcrKernel.TheVariants.{Exact}
 use Rattle.colour_rows.specs.Colours.{colour_in}
 use Rattle.guided.specs.Guided.{guided_sample, guided_row}
 use Rattle.guided.specs.declared.state.Reader.{Reader}
-use Rattle.guided.specs.Calls.{Reply}
+use Rattle.guided.specs.Calls.{Reply, reader_layout, row_out, OpenCall}
 use Rattle.guided.specs.Scratch.{finished_at}
-use Rattle.guided.specs.Calls.{reader_layout, row_out, OpenCall}
 use Rattle.guided.specs.Events.{Event, Start, Gives, here, later, done, Run, picture_by, given, out_of}
 use Rattle.guided.proofs.Acceptance.{all_failed}
 use Rattle.guided.proofs.Runs.{Gave, gave}

@@ -7,7 +7,7 @@ use lib.Dec.{lit<}
 use lib.ListN.{get_or, replicate}
 use lib.Ieee.{Float, nan, add, sub, sum, neg, mul, div, round, size, span, climb, units, odd, lt, of_int, of_bits, of_fields}
 use lib.Count.{count_trailing_zeros}
-use Rattle.std.specs.Prelude.{Ok, Err}
+use Rattle.std.specs.Prelude.{Ok}
 use Rattle.laws.specs.Differences.{floor_div, limit, within}
 use Rattle.laws.specs.Lists.{table}
 use Rattle.laws.specs.Refusals.{first}
@@ -17,8 +17,7 @@ use Rattle.image.specs.declared.layout.Range.TheVariants.{Full}
 use Rattle.image.specs.declared.chroma.Chroma.{Chroma}
 use Rattle.image.specs.declared.chroma.Chroma.TheVariants.{Cb, Cr}
 use Rattle.image.specs.Tests.{bad_size, bad_ratio, bad_samples, bad_range, div_ceil, bad_chroma, bad_siting, bad_plane, tests_for}
-use Rattle.image.specs.Picture.{chroma_plane, inside, picture_of, short_plane, bad_planes}
-use Rattle.image.specs.Picture.{Planes}
+use Rattle.image.specs.Picture.{chroma_plane, inside, picture_of, short_plane, bad_planes, Planes}
 use Rattle.image.specs.Samples.{sample_of, sample_at}
 use Rattle.image.specs.Limits.{any_of, above, above_any}
 use Rattle.image.specs.Scratch.{scratch_need}

@@ -1,11 +1,9 @@
 -- A reader's row as RGB: what the call is handed, why it is turned down, what it gives, and how it counts in the reader's list of demand 3. Definitions only.
 use Rattle.std.specs.Prelude.{◌≡◌, cond, List, [], ◌∷◌, ℕ, ◌*◌, leb, ltb, length, replicate, Float}
 use Rattle.std.specs.Float.{nan}
-use Rattle.laws.specs.Refusals.{Answer}
-use Rattle.laws.specs.Refusals.{Test, first, accepted}
+use Rattle.laws.specs.Refusals.{Answer, Test, first, accepted}
 use Rattle.image.specs.declared.chroma.Chroma.TheVariants.{Cb, Cr}
-use Rattle.image.specs.Picture.{bad_planes}
-use Rattle.image.specs.Picture.{Planes}
+use Rattle.image.specs.Picture.{bad_planes, Planes}
 use Rattle.image.specs.Samples.{sample_at}
 use Rattle.image.specs.Scratch.{scratch_need, cell_at}
 use Rattle.kernels.specs.Kernels.{Colour}
@@ -13,9 +11,8 @@ use Rattle.kernels.specs.declared.kernel.YcbcrKernel.TheVariants.{Exact}
 use Rattle.kernel_blocks.specs.Stores.{pixels}
 use Rattle.colour_rows.specs.Colours.{colour_in}
 use Rattle.guided.specs.declared.state.Reader.{Reader}
-use Rattle.guided.specs.Calls.{Reply}
+use Rattle.guided.specs.Calls.{Reply, reader_layout, bad_state, after_row, row_scratch, row_out, RowCall, OpenCall}
 use Rattle.guided.specs.Scratch.{finished_at}
-use Rattle.guided.specs.Calls.{reader_layout, bad_state, after_row, row_scratch, row_out, RowCall, OpenCall}
 use Rattle.guided.specs.Events.{RowEvent, Event, RanRow, Run, picture_by}
 use Rattle.fill.specs.declared.options.ChromaUpsampling.TheVariants.{LumaGuided}
 use Rattle.fill.specs.Fill.{fill_colour}

@@ -7,9 +7,8 @@ use Rattle.laws.specs.Differences.{floor_div, limit, within}
 use Rattle.fround.specs.Rounding.{round_clamped}
 use Rattle.upsample.specs.Weights.{one_axis, weighed, far}
 use Rattle.upsample.specs.Triangular.{triangular_sample}
-use Rattle.taps.specs.Taps.{spot_at, sited_at, spot_of, tap_by, phase_of}
+use Rattle.taps.specs.Taps.{spot_at, sited_at, spot_of, tap_by, phase_of, phases_of, phase_at}
 use Rattle.linear.specs.Linear.{linear_sample, linear_down}
-use Rattle.taps.specs.Taps.{phases_of, phase_at}
 use Rattle.kernels.specs.HalvesUp.{rnd}
 use Rattle.kernels.specs.Kernels.{centred, red_offset, green_offset, blue_offset, exact255, off_centre, exact_at, fixed_red, fixed_green_cb, fixed_green_cr, fixed_blue, fixed255}
 use Rattle.kernels.specs.Pixels.{exact_colour}

@@ -1,8 +1,7 @@
 -- 'Triangular' of document 01: a whole chroma plane in whole numbers, and the reasons for turning the call down. Definitions only.
 use Rattle.std.specs.Prelude.{◌≡◌, Bool, false, ◌&&◌, ◌||◌, not, cond, List, [], ◌∷◌, ◌++◌, ℕ, ◌+◌, ◌*◌, ◌/◌, ltb, leb, eqb, length}
-use Rattle.laws.specs.Refusals.{Answer}
+use Rattle.laws.specs.Refusals.{Answer, Test, first, accepted}
 use Rattle.laws.specs.Lists.{rows}
-use Rattle.laws.specs.Refusals.{Test, first, accepted}
 use Rattle.image.specs.declared.layout.Layout.{Layout}
 use Rattle.image.specs.Tests.{bad_siting, layout_tests}
 use Rattle.image.specs.Samples.{Plane, sample_at}

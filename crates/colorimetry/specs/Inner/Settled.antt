@@ -1,5 +1,5 @@
 -- One answer from two row calls' answers. Definitions only.
-use Rattle.std.specs.Prelude.{Bool, true, false, ◌||◌, eqb, leb, Ok, Err}
+use Rattle.std.specs.Prelude.{Bool, false, ◌||◌, eqb, leb, Ok, Err}
 use Rattle.laws.specs.declared.refusal.Refusal.{Refusal}
 use Rattle.laws.specs.declared.refusal.Refusal.TheVariants.{BadState, Unlike}
 use Rattle.laws.specs.Refusals.{Answer, number_of, pick_answer}

@@ -4,7 +4,7 @@ ghost use Rattle.reconstruction.specs.Geometry.{planes_seen};
 ghost use Rattle.reconstruction.specs.Reader.{side_of};
 ghost use Rattle.reconstruction.specs.Refusals.{first};
 ghost use Rattle.colorimetry.specs.Blends.{is_studio, same_range, same_geometry, unlike_of, blend_call, blend_tests};
-ghost use Rattle.colorimetry.specs.Inner.Settled.{is_state, lower_than, lower_of, settled};
+ghost use Rattle.colorimetry.specs.Inner.Settled.{is_state, lower_of, settled};
 
 use reconstruction::{Geometry, Planes, Range, Reader, Refusal};
 

@@ -2,8 +2,7 @@
 use Rattle.std.specs.Prelude.{◌≡◌, false, List, [], ◌∷◌, ℕ, ◌+◌, ◌*◌, ◌≤◌, Float}
 use Rattle.image.specs.declared.layout.Layout.{Layout}
 use Rattle.image.specs.declared.chroma.Chroma.TheVariants.{Cb, Cr}
-use Rattle.image.specs.Picture.{picture_of, short_plane}
-use Rattle.image.specs.Picture.{Planes}
+use Rattle.image.specs.Picture.{picture_of, short_plane, Planes}
 use Rattle.image.specs.Inner.Tests.{Shaped, Sound}
 use Rattle.image.specs.Scratch.{scratch_need}
 use Rattle.guided_rows.specs.CatchingUp.{guided_step}

@@ -7,8 +7,7 @@ use Rattle.image.specs.Inner.Tests.{Sound}
 use Rattle.image.specs.Samples.{Plane}
 use Rattle.image.specs.declared.chroma.Chroma.{Chroma}
 use Rattle.image.specs.declared.chroma.Chroma.TheVariants.{Cb, Cr}
-use Rattle.image.specs.Picture.{short_plane}
-use Rattle.image.specs.Picture.{Planes}
+use Rattle.image.specs.Picture.{short_plane, Planes}
 
 -- what is known of a layout and a chroma plane: the layout passed its tests, and the plane holds all cells
 pub record ChromaCells (l : Layout) (p : Plane) : Type 0 where

@@ -2,8 +2,7 @@
 use Rattle.std.specs.Prelude.{◌≡◌, cond, List, ℕ, ◌+◌, ◌-◌, ◌*◌, ◌≤◌, ◌<◌, length, get_or, drop, Float}
 use Rattle.laws.specs.Refusals.{first}
 use Rattle.image.specs.declared.layout.Layout.{Layout}
-use Rattle.image.specs.Picture.{Picture, picture_of}
-use Rattle.image.specs.Picture.{Planes}
+use Rattle.image.specs.Picture.{Picture, picture_of, Planes}
 use Rattle.picture.specs.Picture.{Outcome, lent_tests, pick_outcome, is_written, ppm_length, ppm_over, scratch_after}
 
 -- the three planes from their places on, one row right behind the other

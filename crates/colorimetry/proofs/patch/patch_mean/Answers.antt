@@ -1,6 +1,6 @@
 -- `accepted` says what a call was handed that passed its tests; from it follow the bounds, and the answers are laws of Handed. The sums are the
 -- promise's by `area_is`.
-use Rattle.std.proofs.Common.{◌≡◌, ◌∙◌, ◌*◌, ◌≤◌, ◌<◌, ℕ, Ok, Err, refl, sym, subst, arith}
+use Rattle.std.proofs.Common.{◌≡◌, ◌∙◌, ◌*◌, ◌≤◌, ◌<◌, ℕ, Ok, refl, sym, subst, arith}
 use Rattle.std.proofs.lemmas.Result.{err_from_is_err_and}
 use Rattle.reconstruction.specs.Refusals.{Answer, first}
 use Rattle.colorimetry.specs.Patches.{PatchCall, patch_call, across_of, down_of, count_of, patch_tests}

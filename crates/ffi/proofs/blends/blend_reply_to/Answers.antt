@@ -1,7 +1,5 @@
 use Rattle.std.proofs.Common.{◌≡◌, ◌∙◌, Ok, Err, Bool, true, false, is_err, refl, sym}
 use Rattle.laws.specs.Refusals.{Answer}
-use Rattle.colorimetry.specs.Blends.{blend_reply}
-use Rattle.ffi.specs.Types.{chroma_reader}
 use Rattle.ffi.specs.Blends.{blend_reply_to}
 use Rattle.ffi.proofs.blends.blend_reply_to.Goals as goal
 

@@ -1,10 +1,9 @@
 -- Where one of C's states stands for none nothing was changed; else the Rattle call's own record is handed on, its arguments rewritten to what
 -- C's stand for.
-use Rattle.std.proofs.Common.{◌≡◌, ◌∙◌, ◌||◌, Bool, true, false, refl, sym}
-use Rattle.ffi.specs.declared.types.ChromaReader.{ChromaReader}
+use Rattle.std.proofs.Common.{◌≡◌, ◌∙◌, ◌||◌, Bool, false, refl, sym}
 use Rattle.ffi.specs.Types.{strange_reader}
 use Rattle.colorimetry.specs.Blends.{blend_reply}
-use Rattle.ffi.proofs.Strange.{blend_strange, blend_plain}
+use Rattle.ffi.proofs.Strange.{blend_plain}
 use Rattle.ffi.proofs.blends.chroma_blend_row.Goals as goal
 
 neither : (a b : Bool) → a ≡ false → b ≡ false → (a || b) ≡ false

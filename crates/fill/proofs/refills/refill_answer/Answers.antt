@@ -1,5 +1,5 @@
 -- Where all tests but the last failed, what that says is what comparing the planes asks.
-use Rattle.std.proofs.Common.{◌∙◌, sym, length}
+use Rattle.std.proofs.Common.{◌∙◌, sym}
 use Rattle.laws.proofs.Refusals.{accepted_failed}
 use Rattle.image.specs.Picture.{planes_seen}
 use Rattle.fill.specs.Refill.{refill_call}

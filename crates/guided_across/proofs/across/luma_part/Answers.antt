@@ -1,6 +1,6 @@
 use Rattle.guided_across.proofs.ReadBack.{luma_steps}
 use Rattle.guided_across.specs.Inner.Sums.{cells_at, products_at, three_row}
-use Rattle.std.proofs.Common.{ap, ◌∙◌, arith}
+use Rattle.std.proofs.Common.{ap, ◌∙◌}
 use Rattle.image.specs.Samples.{seen}
 use Rattle.guided_across.proofs.across.luma_part.Goals as goal
 

@@ -1,4 +1,4 @@
-use Rattle.std.proofs.Common.{refl, arith}
+use Rattle.std.proofs.Common.{refl}
 use Rattle.guided_across.proofs.ByteBlocks.{sums_none, sums_more}
 use Rattle.guided_across.proofs.byte_cells.cell_sums.Goals as goal
 

@@ -3,7 +3,7 @@ use Rattle.std.specs.Float.{nan}
 use lib.Ieee.{Float}
 use Rattle.laws.specs.Lists.{put}
 use Rattle.guided_down.proofs.Pairs.{pair_none, pair_end}
-use Rattle.guided_down.proofs.Statistics.{all_less, pair_eights_more}
+use Rattle.guided_down.proofs.Statistics.{pair_eights_more}
 use Rattle.guided_down.specs.Inner.Slopes.{pairs_inside}
 use Rattle.guided_down.proofs.slope_pairs.pair_eights.Goals as goal
 

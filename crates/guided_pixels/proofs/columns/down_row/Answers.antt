@@ -1,4 +1,3 @@
-use Rattle.std.proofs.Common.{arith}
 use Rattle.guided_pixels.proofs.DownLerps.{down_ready}
 use Rattle.guided_pixels.proofs.columns.down_row.Goals as goal
 

@@ -1,4 +1,4 @@
-use Rattle.std.proofs.Common.{◌∙◌, arith}
+use Rattle.std.proofs.Common.{◌∙◌}
 use Rattle.guided_pixels.proofs.DetailRows.{detail_line_is, detail_ready}
 use Rattle.image.specs.Samples.{seen}
 use Rattle.guided_pixels.proofs.details.detail_row.Goals as goal

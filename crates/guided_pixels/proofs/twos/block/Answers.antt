@@ -1,6 +1,5 @@
-use Rattle.std.proofs.Common.{◌+◌, ◌*◌}
+use Rattle.std.proofs.Common.{◌+◌, ◌*◌, arith}
 use Rattle.guided_pixels.proofs.TwoPixels.{pair_turn, block_turn}
-use Rattle.std.proofs.Common.{arith}
 use Rattle.guided_pixels.proofs.twos.block.Goals as goal
 
 pub loop-b-preserved : goal.loop-b-preserved

@@ -1,4 +1,4 @@
-use Rattle.std.proofs.Common.{◌∙◌, rules, arith}
+use Rattle.std.proofs.Common.{◌∙◌, arith}
 use Rattle.image.specs.Picture.{picture_of}
 use Rattle.guided_rows.proofs.Catching.{finished_none, finished_more}
 use Rattle.guided_rows.proofs.steps.catch_up.Goals as goal

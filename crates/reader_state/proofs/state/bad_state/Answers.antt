@@ -1,5 +1,5 @@
 -- The phases and the counters are asked once the layout was accepted, which makes it sound and the ratio at most 4.
-use Rattle.std.proofs.Common.{◌≡◌, ◌∙◌, sym, ap, false, is_err}
+use Rattle.std.proofs.Common.{◌≡◌, ◌∙◌, sym, false, is_err}
 use Rattle.laws.specs.Refusals.{Answer, first}
 use Rattle.image.specs.Tests.{layout_tests}
 use Rattle.image.specs.Inner.Tests.{Sound}

@@ -1,8 +1,7 @@
 use Rattle.taps.specs.Taps.{spot_at}
 use borrow.Author.Tests.{le-leb, lt-leb}
-use Prim.Native.Nat.{◌/◌}
+use Prim.Native.Nat.{◌/◌, ◌-◌}
 use mathlib.Core.Path.{refl}
-use Prim.Native.Nat.{◌-◌}
 use Rattle.taps.proofs.positions.spot_at.Goals as goal
 
 pub returns-then-len-cell : goal.returns-then-len-cell

@@ -1,9 +1,8 @@
 use mathlib.Core.Path.{refl}
 use native.Mathlib.Omega.{arith}
-use Rattle.laws.proofs.Lists.{run_none}
+use Rattle.laws.proofs.Lists.{run_none, run_two}
 use Rattle.upsample.specs.Inner.Pairs.{sums, across_row}
 use Rattle.upsample.proofs.Axis.{pair_left, pair_right}
-use Rattle.laws.proofs.Lists.{run_two}
 use Rattle.upsample.proofs.across.first_cell.Goals as goal
 
 pub returns : goal.returns

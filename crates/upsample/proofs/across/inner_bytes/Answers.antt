@@ -1,10 +1,9 @@
 use mathlib.Core.Path.{refl}
 use Prim.Native.Nat.{◌+◌, ◌*◌}
 use native.Mathlib.Omega.{arith}
-use Rattle.laws.proofs.Lists.{run_none}
+use Rattle.laws.proofs.Lists.{run_none, run_two}
 use Rattle.upsample.specs.Inner.Pairs.{sums}
 use Rattle.upsample.proofs.Axis.{pair_left, pair_right}
-use Rattle.laws.proofs.Lists.{run_two}
 use Rattle.upsample.proofs.across.inner_bytes.Goals as goal
 
 pub loop-k-init : goal.loop-k-init

@@ -4,10 +4,9 @@ use mathlib.Core.Path.{refl}
 use Prim.Native.Nat.{◌+◌, ◌-◌, ◌*◌}
 use native.Mathlib.Omega.{arith}
 use lib.ListN.{set}
-use Rattle.laws.proofs.Lists.{run_none}
+use Rattle.laws.proofs.Lists.{run_none, run_one, run_two}
 use Rattle.upsample.specs.Inner.Pairs.{sums, across_row}
 use Rattle.upsample.proofs.Axis.{pair_left, pair_right}
-use Rattle.laws.proofs.Lists.{run_one, run_two}
 use Rattle.upsample.proofs.across.last_cell.Goals as goal
 
 pub returns-then-n-eq1 : goal.returns-then-n-eq1
