@@ -5,6 +5,7 @@ ghost use Rattle.laws.specs.Floats.{f32, ◌⊘◌};
 ghost use Rattle.laws.specs.Lists.{put};
 ghost use Rattle.guided_across.specs.Inner.ByteCells.{pair_sum, pairs_sum, cell_mean, cell_run};
 
+use image::Plane;
 use lanes::{Lanes, put_block};
 
 // Inner: a cell's luma: the sum of its pixels, divided by their number. The limit is that of sixteen pixels of 65,535.
@@ -40,13 +41,13 @@ fn add_row(sums: &mut [u16; Lanes::PIXELS], row: [u16; Lanes::PIXELS])
 }
 
 // The sums of sixteen cells, m pairs of bytes one below another each, the first of which begins at `at`.
-fn cell_sums(plane: &[u8], at: usize, stride: usize, m: usize) -> [u16; Lanes::PIXELS]
-    requires { (1 ≤ m) × (m ≤ 4) × ((dy : ℕ) → dy < m → at + dy * stride + 32 ≤ length plane.now) }
-    ensures { (k : ℕ) → k < 16 → (get_or result k 0 ≡ pairs_sum plane.now at stride m k) × (get_or result k 0 ≤ 2040) }
+fn cell_sums(plane: Plane<'_>, at: usize, m: usize) -> [u16; Lanes::PIXELS]
+    requires { (1 ≤ m) × (m ≤ 4) × ((dy : ℕ) → dy < m → at + dy * plane.stride + 32 ≤ length plane.bytes.now) }
+    ensures { (k : ℕ) → k < 16 → (get_or result k 0 ≡ pairs_sum plane.entry.bytes.now at plane.entry.stride m k) × (get_or result k 0 ≤ 2040) }
 {
     let mut sums = [0u16; Lanes::PIXELS];
     for dy in 0..m {
-        add_row(&mut sums, pair_sums(plane, at + dy * stride));
+        add_row(&mut sums, pair_sums(plane.bytes, at + dy * plane.stride));
     }
     sums
 }
@@ -65,48 +66,40 @@ fn means(sums: [u16; Lanes::PIXELS], n: usize) -> [f32; Lanes::PIXELS]
 
 // The means of the sixteen cells from byte `at` on, of m rows each. Two rows are a case of their own: the number of pixels is a constant
 // there, so that no division is left.
-fn cell_block(plane: &[u8], at: usize, stride: usize, m: usize) -> [f32; Lanes::PIXELS]
-    requires { (1 ≤ m) × (m ≤ 4) × ((dy : ℕ) → dy < m → at + dy * stride + 32 ≤ length plane.now) }
-    ensures { (k : ℕ) → k < 16 → get_or result k nan ≡ f32 (pairs_sum plane.now at stride m k) ⊘ f32 (2 * m) }
+fn cell_block(plane: Plane<'_>, at: usize, m: usize) -> [f32; Lanes::PIXELS]
+    requires { (1 ≤ m) × (m ≤ 4) × ((dy : ℕ) → dy < m → at + dy * plane.stride + 32 ≤ length plane.bytes.now) }
+    ensures { (k : ℕ) → k < 16 → get_or result k nan ≡ f32 (pairs_sum plane.entry.bytes.now at plane.entry.stride m k) ⊘ f32 (2 * m) }
 {
     if m == 2 {
-        return means(cell_sums(plane, at, stride, 2), 4);
+        return means(cell_sums(plane, at, 2), 4);
     }
-    means(cell_sums(plane, at, stride, m), 2 * m)
+    means(cell_sums(plane, at, m), 2 * m)
 }
 
 // The means of sixteen cells, from cell i on, to s from dst + i on; the rows of cell 0 begin at byte `top`.
-fn put_cells(plane: &[u8], top: usize, stride: usize, m: usize, s: &mut [f32], dst: usize, i: usize)
+fn put_cells(plane: Plane<'_>, top: usize, m: usize, s: &mut [f32], dst: usize, i: usize)
     requires { (1 ≤ m) × (m ≤ 4)
-        × ((dy : ℕ) → dy < m → top + dy * stride + 2 * (i + 16) ≤ length plane.now)
+        × ((dy : ℕ) → dy < m → top + dy * plane.stride + 2 * (i + 16) ≤ length plane.bytes.now)
         × (dst + i + 16 ≤ length s.old) }
-    ensures { s.new ≡ put s.old (dst + i) 16 (λ k. cell_mean plane.now top stride m (i + k)) }
+    ensures { s.new ≡ put s.old (dst + i) 16 (λ k. cell_mean plane.entry.bytes.now top plane.entry.stride m (i + k)) }
 {
-    put_block(s, dst + i, cell_block(plane, top + 2 * i, stride, m));
+    put_block(s, dst + i, cell_block(plane, top + 2 * i, m));
 }
 
 // Inner: the means of n cells, two by m bytes each, of the rows of a plane from byte `top` on, to s from dst on: blocks of sixteen, and where
 // cells are left, one more that ends with them and overlaps the one before.
 #[tactic(auto, unfolding(laws::specs::Lists::put, crate::specs::Inner::ByteCells::cell_run))]
-pub fn cell_run(
-    plane: &[u8],
-    top: usize,
-    stride: usize,
-    m: usize,
-    n: usize,
-    s: &mut [f32],
-    dst: usize,
-)
+pub fn cell_run(plane: Plane<'_>, top: usize, m: usize, n: usize, s: &mut [f32], dst: usize)
     requires { (1 ≤ m) × (m ≤ 4) × (16 ≤ n)
-        × ((dy : ℕ) → dy < m → top + dy * stride + 2 * n ≤ length plane.now)
+        × ((dy : ℕ) → dy < m → top + dy * plane.stride + 2 * n ≤ length plane.bytes.now)
         × (dst + n ≤ length s.old) }
-    ensures { s.new ≡ cell_run plane.now top stride m n dst s.old }
+    ensures { s.new ≡ cell_run plane.entry.bytes.now top plane.entry.stride m n dst s.old }
 {
     for b in 0..n / Lanes::PIXELS {
-        put_cells(plane, top, stride, m, s, dst, b * Lanes::PIXELS);
+        put_cells(plane, top, m, s, dst, b * Lanes::PIXELS);
     }
     if n % Lanes::PIXELS == 0 {
         return;
     }
-    put_cells(plane, top, stride, m, s, dst, n - Lanes::PIXELS);
+    put_cells(plane, top, m, s, dst, n - Lanes::PIXELS);
 }

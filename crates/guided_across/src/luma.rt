@@ -87,7 +87,7 @@ fn luma_head(layout: Layout, plane: Plane<'_>, j: usize, s: &mut [f32], dst: usi
     }
     let y = j * layout.rv;
     let m = layout.rv.min(layout.h - y);
-    cell_run(plane.bytes, y * plane.stride, plane.stride, m, n, s, dst);
+    cell_run(plane, y * plane.stride, m, n, s, dst);
     n
 }
 

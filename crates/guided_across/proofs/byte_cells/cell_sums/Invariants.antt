@@ -3,4 +3,4 @@ use Rattle.guided_across.proofs.ByteBlocks.{Sums}
 use Rattle.guided_across.proofs.byte_cells.cell_sums.Given as goal
 
 abbrev pub invariant-loop-dy : goal.invariant-loop-dy
-invariant-loop-dy l = Sums l.plane l.at l.stride l.dy l.sums
+invariant-loop-dy l = Sums l.plane.bytes.now l.at l.plane.stride l.dy l.sums
