@@ -1,4 +1,4 @@
-// A row by blocks of sixteen pixels of the fixed kernel, whose tables are lent.
+// A row by blocks of sixteen pixels of the fixed kernel.
 ghost use Rattle.std.specs.Prelude.{◌≡◌, ℕ, ◌+◌, ◌*◌, ◌≤◌, ◌<◌, length, get_or};
 ghost use Rattle.image.specs.Scratch.{cell_at};
 ghost use Rattle.kernel_blocks.specs.Inner.Stores.{block_pixel};
@@ -8,7 +8,6 @@ ghost use Rattle.colour_rows.specs.Inner.Blocks.{PixelsFrom};
 ghost use Rattle.colour_rows.specs.Inner.Lent.{RowLent, Blocked};
 ghost use Rattle.kernels.specs.declared.kernel.YcbcrKernel.TheVariants.{FixedPoint16};
 ghost use Rattle.image.specs.Samples.{seen};
-ghost use Rattle.kernels.specs.Inner.Tables.{Tabled};
 
 use crate::blocks::row_by_blocks;
 use crate::samples::{luma_block, whole_chroma_block};
@@ -16,20 +15,14 @@ use image::{Layout, Plane};
 use kernel_blocks::Block;
 
 // Sixteen pixels by the fixed kernel, of luma y and of the chroma of the columns from x on. It doesn't look at maxval, d in the contract.
-fn fixed_pixels(
-    y: [u16; Block::LEN],
-    s: &[f32],
-    w: usize,
-    x: usize,
-    tables: &[[i32; 256]],
-) -> [[u8; Block::LEN]; 3]
-    requires { (x + Block.LEN ≤ w) × (2 * w ≤ length s.now) × Tabled tables.now }
+fn fixed_pixels(y: [u16; Block::LEN], s: &[f32], w: usize, x: usize) -> [[u8; Block::LEN]; 3]
+    requires { (x + Block.LEN ≤ w) × (2 * w ≤ length s.now) }
     ensures { ((d k : ℕ) → k < Block.LEN → block_pixel result k ≡ colour_by
         FixedPoint16 d (get_or y k 0) (cell_at s.now 0 (x + k)) (cell_at s.now w (x + k))) }
 {
     let cb = whole_chroma_block(s, 0, x);
     let cr = whole_chroma_block(s, w, x);
-    kernel_blocks::fixed_block(y, cb, cr, tables)
+    kernel_blocks::fixed_block(y, cb, cr)
 }
 
 // The sixteen pixels of a row from column x on.
@@ -39,14 +32,13 @@ fn fixed_at(
     row: usize,
     s: &[f32],
     x: usize,
-    tables: &[[i32; 256]],
 ) -> [[u8; Block::LEN]; 3]
     requires row_lent { RowLent layout (seen plane) row (length s.now) }
-    requires blocks_lent { Blocked Block.LEN FixedPoint16 layout × (x + Block.LEN ≤ layout.w) × Tabled tables.now }
+    requires blocks_lent { Blocked Block.LEN FixedPoint16 layout × (x + Block.LEN ≤ layout.w) }
     ensures { PixelsFrom Block.LEN result x (row_colour FixedPoint16 layout (seen plane.entry) row s.now) }
 {
     let y = luma_block(layout, plane, row, x);
-    fixed_pixels(y, s, layout.w, x, tables)
+    fixed_pixels(y, s, layout.w, x)
 }
 
 // Inner: a row by blocks.
@@ -58,18 +50,17 @@ pub fn fixed_row(
     s: &[f32],
     out: &mut [u8],
     at: usize,
-    tables: &[[i32; 256]],
 )
     requires row_lent { RowLent layout (seen plane) row (length s.now) }
-    requires blocks_lent { Blocked Block.LEN FixedPoint16 layout × (3 ≤ size) × (size ≤ 4) × (at + layout.w * size ≤ length out.old) × Tabled tables.now }
+    requires blocks_lent { Blocked Block.LEN FixedPoint16 layout × (3 ≤ size) × (size ≤ 4) × (at + layout.w * size ≤ length out.old) }
     ensures { out.new ≡ colour_row
         FixedPoint16 layout (seen plane.entry) row s.now at size out.old }
 {
     row_by_blocks(
         |x| -> [[u8; Block::LEN]; 3]
-            requires { RowLent layout (seen plane) row (length s.now) × Blocked Block.LEN FixedPoint16 layout × (x + Block.LEN ≤ layout.w) × Tabled tables.now }
+            requires { RowLent layout (seen plane) row (length s.now) × Blocked Block.LEN FixedPoint16 layout × (x + Block.LEN ≤ layout.w) }
             ensures { PixelsFrom Block.LEN result x (row_colour FixedPoint16 layout (seen plane.entry) row s.entry.now) }
-        { fixed_at(layout, plane, row, s, x, tables) },
+        { fixed_at(layout, plane, row, s, x) },
         layout.w,
         size,
         out,

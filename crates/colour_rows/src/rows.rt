@@ -1,7 +1,7 @@
 // One row of colour, from luma's plane and the two finished rows of chroma that lie in scratch, by blocks or pixel by pixel.
 ghost use Rattle.std.specs.Prelude.{◌≡◌, true, ◌+◌, ◌*◌, ◌≤◌, length};
 ghost use Rattle.colour_rows.specs.Inner.Colours.{colour_row, studio_row, ranged_row};
-ghost use Rattle.colour_rows.specs.Inner.Lent.{RowLent, Blocked, TablesFor};
+ghost use Rattle.colour_rows.specs.Inner.Lent.{RowLent, Blocked};
 ghost use Rattle.image.specs.Samples.{seen};
 
 use crate::exact_blocks::exact_row;
@@ -35,10 +35,9 @@ fn block_row(
     s: &[f32],
     out: &mut [u8],
     at: usize,
-    tables: &[[i32; 256]],
 )
     requires row_lent { RowLent layout (seen plane) row (length s.now) }
-    requires blocks_lent { Blocked Block.LEN kernel layout × (3 ≤ size) × (size ≤ 4) × (at + layout.w * size ≤ length out.old) × TablesFor kernel tables.now }
+    requires blocks_lent { Blocked Block.LEN kernel layout × (3 ≤ size) × (size ≤ 4) × (at + layout.w * size ≤ length out.old) }
     ensures { out.new ≡ colour_row
         kernel layout (seen plane.entry) row s.now at size out.old }
 {
@@ -47,12 +46,12 @@ fn block_row(
             exact_row(layout, size, plane, row, s, out, at);
         }
         YcbcrKernel::FixedPoint16 => {
-            fixed_row(layout, size, plane, row, s, out, at, tables);
+            fixed_row(layout, size, plane, row, s, out, at);
         }
     }
 }
 
-// A row of full range. By blocks or pixel by pixel is chosen here, outside the loops. Blocks of the fixed kernel read `tables`.
+// A row of full range. By blocks or pixel by pixel is chosen here, outside the loops.
 fn full_range_row(
     layout: Layout,
     kernel: YcbcrKernel,
@@ -62,15 +61,14 @@ fn full_range_row(
     s: &[f32],
     out: &mut [u8],
     at: usize,
-    tables: &[[i32; 256]],
 )
     requires row_lent { RowLent layout (seen plane) row (length s.now) }
-    requires le_size { (3 ≤ size) × (size ≤ 4) × (at + layout.w * size ≤ length out.old) × TablesFor kernel tables.now }
+    requires le_size { (3 ≤ size) × (size ≤ 4) × (at + layout.w * size ≤ length out.old) }
     ensures { out.new ≡ colour_row
         kernel layout (seen plane.entry) row s.now at size out.old }
 {
     if by_blocks(layout, kernel) {
-        block_row(layout, kernel, size, plane, row, s, out, at, tables);
+        block_row(layout, kernel, size, plane, row, s, out, at);
         return;
     }
     plain_row(layout, kernel, size, plane, row, s, out, at);
@@ -109,17 +107,16 @@ pub fn colour_row(
     s: &[f32],
     out: &mut [u8],
     at: usize,
-    tables: &[[i32; 256]],
 )
     requires row_lent { RowLent layout (seen plane) row (length s.now) }
-    requires le_size { (3 ≤ size) × (size ≤ 4) × (at + layout.w * size ≤ length out.old) × TablesFor kernel tables.now }
+    requires le_size { (3 ≤ size) × (size ≤ 4) × (at + layout.w * size ≤ length out.old) }
     ensures { out.new ≡ ranged_row
         kernel layout (seen plane.entry) row s.now at size out.old }
 {
     let range = layout.range;
     match range {
         Range::Full => {
-            full_range_row(layout, kernel, size, plane, row, s, out, at, tables);
+            full_range_row(layout, kernel, size, plane, row, s, out, at);
         }
         Range::Studio => {
             studio_range_row(layout, size, plane, row, s, out, at);

@@ -5,7 +5,6 @@ ghost use Rattle.linear.specs.Linear.{linear_row};
 ghost use Rattle.linear.specs.Inner.Linear.{Ready};
 ghost use Rattle.image.specs.Scratch.{scratch_need};
 ghost use Rattle.colour_rows.specs.Inner.Colours.{ranged_row};
-ghost use Rattle.colour_rows.specs.Inner.Lent.{TablesFor};
 ghost use Rattle.fill.specs.Fill.{fill_colour, pixel_rows, fill_scratch};
 ghost use Rattle.fill.specs.Inner.Steps.{fill_step, ChromaLent, FillLent};
 ghost use Rattle.image.specs.Samples.{seen};
@@ -52,8 +51,8 @@ fn chroma_row(
     }
 }
 
-// Makes row first + n: its chroma, then its colour at its place in out. Ten parameters: the seven that `fill` is handed, which
-// row, and the fixed kernel's tables.
+// Makes row first + n: its chroma, then its colour at its place in out. Nine parameters: the seven that `fill` is handed, and which
+// row.
 fn fill_row(
     layout: Layout,
     planes: Planes<'_>,
@@ -64,10 +63,9 @@ fn fill_row(
     n: usize,
     s: &mut [f32],
     out: &mut [u8],
-    tables: &[[i32; 256]],
 )
     requires fill_lent { FillLent upsampling layout (planes_seen planes) size (length s.old) (length out.old) }
-    requires n_bound { (first + n < layout.h) × TablesFor kernel tables.now }
+    requires n_bound { (first + n < layout.h) }
     ensures s_after { s.new ≡ fill_step upsampling layout
         (planes_seen planes.entry)
         first n s.old }
@@ -79,41 +77,10 @@ fn fill_row(
     let row = first + n;
     let at = row * (layout.w * size);
     chroma_row(layout, planes, upsampling, first, n, s);
-    colour_rows::colour_row(layout, kernel, size, planes.y, row, s, out, at, tables);
+    colour_rows::colour_row(layout, kernel, size, planes.y, row, s, out, at);
 }
 
-// Makes rows a, .. b - 1 of the picture with the tables that its kernel reads. Ten parameters: those of `fill_rows` and the tables.
-fn rows_by(
-    layout: Layout,
-    planes: Planes<'_>,
-    upsampling: ChromaUpsampling,
-    kernel: YcbcrKernel,
-    size: usize,
-    a: usize,
-    b: usize,
-    s: &mut [f32],
-    out: &mut [u8],
-    tables: &[[i32; 256]],
-)
-    requires fill_lent { FillLent upsampling layout (planes_seen planes) size (length s.old) (length out.old) }
-    requires a_le_b { (a ≤ b) × (b ≤ layout.h) × TablesFor kernel tables.now }
-    ensures out_after { out.new ≡ pixel_rows layout.w size
-        (fill_colour upsampling kernel (picture_of layout (planes_seen planes.entry)))
-        a (b - a) out.old }
-    ensures s_after { s.new ≡ fill_scratch upsampling layout
-        (planes_seen planes.entry)
-        a (b - a) s.old }
-{
-    let rows = b - a;
-    for n in 0..rows {
-        fill_row(
-            layout, planes, upsampling, kernel, size, a, n, s, out, tables,
-        );
-    }
-}
-
-// Inner: makes rows a, .. b - 1 of the picture, whatever scratch holds. The fixed kernel's tables are made here, once for all rows; the exact
-// kernel reads none. Nine parameters: the seven that `fill` is handed, and from where to where.
+// Inner: makes rows a, .. b - 1 of the picture, whatever scratch holds. Nine parameters: the seven that `fill` is handed, and from where to where.
 pub fn fill_rows(
     layout: Layout,
     planes: Planes<'_>,
@@ -134,18 +101,8 @@ pub fn fill_rows(
         (planes_seen planes.entry)
         a (b - a) s.old }
 {
-    match kernel {
-        YcbcrKernel::Exact => {
-            let none = [[0i32; 256]; 0];
-            rows_by(
-                layout, planes, upsampling, kernel, size, a, b, s, out, &none,
-            );
-        }
-        YcbcrKernel::FixedPoint16 => {
-            let tables = kernels::all_tables();
-            rows_by(
-                layout, planes, upsampling, kernel, size, a, b, s, out, &tables,
-            );
-        }
+    let rows = b - a;
+    for n in 0..rows {
+        fill_row(layout, planes, upsampling, kernel, size, a, n, s, out);
     }
 }

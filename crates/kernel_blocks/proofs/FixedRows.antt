@@ -12,7 +12,7 @@ use mir.ValLaws.{to_z-of_z}
 use Rattle.laws.specs.Differences.{floor_div}
 use Rattle.laws.specs.Inner.Differences.{Diff}
 use Rattle.laws.proofs.Differences.{of_pos, plus}
-use Rattle.kernels.specs.Inner.Tables.{Tabled, table_entry}
+use Rattle.kernels.specs.Kernels.{fixed_red, fixed_blue, fixed_green_cb, fixed_green_cr}
 use Rattle.kernels.proofs.TableRules.{red_diff, blue_diff, green_cb_part, green_cr_part}
 use Rattle.kernel_blocks.specs.Inner.Blocks.{Small}
 
@@ -53,15 +53,14 @@ shift_small (negsuc n) h = omega arith
 
 -- ---- the tables' entries
 
-module _ {t : List (List ℤ)} (d : Tabled t) where
-  pub red_small : (c : ℕ) → c < 256 → Small (table_entry t 0 c)
-  red_small c h = rw (d.red c h) (below 16777216 (red_diff c) (omega arith) (omega arith))
+pub red_small : (c : ℕ) → c < 256 → Small (fixed_red c)
+red_small c h = below 16777216 (red_diff c) (omega arith) (omega arith)
 
-  pub blue_small : (c : ℕ) → c < 256 → Small (table_entry t 1 c)
-  blue_small c h = rw (d.blue c h) (below 16777216 (blue_diff c) (omega arith) (omega arith))
+pub blue_small : (c : ℕ) → c < 256 → Small (fixed_blue c)
+blue_small c h = below 16777216 (blue_diff c) (omega arith) (omega arith)
 
-  pub green_cb_small : (c : ℕ) → c < 256 → Small (table_entry t 2 c)
-  green_cb_small c h = rw (d.green_cb c h) (below 16777216 (green_cb_part c h) (omega arith) (omega arith))
+pub green_cb_small : (c : ℕ) → c < 256 → Small (fixed_green_cb c)
+green_cb_small c h = below 16777216 (green_cb_part c h) (omega arith) (omega arith)
 
-  pub green_cr_small : (c : ℕ) → c < 256 → Small (table_entry t 3 c)
-  green_cr_small c h = rw (d.green_cr c h) (below 16777216 (green_cr_part c h) (omega arith) (omega arith))
+pub green_cr_small : (c : ℕ) → c < 256 → Small (fixed_green_cr c)
+green_cr_small c h = below 16777216 (green_cr_part c h) (omega arith) (omega arith)

@@ -1,35 +1,17 @@
 // Sixteen pixels of the fixed kernel, a colour row after the other, their offsets read from the tables of the crate kernels: document 01's
 // formulas as they stand, over numbers with a sign.
 //
-// The tables are lent (`kernels::all_tables` makes them). The entries of a row are gathered before they are added, so that what follows
-// compiles to wide instructions.
+// The entries of a row are gathered before they are added, so that what follows compiles to wide instructions.
 ghost use Rattle.std.specs.Prelude.{◌≡◌, ℕ, ◌<◌, length, get_or, pos, ◌+ℤ◌};
 ghost use Rattle.laws.specs.Differences.{floor_div, limit};
 ghost use Rattle.kernels.specs.Kernels.{fixed255};
 ghost use Rattle.kernels.specs.Inner.Forms.{plus_fixed};
-ghost use Rattle.kernels.specs.Inner.Tables.{Tabled, table_entry};
 ghost use Rattle.kernel_blocks.specs.Inner.Blocks.{Small};
 ghost use Rattle.kernel_blocks.specs.Inner.Stores.{block_pixel};
 
 use crate::limits::limit_byte;
 use crate::stores::Block;
-use kernels::Table;
 use std::array::from_fn;
-
-// A sample of one byte as an index. The contract keeps that it is a byte.
-fn index(c: u8) -> usize
-    ensures { (result ≡ c) × (result < 256) }
-{
-    usize::from(c)
-}
-
-// The entries of table n at sixteen whole samples of chroma.
-fn entries(t: &[[i32; 256]], n: usize, chroma: [u8; Block::LEN]) -> [i32; Block::LEN]
-    requires { (n < length t.now) × ((v : ℕ) → v < 256 → Small (table_entry t.now n v)) }
-    ensures { ((k : ℕ) → k < Block.LEN → (get_or chroma k 0 < 256) × (get_or result k (pos 0) ≡ table_entry t.now n (get_or chroma k 0))) }
-{
-    from_fn(|i| t[n][index(chroma[i])])
-}
 
 // Luma and an offset, limited to 0..=255.
 fn plus(y: u16, offset: i32) -> u8
@@ -69,51 +51,37 @@ fn green_row(
 }
 
 // The red row of a block.
-fn fixed_red(y: [u16; Block::LEN], cr: [u8; Block::LEN], t: &[[i32; 256]]) -> [u8; Block::LEN]
-    requires { Tabled t.now }
+fn fixed_red(y: [u16; Block::LEN], cr: [u8; Block::LEN]) -> [u8; Block::LEN]
     ensures { ((k : ℕ) → k < Block.LEN → get_or result k 0 ≡ plus_fixed 91881 (get_or y k 0) (get_or cr k 0)) }
 {
-    offset_row(y, entries(t, Table::RED, cr))
+    offset_row(y, from_fn(|i| kernels::red_entry(cr[i])))
 }
 
 // The green row of a block.
-fn fixed_green(
-    y: [u16; Block::LEN],
-    cb: [u8; Block::LEN],
-    cr: [u8; Block::LEN],
-    t: &[[i32; 256]],
-) -> [u8; Block::LEN]
-    requires { Tabled t.now }
+fn fixed_green(y: [u16; Block::LEN], cb: [u8; Block::LEN], cr: [u8; Block::LEN]) -> [u8; Block::LEN]
     ensures { ((k : ℕ) → k < Block.LEN → get_or result k 0 ≡ (fixed255 (get_or y k 0) (get_or cb k 0) (get_or cr k 0)).green) }
 {
     green_row(
         y,
-        entries(t, Table::GREEN_CB, cb),
-        entries(t, Table::GREEN_CR, cr),
+        from_fn(|i| kernels::green_cb_entry(cb[i])),
+        from_fn(|i| kernels::green_cr_entry(cr[i])),
     )
 }
 
 // The blue row of a block.
-fn fixed_blue(y: [u16; Block::LEN], cb: [u8; Block::LEN], t: &[[i32; 256]]) -> [u8; Block::LEN]
-    requires { Tabled t.now }
+fn fixed_blue(y: [u16; Block::LEN], cb: [u8; Block::LEN]) -> [u8; Block::LEN]
     ensures { ((k : ℕ) → k < Block.LEN → get_or result k 0 ≡ plus_fixed 116130 (get_or y k 0) (get_or cb k 0)) }
 {
-    offset_row(y, entries(t, Table::BLUE, cb))
+    offset_row(y, from_fn(|i| kernels::blue_entry(cb[i])))
 }
 
-// Inner: the red, the green and the blue row of sixteen pixels by the fixed kernel, on whole chroma; t has the kernel's tables.
+// Inner: the red, the green and the blue row of sixteen pixels by the fixed kernel, on whole chroma.
 pub fn fixed_block(
     y: [u16; Block::LEN],
     cb: [u8; Block::LEN],
     cr: [u8; Block::LEN],
-    t: &[[i32; 256]],
 ) -> [[u8; Block::LEN]; 3]
-    requires { Tabled t.now }
     ensures { ((k : ℕ) → k < Block.LEN → block_pixel result k ≡ fixed255 (get_or y k 0) (get_or cb k 0) (get_or cr k 0)) }
 {
-    [
-        fixed_red(y, cr, t),
-        fixed_green(y, cb, cr, t),
-        fixed_blue(y, cb, t),
-    ]
+    [fixed_red(y, cr), fixed_green(y, cb, cr), fixed_blue(y, cb)]
 }

@@ -1,18 +1,21 @@
--- The fixed kernel's tables are document 01's formulas: where the code's table is read, it is compared whole with the rule's own list (`listed`) by
--- one computation, and `entry_listed` carries that to each entry. So the numbers are written once, in the code. Raised by its bias an entry is a
--- natural number (`Lifts`), which is what the kernel adds.
+-- The fixed kernel's tables are document 01's formulas: one computed test for a whole table, which `entry_is` carries to each entry.
+-- The test compares the code's table with the rule's own list (`listed`), so that the numbers are written once, in the code. Raised by its
+-- bias an entry is a natural number (`Lifts`), which is what the kernel adds.
 use mathlib.Core.Path.{◌≡◌, refl, ap, sym, ◌∙◌}
+use mathlib.Core.Bool.{Bool, false, true, ◌&&◌}
 use mathlib.Core.List.{List, [], ◌∷◌}
 use Prim.Native.Nat.{ℕ, zero, suc, ◌+◌, ◌-◌, ◌*◌, ◌<◌}
 use native.Mathlib.Nat.{add-zero, zero-add, add-suc, suc-add, le_of_suc-le-suc, not-suc-le-zero}
 use native.Mathlib.Omega.{arith}
-use lib.Dec.{T, lit<}
-use lib.ListN.{get_or}
+use lib.Dec.{T, eqb, eqb→eq, lit<}
+use lib.ListN.{length, get_or}
 use lib.IntN.{ℤ, pos, negsuc, nat_abs, ◌+ℤ◌}
 use lib.Signed.{non_neg}
+use lib.Ieee.Fits.{and_l, and_r}
 use mir.Val.{to_z, of_z, SFits}
 use mir.Facts.{to_z-of_z}
 use mir.Syntax.{w32}
+use Rattle.laws.specs.Differences.{floor_div}
 use Rattle.laws.specs.Inner.Differences.{Diff}
 use Rattle.laws.proofs.Differences.{of_pos, move, plus}
 use Rattle.kernels.specs.Kernels.{fixed_red, fixed_blue, fixed_green_cb, fixed_green_cr}
@@ -20,6 +23,32 @@ use Rattle.kernels.specs.Inner.Forms.{fixed_offset, raised_fixed}
 use Rattle.kernels.proofs.FixedPoint.{offset_diff, green_cb_diff, green_cr_diff}
 
 -- ---- a table's rule
+
+abbrev same : ℤ → ℤ → Bool
+same (pos m) (pos n) = eqb m n
+same (pos m) (negsuc n) = false
+same (negsuc m) (pos n) = false
+same (negsuc m) (negsuc n) = eqb m n
+
+same_is : (x y : ℤ) → T (same x y) → x ≡ y
+same_is (pos m) (pos n) t = ap pos (eqb→eq m n t)
+same_is (pos m) (negsuc n) t = absurd t
+same_is (negsuc m) (pos n) t = absurd t
+same_is (negsuc m) (negsuc n) t = ap negsuc (eqb→eq m n t)
+
+-- every entry, from place i on, is the rule's, as a number of 32 bits with its sign
+abbrev ruled : (ℕ → ℤ) → ℕ → List ℤ → Bool
+ruled f i [] = true
+ruled f i (x ∷ xs) = same (to_z w32 (of_z w32 x)) (f i) && ruled f (suc i) xs
+
+from : (f : ℕ → ℤ) (xs : List ℤ) (d : ℤ) (i : ℕ) → T (ruled f i xs) → (k : ℕ) → k < length xs → to_z w32 (of_z w32 (get_or xs k d)) ≡ f (i + k)
+from f [] d i t k h = absurd (not-suc-le-zero h)
+from f (x ∷ xs) d i t zero h = same_is _ _ (and_l (same (to_z w32 (of_z w32 x)) (f i)) (ruled f (suc i) xs) t) ∙ ap f (sym (add-zero i))
+from f (x ∷ xs) d i t (suc k) h =
+    from f xs d (suc i) (and_r (same (to_z w32 (of_z w32 x)) (f i)) (ruled f (suc i) xs) t) k (le_of_suc-le-suc h) ∙ ap f (suc-add i k ∙ sym (add-suc i k))
+
+entry_is : (f : ℕ → ℤ) (xs : List ℤ) (d : ℤ) → T (ruled f 0 xs) → (k : ℕ) → k < length xs → to_z w32 (of_z w32 (get_or xs k d)) ≡ f k
+entry_is f xs d t k h = from f xs d 0 t k h ∙ ap f (zero-add k)
 
 -- the rule's own table: f i, f (i + 1), ..
 abbrev pub listed : (ℕ → ℤ) → ℕ → ℕ → List ℤ
@@ -38,6 +67,23 @@ at_listed f (suc n) i (suc k) h = at_listed f n (suc i) k (le_of_suc-le-suc h) �
 -- a table that is lent whole: it is the rule's own table, which is compared by computation where the table is made
 pub entry_listed : (f : ℕ → ℤ) (c : ℕ) → c < 256 → entry_of f c ≡ f c
 entry_listed f c h = at_listed f 256 0 c h ∙ ap f (zero-add c)
+
+-- the four tables, as an entry is read
+pub red_rule : (c : ℕ) → c < 256 → to_z w32 (of_z w32 (entry_of fixed_red c)) ≡ fixed_red c
+unfolding fixed_red floor_div
+red_rule c h = entry_is fixed_red (listed fixed_red 256 0) (pos 0) tt c h
+
+pub blue_rule : (c : ℕ) → c < 256 → to_z w32 (of_z w32 (entry_of fixed_blue c)) ≡ fixed_blue c
+unfolding fixed_blue floor_div
+blue_rule c h = entry_is fixed_blue (listed fixed_blue 256 0) (pos 0) tt c h
+
+pub green_cb_rule : (c : ℕ) → c < 256 → to_z w32 (of_z w32 (entry_of fixed_green_cb c)) ≡ fixed_green_cb c
+unfolding fixed_green_cb
+green_cb_rule c h = entry_is fixed_green_cb (listed fixed_green_cb 256 0) (pos 0) tt c h
+
+pub green_cr_rule : (c : ℕ) → c < 256 → to_z w32 (of_z w32 (entry_of fixed_green_cr c)) ≡ fixed_green_cr c
+unfolding fixed_green_cr
+green_cr_rule c h = entry_is fixed_green_cr (listed fixed_green_cr 256 0) (pos 0) tt c h
 
 -- ---- an entry raised by k
 

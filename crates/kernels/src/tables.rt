@@ -4,17 +4,18 @@
 // The numbers stand once, in entries.rt. Each table is held to its rule by one computed check for the whole table, which proofs/TableRules
 // carries to each entry.
 //
-// The tables are constants, as document 02 has them, and a constant is made anew where it is named. So one entry is read from a static of the
-// same numbers, in place; whoever reads many entries is lent a copy of all four (`all_tables`).
+// The tables are constants, as document 02 has them, and a constant is made anew where it is named. So an entry is read from a static of the
+// same numbers, in place.
 //
-// The four functions below are each one sum. They stay four: a shared one would have to be told its table, its raise and its rule.
+// The four functions that give an entry, and the four that raise it, are each one line. They stay four: a shared one would have to be told its
+// table, its raise and its rule.
+ghost use Rattle.kernels.specs.Kernels.{fixed_red, fixed_blue, fixed_green_cb, fixed_green_cr};
 ghost use Rattle.std.specs.Prelude.{◌≡◌, ◌-◌, ◌*◌, ◌<◌};
 ghost use Rattle.kernels.specs.Inner.Forms.{raised_fixed};
-ghost use Rattle.kernels.specs.Inner.Tables.{Tabled};
 
 use crate::entries::{BLUE, GREEN_CB, GREEN_CR, RED};
 
-// The tables where one entry is read.
+// The tables where they are read.
 static RED_ENTRIES: [i32; 256] = RED;
 
 static BLUE_ENTRIES: [i32; 256] = BLUE;
@@ -39,6 +40,34 @@ impl Raise {
 
     // 91 * 65,536: Cr's part is at least -5,911,086.
     pub const GREEN_CR: i32 = 5_963_776;
+}
+
+// Inner: red's offset by Cr, for whole chroma of one byte.
+pub fn red_entry(c: u8) -> i32
+    ensures { (c < 256) × (result ≡ fixed_red c) }
+{
+    RED_ENTRIES[usize::from(c)]
+}
+
+// Inner: blue's offset by Cb, for whole chroma of one byte.
+pub fn blue_entry(c: u8) -> i32
+    ensures { (c < 256) × (result ≡ fixed_blue c) }
+{
+    BLUE_ENTRIES[usize::from(c)]
+}
+
+// Inner: green's part by Cb, for whole chroma of one byte.
+pub fn green_cb_entry(c: u8) -> i32
+    ensures { (c < 256) × (result ≡ fixed_green_cb c) }
+{
+    GREEN_CB_ENTRIES[usize::from(c)]
+}
+
+// Inner: green's part by Cr, for whole chroma of one byte.
+pub fn green_cr_entry(c: u8) -> i32
+    ensures { (c < 256) × (result ≡ fixed_green_cr c) }
+{
+    GREEN_CR_ENTRIES[usize::from(c)]
 }
 
 // Inner: red's offset by Cr, raised by `Bias::RED`.
@@ -71,25 +100,4 @@ pub fn green_cr_raised(c: usize) -> u32
     ensures { result ≡ 11987200 - 46802 * c }
 {
     (GREEN_CR_ENTRIES[c] + Raise::GREEN_CR) as u32
-}
-
-// Where each table stands in `all_tables`.
-#[derive(Clone, Copy)]
-pub struct Table;
-
-impl Table {
-    pub const RED: usize = 0;
-
-    pub const BLUE: usize = 1;
-
-    pub const GREEN_CB: usize = 2;
-
-    pub const GREEN_CR: usize = 3;
-}
-
-// Inner: the four tables, for those who read many entries.
-pub fn all_tables() -> [[i32; 256]; 4]
-    ensures { Tabled result }
-{
-    [RED, BLUE, GREEN_CB, GREEN_CR]
 }

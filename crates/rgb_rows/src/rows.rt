@@ -16,15 +16,14 @@ use laws::Refusal;
 use reader::after_row;
 
 // The chroma that scratch holds, with row `row` of luma's plane, by the exact kernel in the layout's range, as w pixels of three bytes
-// to the front of out. That kernel reads no tables, so that none are lent.
+// to the front of out.
 fn exact_row(layout: Layout, plane: Plane<'_>, row: usize, s: &[f32], out: &mut [u8])
     requires row_lent { RowLent layout (seen plane) row (length s.now) }
     requires w_in_bounds { layout.w * 3 ≤ length out.old }
     ensures { out.new ≡ ranged_row
         Exact layout (seen plane.entry) row s.now 0 3 out.old }
 {
-    let none = [[0i32; 256]; 0];
-    colour_rows::colour_row(layout, YcbcrKernel::Exact, 3, plane, row, s, out, 0, &none);
+    colour_rows::colour_row(layout, YcbcrKernel::Exact, 3, plane, row, s, out, 0);
 }
 
 // Row `row` as w pixels of three bytes to the front of out: guided, by the exact kernel, and the reader moved as by `row`. Surplus bytes are

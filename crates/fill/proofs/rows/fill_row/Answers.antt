@@ -20,12 +20,12 @@ overflow_mul-at c =
 
 pub overflow_mul-at-2 : goal.overflow_mul-at-2
 overflow_mul-at-2 c =
-    omega (arith, row_begins c.requires.fill_lent (c.args.first + c.args.n) c.requires.n_bound.0)
+    omega (arith, row_begins c.requires.fill_lent (c.args.first + c.args.n) c.requires.n_bound)
 
 pub chroma_row-requires : goal.chroma_row-requires
 chroma_row-requires c =
     let p = c.requires in
-    record { chroma_lent = p.fill_lent.lent; n_bound = (p.n_bound.0, p.fill_lent.scratch) }
+    record { chroma_lent = p.fill_lent.lent; n_bound = (p.n_bound, p.fill_lent.scratch) }
 
 pub colour_row-requires : goal.colour_row-requires
 colour_row-requires c =
@@ -34,7 +34,7 @@ colour_row-requires c =
     let e = ap length c.chroma_row.ensures ∙ length_fill a.upsampling a.layout (planes_seen a.planes) a.first a.n a.s.now in
     let f = front_fits a.layout in
     let g = p.scratch in
-    record { row_lent = record { luma = record { shaped = p.lent.shaped; plane = p.lent.luma; inside = c.requires.n_bound.0 }; rows = omega arith }; le_size = (p.size_least, p.size_most, row_room p (a.first + a.n) c.requires.n_bound.0, c.requires.n_bound.1) }
+    record { row_lent = record { luma = record { shaped = p.lent.shaped; plane = p.lent.luma; inside = c.requires.n_bound }; rows = omega arith }; le_size = (p.size_least, p.size_most, row_room p (a.first + a.n) c.requires.n_bound) }
 
 pub returns : goal.returns
 returns c =

@@ -1,28 +1,26 @@
-use mathlib.Core.Path.{refl, ◌∙◌}
-use native.Mathlib.Omega.{arith}
-use Rattle.kernels.specs.Kernels.{fixed255}
+use mathlib.Core.Path.{◌≡◌, refl, ◌∙◌}
+use Prim.Native.Nat.{ℕ}
+use lib.ListN.{get_or}
+use lib.IntN.{ℤ, pos}
+use Rattle.std.proofs.Common.{rules}
+use Rattle.lanes.proofs.Made.{made}
+use Rattle.kernels.specs.Kernels.{fixed255, fixed_green_cb, fixed_green_cr}
+use Rattle.kernel_blocks.specs.Inner.Blocks.{Small}
 use Rattle.kernel_blocks.proofs.FixedRows.{green_cb_small, green_cr_small}
 use Rattle.kernel_blocks.proofs.fixed.fixed_green.Goals as goal
 
-pub entries-requires : goal.entries-requires
-entries-requires c =
-    (omega (arith, c.requires.four), green_cb_small c.requires)
-
-pub entries-requires-2 : goal.entries-requires-2
-entries-requires-2 c =
-    let d = c.requires in (omega (arith, d.four), green_cr_small d)
-
 pub green_row-requires : goal.green_row-requires
 green_row-requires c =
-    let d = c.requires in
-    λ k h. let b = c.entries.ensures k h in let r = c.entries-2.ensures k h in (rw b.1 (green_cb_small d _ b.0), rw r.1 (green_cr_small d _ r.0))
+    λ k h. (
+      made c.from_fn.ensures.items (λ (i : ℕ) (z : ℤ). Small z) (λ i z q l u. (search rules, search (rules, green_cb_small))) k (pos 0) h,
+      made c.from_fn-2.ensures.items (λ (i : ℕ) (z : ℤ). Small z) (λ i z q l u. (search rules, search (rules, green_cr_small))) k (pos 0) h,
+    )
 
 pub returns : goal.returns
 unfolding fixed255
 returns c =
+    let a = c.args in
     λ k h.
-    let b = c.entries.ensures k h in
-    let r = c.entries-2.ensures k h in
-    let m = b.1 ∙ c.requires.green_cb _ b.0 in
-    let n = r.1 ∙ c.requires.green_cr _ r.0 in
+    let m = made c.from_fn.ensures.items (λ (i : ℕ) (z : ℤ). z ≡ fixed_green_cb (get_or a.cb i 0)) (λ i z q l u. (search rules, search rules)) k (pos 0) h in
+    let n = made c.from_fn-2.ensures.items (λ (i : ℕ) (z : ℤ). z ≡ fixed_green_cr (get_or a.cr i 0)) (λ i z q l u. (search rules, search rules)) k (pos 0) h in
     c.green_row.ensures k h ∙ rw (m, n) refl

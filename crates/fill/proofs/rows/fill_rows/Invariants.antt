@@ -5,7 +5,7 @@ use Rattle.image.specs.Picture.{picture_of, planes_seen}
 use Rattle.fill.specs.Fill.{fill_colour}
 use Rattle.fill.proofs.Chroma.{Scratched}
 use Rattle.fill.proofs.Painted.{Painted}
-use Rattle.fill.proofs.rows.rows_by.Given as goal
+use Rattle.fill.proofs.rows.fill_rows.Given as goal
 
 abbrev pub invariant-loop-n : goal.invariant-loop-n
 invariant-loop-n l = Painted l.layout.w l.size (fill_colour l.upsampling l.kernel (picture_of l.layout (planes_seen l.planes))) l.a l.n l.initial.out l.out

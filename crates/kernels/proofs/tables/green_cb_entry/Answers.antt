@@ -1,0 +1,12 @@
+-- The table is its rule's own list by one computation, which `green_cb_rule` carries to each entry.
+use Prim.Native.Nat.{◌<◌}
+use native.Mathlib.Omega.{arith}
+use Rattle.kernels.specs.Kernels.{fixed_green_cb}
+use Rattle.kernels.proofs.TableRules.{green_cb_rule}
+use Rattle.kernels.proofs.tables.green_cb_entry.Goals as goal
+
+pub returns : goal.returns
+unfolding fixed_green_cb
+returns c =
+    let h : c.args.c < 256 = omega arith in
+    (h, rw c.from.ensures (green_cb_rule c.args.c h))
