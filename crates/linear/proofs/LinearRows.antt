@@ -25,9 +25,10 @@ use Rattle.taps.specs.Taps.{tap_by}
 use Rattle.taps.specs.Inner.Taps.{TapGiven}
 use Rattle.linear.specs.Linear.{down_by, linear_down, linear_sample, linear_row, linear_scratch, linear_cells_at, linear_tests, across_by}
 use Rattle.linear.specs.Inner.Linear.{Ready}
+use Rattle.linear.specs.declared.rows.Row.{Row}
 use Rattle.image.specs.Scratch.{scratch_need, cell_at}
 use Rattle.linear.specs.Inner.Down.{down_run}
-use Rattle.linear.specs.Inner.AcrossRows.{across_run}
+use Rattle.linear.specs.Inner.AcrossRows.{RowFits, across_run}
 use Rattle.linear.specs.Inner.Stores.{store_run}
 use Rattle.taps.proofs.Spots.{tap_given, own_cell}
 use Rattle.laws.proofs.Counts.{none_plus, plus_none}
@@ -42,9 +43,13 @@ down_is l p y t s e = ap (λ (u : Tap). put s (linear_cells_at l) l.cw (down_by 
 across_read : (s : List Float) (at cw : ℕ) (f : ℕ → Float) (t : Tap) → at + cw ≤ length s → t.i0 < cw → t.i1 < cw → across_by t (cell_at (put s at cw f) at) ≡ across_by t f
 across_read s at cw f t h p q = rw (put_inside s at cw f t.i0 nan p h, put_inside s at cw f t.i1 nan q h) refl
 
+-- the row that goes across
+abbrev pub row_of : Layout → ℕ → Row
+row_of l dst = record { axis = l.across; r = l.rh; cw = l.cw; src = linear_cells_at l; dst = dst; w = l.w }
+
 -- across from the cells that scratch holds: scratch afterwards is `linear_row`'s
 pub row_is : (l : Layout) (p : Plane) (dst y : ℕ) (s : List Float) → Shaped l → linear_cells_at l + l.cw ≤ length s
-    → across_run l.across (linear_cells_at l) l.cw l.rh dst 0 l.w (put s (linear_cells_at l) l.cw (linear_down l (sample_at l.sample_bytes p) y)) ≡ linear_row l p dst y s
+    → across_run (row_of l dst) 0 l.w (put s (linear_cells_at l) l.cw (linear_down l (sample_at l.sample_bytes p) y)) ≡ linear_row l p dst y s
 unfolding across_run linear_row linear_sample
 row_is l p dst y s o h =
     let g = linear_down l (sample_at l.sample_bytes p) y in

@@ -8,6 +8,7 @@ ghost use Rattle.linear.specs.Inner.Linear.{Ready};
 use crate::across::across_row;
 use crate::down::down_row;
 use crate::rounded::store_row;
+use crate::rows::Row;
 use image::{Layout, Plane};
 use laws::Refusal;
 use taps::tap_at;
@@ -33,7 +34,15 @@ pub fn linear_row(layout: Layout, plane: Plane<'_>, y: usize, s: &mut [f32], dst
         s,
         cells,
     );
-    across_row(layout.across, s, cells, layout.cw, layout.rh, dst, layout.w);
+    let row = Row {
+        axis: layout.across,
+        r: layout.rh,
+        cw: layout.cw,
+        src: cells,
+        dst,
+        w: layout.w,
+    };
+    across_row(row, s);
 }
 
 // Inner: the lowest refusal of `linear_plane` that applies. `space` and `room` are the lengths of scratch and output; nothing is written.

@@ -16,8 +16,8 @@ loop-i-preserved c =
     let l = c.loop-i in
     let t = c.tap_at-t in
     let w = l.invariant in
-    let p = run_after w (a.src + t.result.i0) nan (omega arith) in
-    let q = run_after w (a.src + t.result.i1) nan (omega arith) in
+    let p = run_after w (a.row.src + t.result.i0) nan (omega arith) in
+    let q = run_after w (a.row.src + t.result.i1) nan (omega arith) in
     let e = t.ensures.is in
     let v = c.lerp.ensures in
     run_more w _ (v ∙ rw (p, q, e) refl)

@@ -7,7 +7,7 @@ use Rattle.image.proofs.Holding.{short_holds, row_inside}
 use Rattle.linear.specs.Linear.{linear_cells_at}
 use Rattle.image.specs.Scratch.{scratch_need}
 use Rattle.linear.specs.Inner.AcrossRows.{across_run}
-use Rattle.linear.proofs.LinearRows.{down_is, row_is}
+use Rattle.linear.proofs.LinearRows.{down_is, row_is, row_of}
 use native.Mathlib.Omega.{arith}
 use lib.ListN.{length}
 use Rattle.linear.proofs.plane.linear_row.Goals as goal
@@ -53,5 +53,5 @@ returns c =
     let p : Plane = seen a.plane in
     let t = c.tap_at-t in
     c.across_row.ensures
-    ∙ ap (across_run l.across (linear_cells_at l) l.cw l.rh a.dst 0 l.w) (c.down_row.ensures ∙ down_is l p a.y t.result a.s.now t.ensures.is)
+    ∙ ap (across_run (row_of l a.dst) 0 l.w) (c.down_row.ensures ∙ down_is l p a.y t.result a.s.now t.ensures.is)
     ∙ row_is l p a.dst a.y a.s.now c.requires.ready.shaped room
