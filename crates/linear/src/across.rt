@@ -16,7 +16,7 @@ use taps::{lerp, tap_at};
 
 // Outputs from, .. from + n - 1 of a row, each by its own tap. This form is for the edges of a row, for ratio 1 and for narrow rows. The
 // cells lie behind the outputs, so that no store reaches a cell.
-#[tactic(auto, using(taps::proofs::Spots::own_cell))]
+#[tactic(auto, using(taps::proofs::Spots::own_cell, laws::proofs::Lists::run_none, laws::proofs::Lists::run_end), unfolding(crate::specs::Inner::AcrossRows::across_run))]
 fn across_taps(row: Row, s: &mut [f32], from: usize, n: usize)
     requires { RowFits row (length s.old) × (from + n ≤ row.w) }
     ensures { s.new ≡ across_run row from n s.old }
@@ -31,6 +31,7 @@ fn across_taps(row: Row, s: &mut [f32], from: usize, n: usize)
 }
 
 // The r outputs between the cell at src and the next, to s from dst on.
+#[tactic(auto, using(laws::proofs::Lists::run_none, laws::proofs::Lists::run_end))]
 fn put_between(s: &mut [f32], src: usize, r: usize, parts: [f32; 4], dst: usize)
     requires { (r ≤ 4) × (dst + r ≤ src) × (src + 1 < length s.old) }
     ensures { s.new ≡ put s.old dst r

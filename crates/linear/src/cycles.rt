@@ -27,6 +27,7 @@ pub fn cycle_of(row: Row, from: usize) -> Cycle
 }
 
 // The r outputs of a turn over the cells at src, to s from dst on.
+#[tactic(auto, using(laws::proofs::Lists::run_none, laws::proofs::Lists::run_end), unfolding(crate::specs::Inner::AcrossRows::cycle_run))]
 fn cycle_step(turn: Cycle, s: &mut [f32], src: usize, r: usize, dst: usize)
     requires { (r ≤ 4) × (dst + r ≤ src) × ((k : ℕ) → k < r → src + (get_or turn.cells k 0 + 1) < length s.old) }
     ensures { s.new ≡ cycle_run turn src r dst s.old }
@@ -40,18 +41,14 @@ fn cycle_step(turn: Cycle, s: &mut [f32], src: usize, r: usize, dst: usize)
 // n turns from output `from` on, which is the first that isn't below the first cell. It is called with a literal ratio, so that the compiler
 // makes a loop for each. A turn whose cells are all its first would be a pair of `across_each`; that loop stays, since it reads a pair's two
 // cells once for all outputs between them, and here each output names cells of its own.
+// `r` is the row's own.
 fn each_cycle(row: Row, r: usize, turn: Cycle, s: &mut [f32], from: usize, n: usize)
     requires { RowFits row (length s.old) × Turning row from n × Cycled row from turn × (r ≡ row.r) }
     ensures { s.new ≡ across_run row from (row.r * n) s.old }
 {
     for i in 0..n {
-        cycle_step(
-            turn,
-            s,
-            row.src + row.axis.num * i,
-            r,
-            row.dst + from + r * i,
-        );
+        let src = row.src + row.axis.num * i;
+        cycle_step(turn, s, src, r, row.dst + from + r * i);
     }
 }
 

@@ -6,10 +6,6 @@ use Rattle.laws.proofs.Lists.{run_none, run_more, run_end, run_after}
 use native.Mathlib.Omega.{arith}
 use Rattle.linear.proofs.across.across_taps.Goals as goal
 
-pub loop-i-init : goal.loop-i-init
-loop-i-init c =
-    run_none _ _ _
-
 pub loop-i-preserved : goal.loop-i-preserved
 loop-i-preserved c =
     let a = c.args in
@@ -21,8 +17,3 @@ loop-i-preserved c =
     let e = t.ensures.is in
     let v = c.lerp.ensures in
     run_more w _ (v ∙ rw (p, q, e) refl)
-
-pub returns : goal.returns
-unfolding across_run
-returns c =
-    run_end c.loop-i.invariant _ (omega arith) (omega arith)

@@ -3,18 +3,9 @@ use Rattle.laws.proofs.Lists.{run_none, run_more, run_end}
 use native.Mathlib.Omega.{arith}
 use Rattle.linear.proofs.down.down_row.Goals as goal
 
-pub loop-i-init : goal.loop-i-init
-loop-i-init c =
-    run_none _ _ _
-
 pub loop-i-preserved : goal.loop-i-preserved
 loop-i-preserved c =
     let near = c.sample-near.ensures in
     let far = c.sample-far.ensures in
     let value = c.lerp.ensures in
     run_more c.loop-i.invariant _ (cc)
-
-pub returns : goal.returns
-unfolding down_run
-returns c =
-    run_end c.loop-i.invariant _ (omega arith) (omega arith)
