@@ -2,9 +2,9 @@
 -- The hard step is `centred_between`: output r / 2 + m lies between cells m / r and m / r + 1, by splitting m as (m / r) * r + m % r. Co-sited,
 -- output m does by the definition.
 use mathlib.Core.Path.{◌≡◌, refl, sym, ap, ◌∙◌}
-use mathlib.Core.List.{List, [], ◌∷◌}
-use Prim.Native.Nat.{ℕ, zero, suc, ◌+◌, ◌-◌, ◌*◌, ◌/◌, ◌%◌, ◌≤◌, ◌<◌}
-use native.Mathlib.Nat.{mul_comm, le_of_mul-le-mul_right, le_trans, div-add-mod', mod-lt, div-lt_iff_lt-mul, div-mul-le_self}
+use mathlib.Core.List.{List}
+use Prim.Native.Nat.{ℕ, ◌+◌, ◌-◌, ◌*◌, ◌/◌, ◌%◌, ◌≤◌, ◌<◌}
+use native.Mathlib.Nat.{mul_comm, le_trans, div-add-mod', mod-lt, div-lt_iff_lt-mul}
 use native.Mathlib.Omega.{arith}
 use lib.Arith.{digits_div, digits_mod}
 use lib.Ieee.{Float, nan}
@@ -30,22 +30,7 @@ between_is part r s src i j m h e a b v p q k =
     let t : m % r ≡ j = ap (λ (z : ℕ). z % r) x ∙ digits_mod i h in
     rw (d, t, sym p, sym q) k
 
--- the fractions of a pair's outputs in an array of four
-pub parts_are : (siting : Siting) (r : ℕ) (a b c d : Float) → a ≡ part_of siting r 0 → b ≡ part_of siting r 1 → c ≡ part_of siting r 2 → d ≡ part_of siting r 3
-    → (k : ℕ) → k < 4 → parts_in (a ∷ b ∷ c ∷ d ∷ []) k ≡ part_of siting r k
-parts_are siting r a b c d p q s t k h = go k h
-  where
-    past : (k : ℕ) → suc (suc (suc (suc k))) < 4 → ⊥
-    past k h = omega arith
-
-    go : (k : ℕ) → k < 4 → parts_in (a ∷ b ∷ c ∷ d ∷ []) k ≡ part_of siting r k
-    go zero h = p
-    go (suc zero) h = q
-    go (suc (suc zero)) h = s
-    go (suc (suc (suc zero))) h = t
-    go (suc (suc (suc (suc k)))) h = absurd (past k h)
-
--- the outputs by an array of them are those by the siting
+-- the outputs by an array of fractions are those by the siting
 pub parts_run : (siting : Siting) (r : ℕ) (parts : List Float) → 0 < r → r ≤ 4 → ((k : ℕ) → k < 4 → parts_in parts k ≡ part_of siting r k)
     → (src n dst : ℕ) (s : List Float) → between_run (parts_in parts) r src n dst s ≡ between_run (part_of siting r) r src n dst s
 unfolding between_run

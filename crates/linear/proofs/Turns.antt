@@ -1,7 +1,7 @@
 -- Ratios that aren't whole: output o + r·i lies num·i cells past output o, with the same fraction (`turned`). Its place is num·i·d parts further, d to a
 -- cell (`place_turned`), and those are whole cells (`place_period`); the cells are there because num·n of them, and one more, cover n turns.
 use mathlib.Core.Path.{◌≡◌, refl, sym, ap, subst, ◌∙◌}
-use Prim.Native.Nat.{ℕ, zero, suc, ◌+◌, ◌-◌, ◌*◌, ◌/◌, ◌%◌, ◌≤◌, ◌<◌}
+use Prim.Native.Nat.{ℕ, suc, ◌+◌, ◌-◌, ◌*◌, ◌/◌, ◌%◌, ◌≤◌, ◌<◌}
 use native.Mathlib.Nat.{le_trans, mul-le-mul_left, mul-le-mul_right, div-add-mod', mod-lt, div-lt_iff_lt-mul, div-mul-le_self, lt_of_mul-lt-mul_right, suc-mul}
 use native.Mathlib.Omega.{arith}
 use lib.Dec.{lit≤}
@@ -146,14 +146,6 @@ turn_is row from k i c s t d o l same =
 
     lerp_same : (a b f a' b' f' : Float) → a ≡ a' → b ≡ b' → f ≡ f' → lerp_of a b f ≡ lerp_of a' b' f'
     lerp_same a b f a' b' f' p q e = rw (p, q, e) refl
-
--- one of four
-pub by_four : (P : ℕ → Type 0) (r : ℕ) → r ≤ 4 → P 0 → P 1 → P 2 → P 3 → (k : ℕ) → k < r → P k
-by_four P r l a b c d zero h = a
-by_four P r l a b c d (suc zero) h = b
-by_four P r l a b c d (suc (suc zero)) h = c
-by_four P r l a b c d (suc (suc (suc zero))) h = d
-by_four P r l a b c d (suc (suc (suc (suc k)))) h = absurd (omega arith)
 
 first_small : (sit : Siting) → first_of sit ≤ 1
 first_small Centred = lit≤ tt

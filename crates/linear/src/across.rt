@@ -31,7 +31,7 @@ fn across_taps(row: Row, s: &mut [f32], from: usize, n: usize)
 }
 
 // The r outputs between the cell at src and the next, to s from dst on.
-#[tactic(auto, using(laws::proofs::Lists::run_none, laws::proofs::Lists::run_end))]
+#[tactic(auto, using(laws::proofs::Lists::run_none))]
 fn put_between(s: &mut [f32], src: usize, r: usize, parts: [f32; 4], dst: usize)
     requires { (r ≤ 4) × (dst + r ≤ src) × (src + 1 < length s.old) }
     ensures { s.new ≡ put s.old dst r

@@ -1,8 +1,7 @@
 use mathlib.Core.Path.{refl, ◌∙◌}
 use Prim.Native.Nat.{◌+◌}
 use lib.Ieee.{nan}
-use Rattle.linear.specs.Inner.AcrossRows.{across_run}
-use Rattle.laws.proofs.Lists.{run_none, run_more, run_end, run_after}
+use Rattle.laws.proofs.Lists.{run_more, run_after}
 use native.Mathlib.Omega.{arith}
 use Rattle.linear.proofs.across.across_taps.Goals as goal
 

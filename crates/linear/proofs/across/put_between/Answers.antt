@@ -1,4 +1,4 @@
-use Rattle.laws.proofs.Lists.{run_none, run_more}
+use Rattle.laws.proofs.Lists.{run_more}
 use Rattle.linear.proofs.across.put_between.Goals as goal
 
 pub loop-k-preserved : goal.loop-k-preserved

@@ -3,8 +3,7 @@ use Prim.Native.Nat.{◌+◌}
 use native.Mathlib.Omega.{arith}
 use lib.Ieee.{nan}
 use lib.ListN.{get_or}
-use Rattle.laws.proofs.Lists.{run_none, run_more, run_end, run_after}
-use Rattle.linear.specs.Inner.AcrossRows.{cycle_run}
+use Rattle.laws.proofs.Lists.{run_more, run_after}
 use Rattle.linear.proofs.cycles.cycle_step.Goals as goal
 
 pub loop-k-preserved : goal.loop-k-preserved

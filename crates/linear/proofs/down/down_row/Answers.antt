@@ -1,6 +1,4 @@
-use Rattle.linear.specs.Inner.Down.{down_run}
-use Rattle.laws.proofs.Lists.{run_none, run_more, run_end}
-use native.Mathlib.Omega.{arith}
+use Rattle.laws.proofs.Lists.{run_more}
 use Rattle.linear.proofs.down.down_row.Goals as goal
 
 pub loop-i-preserved : goal.loop-i-preserved

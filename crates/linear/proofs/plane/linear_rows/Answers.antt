@@ -1,21 +1,16 @@
 use mathlib.Core.Path.{ap, ◌∙◌}
-use Prim.Native.Nat.{◌+◌, ◌*◌, ◌≤◌}
+use Prim.Native.Nat.{◌*◌}
 use lib.Ieee.{Float}
 use mathlib.Core.List.{List}
 use native.Mathlib.Nat.{mul_comm}
-use Rattle.laws.proofs.Lists.{rows_none, rows_more, rows_end}
+use Rattle.laws.proofs.Lists.{rows_more}
 use Rattle.image.specs.Samples.{Plane, seen}
-use Rattle.linear.specs.Linear.{linear_plane}
 use Rattle.linear.specs.Inner.Stores.{store_run}
-use Rattle.linear.proofs.LinearRows.{ready_on, front_room, scratch_none, scratch_more, scratch_end, length_row, stored_is}
+use Rattle.linear.proofs.LinearRows.{ready_on, front_room, scratch_more, length_row, stored_is}
 use Rattle.laws.proofs.Rows.{row_fits}
 use native.Mathlib.Omega.{arith}
 use lib.ListN.{length}
 use Rattle.linear.proofs.plane.linear_rows.Goals as goal
-
-pub loop-y-init : goal.loop-y-init
-loop-y-init c =
-    (rows_none _ _ _, scratch_none _ _ _)
 
 pub store_row-requires : goal.store_row-requires
 store_row-requires c =
@@ -38,8 +33,3 @@ loop-y-preserved c =
           ∙ stored_is a.layout p l.y (l.y * a.layout.w) l.s l.out room),
       scratch_more l.invariant.1 _ row.ensures,
     )
-
-pub returns : goal.returns
-unfolding linear_plane
-returns c =
-    record { out_after = rows_end c.loop-y.invariant.0 _ (omega arith) (omega arith); s_after = scratch_end c.loop-y.invariant.1 _ (omega arith) (omega arith) }

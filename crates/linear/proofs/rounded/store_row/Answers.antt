@@ -1,9 +1,8 @@
 use mathlib.Core.Path.{◌≡◌, ap, ◌∙◌}
 use Prim.Native.Nat.{ℕ, min}
 use Rattle.fround.specs.Rounding.{round_clamped}
-use Rattle.linear.specs.Inner.Stores.{store_run}
 use Rattle.image.specs.Scratch.{cell_at}
-use Rattle.laws.proofs.Lists.{run_none, run_more, run_end}
+use Rattle.laws.proofs.Lists.{run_more}
 use native.Mathlib.Omega.{arith}
 use Rattle.linear.proofs.rounded.store_row.Goals as goal
 
