@@ -2,9 +2,9 @@
 -- The hard step is `centred_between`: output r / 2 + m lies between cells m / r and m / r + 1, by splitting m as (m / r) * r + m % r. Co-sited,
 -- output m does by the definition.
 use mathlib.Core.Path.{◌≡◌, refl, sym, ap, ◌∙◌}
-use mathlib.Core.List.{List, [], ◌∷◌}
-use Prim.Native.Nat.{ℕ, zero, suc, ◌+◌, ◌-◌, ◌*◌, ◌/◌, ◌%◌, ◌≤◌, ◌<◌}
-use native.Mathlib.Nat.{mul_comm, le_of_mul-le-mul_right, le_trans, div-add-mod', mod-lt, div-lt_iff_lt-mul, div-mul-le_self}
+use mathlib.Core.List.{List}
+use Prim.Native.Nat.{ℕ, ◌+◌, ◌-◌, ◌*◌, ◌/◌, ◌%◌, ◌≤◌, ◌<◌}
+use native.Mathlib.Nat.{mul_comm, le_trans, div-add-mod', mod-lt, div-lt_iff_lt-mul}
 use native.Mathlib.Omega.{arith}
 use lib.Arith.{digits_div, digits_mod}
 use lib.Ieee.{Float, nan}
@@ -14,7 +14,7 @@ use Rattle.laws.specs.Lists.{put}
 use Rattle.laws.proofs.Lists.{put_same, put_after, put_chain}
 use Rattle.laws.specs.declared.axes.Siting.{Siting}
 use Rattle.laws.specs.declared.axes.Siting.TheVariants.{Centred, CoSited}
-use Rattle.laws.specs.declared.axes.Axis.{Axis}
+use Rattle.linear.specs.declared.rows.Row.{Row}
 use Rattle.taps.specs.declared.positions.Tap.{Tap}
 use Rattle.taps.specs.Taps.{lerp_of, spot_at, sited_at, spot_of, tap_on, tap_by}
 use Rattle.linear.specs.Linear.{across_by}
@@ -30,22 +30,7 @@ between_is part r s src i j m h e a b v p q k =
     let t : m % r ≡ j = ap (λ (z : ℕ). z % r) x ∙ digits_mod i h in
     rw (d, t, sym p, sym q) k
 
--- the fractions of a pair's outputs in an array of four
-pub parts_are : (siting : Siting) (r : ℕ) (a b c d : Float) → a ≡ part_of siting r 0 → b ≡ part_of siting r 1 → c ≡ part_of siting r 2 → d ≡ part_of siting r 3
-    → (k : ℕ) → k < 4 → parts_in (a ∷ b ∷ c ∷ d ∷ []) k ≡ part_of siting r k
-parts_are siting r a b c d p q s t k h = go k h
-  where
-    past : (k : ℕ) → suc (suc (suc (suc k))) < 4 → ⊥
-    past k h = omega arith
-
-    go : (k : ℕ) → k < 4 → parts_in (a ∷ b ∷ c ∷ d ∷ []) k ≡ part_of siting r k
-    go zero h = p
-    go (suc zero) h = q
-    go (suc (suc zero)) h = s
-    go (suc (suc (suc zero))) h = t
-    go (suc (suc (suc (suc k)))) h = absurd (past k h)
-
--- the outputs by an array of them are those by the siting
+-- the outputs by an array of fractions are those by the siting
 pub parts_run : (siting : Siting) (r : ℕ) (parts : List Float) → 0 < r → r ≤ 4 → ((k : ℕ) → k < 4 → parts_in parts k ≡ part_of siting r k)
     → (src n dst : ℕ) (s : List Float) → between_run (parts_in parts) r src n dst s ≡ between_run (part_of siting r) r src n dst s
 unfolding between_run
@@ -100,15 +85,18 @@ between_tap Centred r len m p h = ap tap_on (centred_between r len m p h)
 between_tap CoSited r len m p h = ap tap_on (co_sited_between r len m p h)
 
 -- one cell to r outputs: the outputs between n pairs of cells are those of the row behind its head
-pub between_taps : (a : Axis) (r src cw n dst : ℕ) (s : List Float) → a.num ≡ 1 → 1 < r → n < cw
-    → between_run (part_of a.siting r) r src n (dst + head_of a.siting r) s ≡ across_run a src cw r dst (head_of a.siting r) (r * n) s
+pub between_taps : (row : Row) (n : ℕ) (s : List Float) → row.axis.num ≡ 1 → 1 < row.r → n < row.cw
+    → between_run (part_of row.axis.siting row.r) row.r row.src n (row.dst + head_of row.axis.siting row.r) s ≡ across_run row (head_of row.axis.siting row.r) (row.r * n) s
 unfolding between_run across_run tap_by
-between_taps a r src cw n dst s e p h =
-    put_same s (dst + head_of a.siting r) (r * n) _ _
-    (λ i l. sym (ap (λ (t : Tap). across_by t (cell_at s src)) (ap (λ (num : ℕ). tap_on (spot_of a.siting num r cw (head_of a.siting r + i))) e ∙ between_tap a.siting r cw i p (pair i l))))
+between_taps row n s e p h =
+    let r = row.r in
+    let siting = row.axis.siting in
+    put_same s (row.dst + head_of siting r) (r * n) _ _
+    (λ i l. sym (ap (λ (t : Tap). across_by t (cell_at s row.src)) (ap (λ (num : ℕ). tap_on (spot_of siting num r row.cw (head_of siting r + i))) e ∙ between_tap siting r row.cw i p (pair i l))))
   where
-    pair : (i : ℕ) → i < r * n → i / r + 1 < cw
+    pair : (i : ℕ) → i < row.r * n → i / row.r + 1 < row.cw
     pair i l =
+        let r = row.r in
         let z : 0 < r = omega arith in
         let k : i / r < n = (div-lt_iff_lt-mul z).1 (rw (mul_comm n r) l) in
         omega arith
@@ -116,39 +104,35 @@ between_taps a r src cw n dst s e p h =
 -- ---- rows in parts
 
 -- n outputs from `from` on and then m more are one run: the cells lie behind the row, so that the first part leaves them
-pub across_chain : (a : Axis) (src cw r dst from n m : ℕ) (s : List Float) → dst + from + n ≤ src
-    → across_run a src cw r dst (from + n) m (across_run a src cw r dst from n s) ≡ across_run a src cw r dst from (n + m) s
+pub across_chain : (row : Row) (from n m : ℕ) (s : List Float) → row.dst + from + n ≤ row.src → across_run row (from + n) m (across_run row from n s) ≡ across_run row from (n + m) s
 unfolding across_run
-across_chain a src cw r dst from n m s h =
-    let f : ℕ → Float = λ i. across_by (tap_by a r cw (from + i)) (cell_at s src) in
-    let xs = put s (dst + from) n f in
-    let same : (i : ℕ) → cell_at xs src i ≡ cell_at s src i = λ i. put_after s (dst + from) n f (src + i) nan (omega arith) in
-    ap (λ (at : ℕ). put xs at m (λ i. across_by (tap_by a r cw (from + n + i)) (cell_at xs src))) (step dst from n)
-    ∙ put_same xs (dst + from + n) m _ (λ i. f (n + i)) (λ i l. alike i (same (tap_by a r cw (from + n + i)).i0) (same (tap_by a r cw (from + n + i)).i1))
-    ∙ put_chain s (dst + from) n m f
+across_chain row from n m s h =
+    let tap : ℕ → Tap = tap_by row.axis row.r row.cw in
+    let f : ℕ → Float = λ i. across_by (tap (from + i)) (cell_at s row.src) in
+    let xs = put s (row.dst + from) n f in
+    let same : (i : ℕ) → cell_at xs row.src i ≡ cell_at s row.src i = λ i. put_after s (row.dst + from) n f (row.src + i) nan (omega arith) in
+    ap (λ (at : ℕ). put xs at m (λ i. across_by (tap (from + n + i)) (cell_at xs row.src))) (step row.dst from n)
+    ∙ put_same xs (row.dst + from + n) m _ (λ i. f (n + i))
+    (λ i l. alike (tap (from + n + i)) xs (same (tap (from + n + i)).i0) (same (tap (from + n + i)).i1) ∙ ap (λ (o : ℕ). across_by (tap o) (cell_at s row.src)) (sym (step from n i)))
+    ∙ put_chain s (row.dst + from) n m f
   where
-    step : (dst from n : ℕ) → dst + (from + n) ≡ dst + from + n
-    step dst from n = omega arith
+    step : (a b c : ℕ) → a + (b + c) ≡ a + b + c
+    step a b c = omega arith
 
-    alike : (i : ℕ) → cell_at (put s (dst + from) n (λ i. across_by (tap_by a r cw (from + i)) (cell_at s src))) src (tap_by a r cw (from + n + i)).i0 ≡ cell_at s src (tap_by a r cw (from + n + i)).i0
-        → cell_at (put s (dst + from) n (λ i. across_by (tap_by a r cw (from + i)) (cell_at s src))) src (tap_by a r cw (from + n + i)).i1 ≡ cell_at s src (tap_by a r cw (from + n + i)).i1
-        → across_by (tap_by a r cw (from + n + i)) (cell_at (put s (dst + from) n (λ i. across_by (tap_by a r cw (from + i)) (cell_at s src))) src) ≡ across_by (tap_by a r cw (from + (n + i))) (cell_at s src)
-    alike i p q = rw (p, q) (ap (λ (o : ℕ). across_by (tap_by a r cw o) (cell_at s src)) (place from n i))
-      where
-        place : (from n i : ℕ) → from + n + i ≡ from + (n + i)
-        place from n i = omega arith
+    alike : (t : Tap) (xs : List Float) → cell_at xs row.src t.i0 ≡ cell_at s row.src t.i0 → cell_at xs row.src t.i1 ≡ cell_at s row.src t.i1 → across_by t (cell_at xs row.src) ≡ across_by t (cell_at s row.src)
+    alike t xs p q = rw (p, q) refl
 
 -- head, pairs and what is left are the whole row
-pub across_parts : (a : Axis) (src cw r dst head pairs w : ℕ) (s : List Float) → dst + w ≤ src → head + pairs ≤ w
-    → across_run a src cw r dst (head + pairs) (w - (head + pairs)) (across_run a src cw r dst head pairs (across_run a src cw r dst 0 head s)) ≡ across_run a src cw r dst 0 w s
-across_parts a src cw r dst head pairs w s h k =
-    let run : ℕ → ℕ → List Float → List Float = across_run a src cw r dst in
-    let one : run head pairs (run 0 head s) ≡ run 0 (head + pairs) s =
-    ap (λ (f : ℕ). run f pairs (run 0 head s)) (zero head) ∙ across_chain a src cw r dst 0 head pairs s (omega arith) in
-    ap (run (head + pairs) (w - (head + pairs))) one
-    ∙ ap (λ (f : ℕ). run f (w - (head + pairs)) (run 0 (head + pairs) s)) (zero (head + pairs))
-    ∙ across_chain a src cw r dst 0 (head + pairs) (w - (head + pairs)) s (omega arith)
-    ∙ ap (λ (n : ℕ). run 0 n s) (whole (head + pairs) w k)
+pub across_parts : (row : Row) (head pairs : ℕ) (s : List Float) → row.dst + row.w ≤ row.src → head + pairs ≤ row.w
+    → across_run row (head + pairs) (row.w - (head + pairs)) (across_run row head pairs (across_run row 0 head s)) ≡ across_run row 0 row.w s
+across_parts row head pairs s h k =
+    let run : ℕ → ℕ → List Float → List Float = across_run row in
+    let b = head + pairs in
+    let rest = row.w - b in
+    ap (run b rest) (ap (λ (f : ℕ). run f pairs (run 0 head s)) (zero head) ∙ across_chain row 0 head pairs s (omega arith))
+    ∙ ap (λ (f : ℕ). run f rest (run 0 b s)) (zero b)
+    ∙ across_chain row 0 b rest s (omega arith)
+    ∙ ap (λ (n : ℕ). run 0 n s) (whole b row.w k)
   where
     zero : (n : ℕ) → n ≡ 0 + n
     zero n = omega arith

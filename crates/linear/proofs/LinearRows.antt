@@ -18,6 +18,7 @@ use Rattle.laws.proofs.Refusals.{accepted_failed, failed_both}
 use Rattle.image.specs.Tests.{tests_for}
 use Rattle.image.specs.Inner.Tests.{Shaped}
 use Rattle.image.proofs.Layouts.{shaped}
+use Rattle.image.proofs.Holding.{short_holds, row_inside}
 use Rattle.image.specs.Samples.{Plane, sample_at}
 use Rattle.fround.specs.Rounding.{round_clamped}
 use Rattle.taps.specs.declared.positions.Tap.{Tap}
@@ -25,12 +26,22 @@ use Rattle.taps.specs.Taps.{tap_by}
 use Rattle.taps.specs.Inner.Taps.{TapGiven}
 use Rattle.linear.specs.Linear.{down_by, linear_down, linear_sample, linear_row, linear_scratch, linear_cells_at, linear_tests, across_by}
 use Rattle.linear.specs.Inner.Linear.{Ready}
+use Rattle.linear.specs.declared.rows.Row.{Row}
 use Rattle.image.specs.Scratch.{scratch_need, cell_at}
 use Rattle.linear.specs.Inner.Down.{down_run}
-use Rattle.linear.specs.Inner.AcrossRows.{across_run}
+use Rattle.linear.specs.Inner.AcrossRows.{RowFits, across_run}
 use Rattle.linear.specs.Inner.Stores.{store_run}
 use Rattle.taps.proofs.Spots.{tap_given, own_cell}
 use Rattle.laws.proofs.Counts.{none_plus, plus_none}
+
+-- both rows of a tap end within the plane
+pub tap_rows : (l : Layout) (p : Plane) (space : ℕ) → Ready l p space → (i : ℕ) → i < l.ch → i * p.stride + l.cw * l.sample_bytes ≤ length p.bytes
+tap_rows l p space r i h = row_inside (short_holds l l.cw l.ch p r.plane) i h
+
+-- the cells lie within scratch
+pub cells_room : (l : Layout) (p : Plane) (space : ℕ) → Ready l p space → linear_cells_at l + l.cw ≤ space
+unfolding scratch_need
+cells_room l p space r = let h = r.scratch in let o = r.shaped in omega arith
 
 -- down by the row's tap: what is put into scratch are the definition's cells
 pub down_is : (l : Layout) (p : Plane) (y : ℕ) (t : Tap) (s : List Float) → t ≡ tap_by l.down l.rv l.ch y
@@ -42,9 +53,17 @@ down_is l p y t s e = ap (λ (u : Tap). put s (linear_cells_at l) l.cw (down_by 
 across_read : (s : List Float) (at cw : ℕ) (f : ℕ → Float) (t : Tap) → at + cw ≤ length s → t.i0 < cw → t.i1 < cw → across_by t (cell_at (put s at cw f) at) ≡ across_by t f
 across_read s at cw f t h p q = rw (put_inside s at cw f t.i0 nan p h, put_inside s at cw f t.i1 nan q h) refl
 
+-- the row that goes across
+abbrev pub row_of : Layout → ℕ → Row
+row_of l dst = record { axis = l.across; r = l.rh; cw = l.cw; src = linear_cells_at l; dst = dst; w = l.w }
+
+pub row_fits : (l : Layout) (dst len : ℕ) → Shaped l → dst ≤ l.w → linear_cells_at l + l.cw ≤ len → RowFits (row_of l dst) len
+row_fits l dst len o h k =
+    record { num_some = omega arith; num_most = omega arith; r_most = omega arith; w_some = omega arith; w_most = omega arith; cw_some = omega arith; over = o.cells; behind = omega arith; inside = k }
+
 -- across from the cells that scratch holds: scratch afterwards is `linear_row`'s
 pub row_is : (l : Layout) (p : Plane) (dst y : ℕ) (s : List Float) → Shaped l → linear_cells_at l + l.cw ≤ length s
-    → across_run l.across (linear_cells_at l) l.cw l.rh dst 0 l.w (put s (linear_cells_at l) l.cw (linear_down l (sample_at l.sample_bytes p) y)) ≡ linear_row l p dst y s
+    → across_run (row_of l dst) 0 l.w (put s (linear_cells_at l) l.cw (linear_down l (sample_at l.sample_bytes p) y)) ≡ linear_row l p dst y s
 unfolding across_run linear_row linear_sample
 row_is l p dst y s o h =
     let g = linear_down l (sample_at l.sample_bytes p) y in
@@ -69,6 +88,13 @@ unfolding linear_row
 row_read l p at y s x h k = put_inside _ at l.w (linear_sample l (sample_at l.sample_bytes p) y) x nan h (rw (length_put s (linear_cells_at l) l.cw (linear_down l (sample_at l.sample_bytes p) y)) k)
 
 -- ---- a plane's loop
+
+-- what is known of the scratch that a call was handed is known of it as long as its length stays
+pub ready_on : {l : Layout} {p : Plane} {space len : ℕ} → Ready l p space → len ≡ space → Ready l p len
+ready_on r e = record { shaped = r.shaped; plane = r.plane; scratch = rw e r.scratch }
+
+pub front_room : {l : Layout} {p : Plane} {space : ℕ} → Ready l p space → 0 + l.w ≤ space
+front_room {l} {p} {space} r = let h = cells_room l p space r in omega arith
 
 -- scratch after the first y rows
 pub record Scratched (l : Layout) (p : Plane) (y : ℕ) (before after : List Float) : Type 0 where

@@ -1,7 +1,7 @@
 -- Ratios that aren't whole: output o + r·i lies num·i cells past output o, with the same fraction (`turned`). Its place is num·i·d parts further, d to a
 -- cell (`place_turned`), and those are whole cells (`place_period`); the cells are there because num·n of them, and one more, cover n turns.
 use mathlib.Core.Path.{◌≡◌, refl, sym, ap, subst, ◌∙◌}
-use Prim.Native.Nat.{ℕ, zero, suc, ◌+◌, ◌-◌, ◌*◌, ◌/◌, ◌%◌, ◌≤◌, ◌<◌}
+use Prim.Native.Nat.{ℕ, suc, ◌+◌, ◌-◌, ◌*◌, ◌/◌, ◌%◌, ◌≤◌, ◌<◌}
 use native.Mathlib.Nat.{le_trans, mul-le-mul_left, mul-le-mul_right, div-add-mod', mod-lt, div-lt_iff_lt-mul, div-mul-le_self, lt_of_mul-lt-mul_right, suc-mul}
 use native.Mathlib.Omega.{arith}
 use lib.Dec.{lit≤}
@@ -12,13 +12,14 @@ use lib.ListN.{get_or}
 use lib.Ieee.{Float, nan}
 use Rattle.image.specs.Scratch.{cell_at}
 use Rattle.linear.specs.declared.cycles.Cycle.{Cycle}
+use Rattle.linear.specs.declared.rows.Row.{Row}
 use Rattle.laws.specs.declared.axes.Siting.{Siting}
 use Rattle.laws.specs.declared.axes.Siting.TheVariants.{Centred, CoSited}
 use Rattle.laws.specs.declared.axes.Axis.{Axis}
 use Rattle.taps.specs.declared.positions.Tap.{Tap}
 use Rattle.taps.specs.Taps.{Spot, lerp_of, fraction_of, spot_at, sited_at, spot_of, tap_on, tap_by}
 use Rattle.linear.specs.Linear.{across_by}
-use Rattle.linear.specs.Inner.AcrossRows.{first_of, Cycled, cycle_at}
+use Rattle.linear.specs.Inner.AcrossRows.{RowFits, Turning, first_of, Cycled, cycle_at}
 
 -- output o lies place_of / whole_of cells past the first
 abbrev whole_of : Siting → ℕ → ℕ
@@ -123,16 +124,17 @@ turned a r len n k i h g t l kl il =
     same : (a b q j d x : ℕ) → a ≡ q + x → b ≡ j → tap_on (record { near = a; far = a + 1; k = b; d = d }) ≡ record { i0 = x + q; i1 = x + (q + 1); f = fraction_of j d }
     same a b q j d x e f = let g : q + x ≡ x + q = omega arith in let h : q + x + 1 ≡ x + (q + 1) = omega arith in rw (e, f, h, g) refl
 
-pub turned_from : (a : Axis) (r len from n k i : ℕ) → from ≡ first_of a.siting → 1 < a.num → a.num < r → r ≤ 4 → a.num * n < len → k < r → i < n → Turned a r len from k i
-turned_from a r len from n k i e h g t l kl il = subst (λ (x : ℕ). Turned a r len x k i) (sym e) (turned a r len n k i h g t l kl il)
+pub turned_from : (row : Row) (from n k i : ℕ) → Turning row from n → row.r ≤ 4 → k < row.r → i < n → Turned row.axis row.r row.cw from k i
+turned_from row from n k i t r kl il = subst (λ (x : ℕ). Turned row.axis row.r row.cw x k i) (sym t.begins) (turned row.axis row.r row.cw n k i t.num t.ratio r t.cells kl il)
 
 -- as a loop that has the cells and fractions of a turn stores it, over a list whose cells are the same
-pub turn_is : (a : Axis) (r cw from k i : ℕ) (c : Cycle) (s t : List Float) (src : ℕ) → Turned a r cw from k i → Cycled a r cw from c → k < r → ((x : ℕ) → cell_at s src x ≡ cell_at t src x)
-    → cycle_at c s (src + a.num * i) k ≡ across_by (tap_by a r cw (from + (r * i + k))) (cell_at t src)
-turn_is a r cw from k i c s t src d o l same =
-    let x = a.num * i in
+pub turn_is : (row : Row) (from k i : ℕ) (c : Cycle) (s t : List Float) → Turned row.axis row.r row.cw from k i → Cycled row from c → k < row.r
+    → ((x : ℕ) → cell_at s row.src x ≡ cell_at t row.src x) → cycle_at c s (row.src + row.axis.num * i) k ≡ across_by (tap_by row.axis row.r row.cw (from + (row.r * i + k))) (cell_at t row.src)
+turn_is row from k i c s t d o l same =
+    let src = row.src in
+    let x = row.axis.num * i in
     let C = get_or c.cells k 0 in
-    let T = tap_by a r cw (from + k) in
+    let T = tap_by row.axis row.r row.cw (from + k) in
     let e : C ≡ T.i0 = o.cell k l in
     lerp_same _ _ _ _ _ _
     (ap (λ (n : ℕ). get_or s n nan) (place src x C) ∙ same (x + C) ∙ ap (λ (n : ℕ). cell_at t src (x + n)) e)
@@ -145,37 +147,34 @@ turn_is a r cw from k i c s t src d o l same =
     lerp_same : (a b f a' b' f' : Float) → a ≡ a' → b ≡ b' → f ≡ f' → lerp_of a b f ≡ lerp_of a' b' f'
     lerp_same a b f a' b' f' p q e = rw (p, q, e) refl
 
--- one of four
-pub by_four : (P : ℕ → Type 0) (r : ℕ) → r ≤ 4 → P 0 → P 1 → P 2 → P 3 → (k : ℕ) → k < r → P k
-by_four P r l a b c d zero h = a
-by_four P r l a b c d (suc zero) h = b
-by_four P r l a b c d (suc (suc zero)) h = c
-by_four P r l a b c d (suc (suc (suc zero))) h = d
-by_four P r l a b c d (suc (suc (suc (suc k)))) h = absurd (omega arith)
-
--- the turns that fit behind the first outputs: they lie within the row, and their cells within the cells
-pub record Turns (num r cw w from : ℕ) : Type 0 where
-  pub small : from ≤ 1
-  pub fit : from + r * ((w - 1) / r) ≤ w
-  pub cells : num * ((w - 1) / r) < cw
-
 first_small : (sit : Siting) → first_of sit ≤ 1
 first_small Centred = lit≤ tt
 first_small CoSited = lit≤ tt
 
-pub turns_fit : (sit : Siting) (num r cw w from : ℕ) → from ≡ first_of sit → 0 < num → 0 < r → 0 < w → w * num ≤ cw * r → Turns num r cw w from
-turns_fit sit num r cw w from e p z l k =
-    let f : from ≤ 1 = rw e (first_small sit) in
+-- the turns that fit behind the first outputs: they lie within the row, and their cells within the cells
+pub turns_fit : (row : Row) (from len : ℕ) → RowFits row len → from ≡ first_of row.axis.siting → 1 < row.axis.num → row.axis.num < row.r → Turning row from ((row.w - 1) / row.r)
+turns_fit row from len o e p h =
+    let f : from ≤ 1 = rw e (first_small row.axis.siting) in
     let d : (w - 1) / r * r ≤ w - 1 = div-mul-le_self (w - 1) r in
-    record { small = f; fit = go ((w - 1) / r) f d; cells = lt_of_mul ((w - 1) / r) d }
+    record { num = p; ratio = h; begins = e; small = f; outputs = go ((w - 1) / r) f d o.w_some; cells = lt_of_mul ((w - 1) / r) d }
   where
-    go : (q : ℕ) → from ≤ 1 → q * r ≤ w - 1 → from + r * q ≤ w
-    go q f d = omega arith
+    w : ℕ
+    w = row.w
 
-    lt_of_mul : (q : ℕ) → q * r ≤ w - 1 → num * q < cw
+    r : ℕ
+    r = row.r
+
+    num : ℕ
+    num = row.axis.num
+
+    go : (q : ℕ) → from ≤ 1 → q * r ≤ w - 1 → 0 < w → from + r * q ≤ w
+    go q f d l = omega arith
+
+    lt_of_mul : (q : ℕ) → q * r ≤ w - 1 → num * q < row.cw
     lt_of_mul q d =
+        let l = o.w_some in
         let b : suc (w - 1) ≡ w = omega arith in
-        lt_of_mul-lt-mul_right r (under q (w - 1) (mul-le-mul_right num d) (subst (λ (x : ℕ). x * num ≤ cw * r) (sym b) k))
+        lt_of_mul-lt-mul_right r (under q (w - 1) (mul-le-mul_right num d) (subst (λ (x : ℕ). x * num ≤ row.cw * r) (sym b) o.over))
       where
-        under : (q v : ℕ) → q * r * num ≤ v * num → suc v * num ≤ cw * r → num * q * r < cw * r
+        under : (q v : ℕ) → q * r * num ≤ v * num → suc v * num ≤ row.cw * r → num * q * r < row.cw * r
         under q v a c = omega (arith, suc-mul v num)

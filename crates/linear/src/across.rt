@@ -5,39 +5,33 @@ ghost use Rattle.std.specs.Prelude.{◌≡◌, ℕ, ◌+◌, ◌*◌, ◌≤◌,
 ghost use Rattle.std.specs.Float.{nan};
 ghost use Rattle.laws.specs.Lists.{put};
 ghost use Rattle.taps.specs.Taps.{lerp_of};
-ghost use Rattle.linear.specs.Inner.AcrossRows.{across_run, head_of, first_of, part_of, parts_in, between_run};
+ghost use Rattle.linear.specs.Inner.AcrossRows.{RowFits, Turning, Pairing, across_run, part_of, parts_in, between_run};
 
 use crate::cycles::{across_cycles, cycle_of};
+use crate::rows::Row;
 use crate::sitings::{first_of, head_of, lead_of, parts_of};
 use crate::twos::{Twos, across_twos};
-use laws::{Axis, Siting};
+use laws::Siting;
 use taps::{lerp, tap_at};
 
-// Outputs from, .. from + n - 1 of a row over the cw cells at src, each by its own tap. This form is for the edges of a row, for ratio 1
-// and for narrow rows. A row has at most `Layout::SIDE` = 8,192 outputs, and the cells lie behind them, so that no store reaches a cell.
-fn across_taps(
-    axis: Axis,
-    s: &mut [f32],
-    src: usize,
-    cw: usize,
-    r: usize,
-    dst: usize,
-    from: usize,
-    n: usize,
-)
-    requires num_le_r { (axis.num ≤ r) × (0 < r) × (r ≤ 4) × (0 < cw) × (from + n ≤ 8192) × (axis.num ≡ r → from + n ≤ cw) }
-    requires n_bound { (dst + from + n ≤ src) × (src + cw ≤ length s.old) }
-    ensures { s.new ≡ across_run axis src cw r dst from n s.old }
+// Outputs from, .. from + n - 1 of a row, each by its own tap. This form is for the edges of a row, for ratio 1 and for narrow rows. The
+// cells lie behind the outputs, so that no store reaches a cell.
+#[tactic(auto, using(taps::proofs::Spots::own_cell, laws::proofs::Lists::run_none, laws::proofs::Lists::run_end), unfolding(crate::specs::Inner::AcrossRows::across_run))]
+fn across_taps(row: Row, s: &mut [f32], from: usize, n: usize)
+    requires { RowFits row (length s.old) × (from + n ≤ row.w) }
+    ensures { s.new ≡ across_run row from n s.old }
 {
+    let src = row.src;
     for i in 0..n {
-        let t = tap_at(axis, r, cw, from + i);
+        let t = tap_at(row.axis, row.r, row.cw, from + i);
         let i0 = t.i0;
         let i1 = t.i1;
-        s[dst + from + i] = lerp(s[src + i0], s[src + i1], t.f);
+        s[row.dst + from + i] = lerp(s[src + i0], s[src + i1], t.f);
     }
 }
 
 // The r outputs between the cell at src and the next, to s from dst on.
+#[tactic(auto, using(laws::proofs::Lists::run_none))]
 fn put_between(s: &mut [f32], src: usize, r: usize, parts: [f32; 4], dst: usize)
     requires { (r ≤ 4) × (dst + r ≤ src) × (src + 1 < length s.old) }
     ensures { s.new ≡ put s.old dst r
@@ -79,91 +73,59 @@ fn across_between(siting: Siting, s: &mut [f32], src: usize, r: usize, n: usize,
     across_each(s, src, 4, parts, n, dst);
 }
 
-// A row of w outputs in three parts: `head` outputs before the first pair of cells, those between n pairs, r to a pair, then the rest.
-fn across_parts(
-    axis: Axis,
-    s: &mut [f32],
-    src: usize,
-    cw: usize,
-    r: usize,
-    dst: usize,
-    w: usize,
-    head: usize,
-    n: usize,
-)
-    requires num_value { (axis.num ≡ 1) × (1 < r) × (r ≤ 4) × (w ≤ 8192) }
-    requires head_value { (head ≡ head_of axis.siting r) × (head + r * n ≤ w) × (n < cw) × (r ≡ 2 → 8 ≤ n) }
-    requires w_bound { (dst + w ≤ src) × (src + cw ≤ length s.old) }
-    ensures { s.new ≡ across_run axis src cw r dst 0 w s.old }
+// A row in three parts: `head` outputs before the first pair of cells, those between n pairs, r to a pair, then the rest.
+fn across_parts(row: Row, s: &mut [f32], head: usize, n: usize)
+    requires { RowFits row (length s.old) × Pairing row head n }
+    ensures { s.new ≡ across_run row 0 row.w s.old }
 {
-    let siting = axis.siting;
-    let rest = head + r * n;
-    across_taps(axis, s, src, cw, r, dst, 0, head);
-    across_between(siting, s, src, r, n, dst + head);
-    across_taps(axis, s, src, cw, r, dst, rest, w - rest);
+    let rest = head + row.r * n;
+    across_taps(row, s, 0, head);
+    across_between(row.axis.siting, s, row.src, row.r, n, row.dst + head);
+    across_taps(row, s, rest, row.w - rest);
 }
 
-// A row of w outputs in three parts: those below the first cell, n turns of r outputs, then the rest.
-fn across_turns(
-    axis: Axis,
-    s: &mut [f32],
-    src: usize,
-    cw: usize,
-    r: usize,
-    dst: usize,
-    w: usize,
-    from: usize,
-    n: usize,
-)
-    requires lt_num { (1 < axis.num) × (axis.num < r) × (r ≤ 4) × (w ≤ 8192) }
-    requires from_value { (from ≡ first_of axis.siting) × (from ≤ 1) × (from + r * n ≤ w) × (axis.num * n < cw) }
-    requires w_bound { (dst + w ≤ src) × (src + cw ≤ length s.old) }
-    ensures { s.new ≡ across_run axis src cw r dst 0 w s.old }
+// A row in three parts: those below the first cell, n turns of r outputs, then the rest.
+fn across_turns(row: Row, s: &mut [f32], from: usize, n: usize)
+    requires { RowFits row (length s.old) × Turning row from n }
+    ensures { s.new ≡ across_run row 0 row.w s.old }
 {
-    let rest = from + r * n;
-    let turn = cycle_of(axis, r, cw, from);
-    across_taps(axis, s, src, cw, r, dst, 0, from);
-    across_cycles(axis, turn, s, src, cw, r, dst, from, n);
-    across_taps(axis, s, src, cw, r, dst, rest, w - rest);
+    let rest = from + row.r * n;
+    let turn = cycle_of(row, from);
+    across_taps(row, s, 0, from);
+    across_cycles(row, turn, s, from, n);
+    across_taps(row, s, rest, row.w - rest);
 }
 
 // A row at a numerator other than 1. Where it is the ratio each output has its own cell. Else it goes by turns, and one output at least isn't
 // counted where it is divided into them: in a row that fills its cells the last turn's outputs reach the last cell, behind which there is none.
-fn across_ratio(axis: Axis, s: &mut [f32], src: usize, cw: usize, r: usize, dst: usize, w: usize)
-    requires num_nonzero { (0 < axis.num) × (axis.num ≤ r) × (axis.num ≡ 1 → ⊥) × (r ≤ 4) × (0 < cw) × (0 < w) × (w ≤ 8192) × (w * axis.num ≤ cw * r) }
-    requires w_bound { (dst + w ≤ src) × (src + cw ≤ length s.old) }
-    ensures { s.new ≡ across_run axis src cw r dst 0 w s.old }
+fn across_ratio(row: Row, s: &mut [f32])
+    requires { RowFits row (length s.old) × (row.axis.num ≡ 1 → ⊥) }
+    ensures { s.new ≡ across_run row 0 row.w s.old }
 {
-    if axis.num == r {
-        across_taps(axis, s, src, cw, r, dst, 0, w);
+    if row.axis.num == row.r {
+        across_taps(row, s, 0, row.w);
         return;
     }
-    let siting = axis.siting;
-    let from = first_of(siting);
-    across_turns(axis, s, src, cw, r, dst, w, from, (w - 1) / r);
+    let from = first_of(row.axis.siting);
+    across_turns(row, s, from, (row.w - 1) / row.r);
 }
 
-// Inner: a row of w outputs over the cw cells at src, of which the axis has `axis.num` to r outputs, to s from dst on. At ratio 1 and in
-// narrow rows of whole ratios each output has its tap; else the row goes by its head, its pairs of cells and the rest, or by its turns.
-pub fn across_row(axis: Axis, s: &mut [f32], src: usize, cw: usize, r: usize, dst: usize, w: usize)
-    requires num_nonzero { (0 < axis.num) × (axis.num ≤ r) × (r ≤ 4) × (0 < cw) × (0 < w) × (w ≤ 8192) × (w * axis.num ≤ cw * r) }
-    requires w_bound { (dst + w ≤ src) × (src + cw ≤ length s.old) }
-    ensures { s.new ≡ across_run axis src cw r dst 0 w s.old }
+// Inner: a row across. At ratio 1 and in narrow rows of whole ratios each output has its tap; else the row goes by its head, its pairs of
+// cells and the rest, or by its turns.
+pub fn across_row(row: Row, s: &mut [f32])
+    requires { RowFits row (length s.old) }
+    ensures { s.new ≡ across_run row 0 row.w s.old }
 {
-    if axis.num != 1 {
-        across_ratio(axis, s, src, cw, r, dst, w);
+    if row.axis.num != 1 {
+        across_ratio(row, s);
         return;
     }
-    if r == 1 {
-        across_taps(axis, s, src, cw, r, dst, 0, w);
+    if row.r == 1 || row.w < Twos::ROW {
+        across_taps(row, s, 0, row.w);
         return;
     }
-    if w < Twos::ROW {
-        across_taps(axis, s, src, cw, r, dst, 0, w);
-        return;
-    }
-    let siting = axis.siting;
-    let head = head_of(siting, r);
-    let lead = lead_of(siting, r);
-    across_parts(axis, s, src, cw, r, dst, w, head, (w - lead) / r);
+    let siting = row.axis.siting;
+    let head = head_of(siting, row.r);
+    let lead = lead_of(siting, row.r);
+    across_parts(row, s, head, (row.w - lead) / row.r);
 }

@@ -1,9 +1,9 @@
 // Outputs at ratios that aren't whole, num cells to r outputs with num greater than 1. They go by turns: r outputs over num cells, then the same
 // again num cells further, with the same fractions.
 ghost use Rattle.std.specs.Prelude.{◌≡◌, ℕ, ◌+◌, ◌*◌, ◌≤◌, ◌<◌, length, get_or};
-ghost use Rattle.linear.specs.Inner.AcrossRows.{across_run, cycle_run, Cycled, first_of};
+ghost use Rattle.linear.specs.Inner.AcrossRows.{RowFits, Turning, across_run, cycle_run, Cycled};
 
-use laws::Axis;
+use crate::rows::Row;
 use std::array::from_fn;
 use taps::{Tap, lerp, tap_at};
 
@@ -15,11 +15,11 @@ pub struct Cycle {
 }
 
 // Inner: the cells and fractions of the r outputs from `from` on.
-pub fn cycle_of(axis: Axis, r: usize, cw: usize, from: usize) -> Cycle
-    requires { (axis.num < r) × (r ≤ 4) × (0 < cw) × (from ≤ 1) }
-    ensures { Cycled axis r cw from result }
+pub fn cycle_of(row: Row, from: usize) -> Cycle
+    requires { (row.axis.num < row.r) × (row.r ≤ 4) × (0 < row.cw) × (from ≤ 1) }
+    ensures { Cycled row from result }
 {
-    let taps: [Tap; 4] = from_fn(|k| tap_at(axis, r, cw, from + k));
+    let taps: [Tap; 4] = from_fn(|k| tap_at(row.axis, row.r, row.cw, from + k));
     Cycle {
         cells: from_fn(|k| taps[k].i0),
         parts: from_fn(|k| taps[k].f),
@@ -27,6 +27,7 @@ pub fn cycle_of(axis: Axis, r: usize, cw: usize, from: usize) -> Cycle
 }
 
 // The r outputs of a turn over the cells at src, to s from dst on.
+#[tactic(auto, using(laws::proofs::Lists::run_none, laws::proofs::Lists::run_end), unfolding(crate::specs::Inner::AcrossRows::cycle_run))]
 fn cycle_step(turn: Cycle, s: &mut [f32], src: usize, r: usize, dst: usize)
     requires { (r ≤ 4) × (dst + r ≤ src) × ((k : ℕ) → k < r → src + (get_or turn.cells k 0 + 1) < length s.old) }
     ensures { s.new ≡ cycle_run turn src r dst s.old }
@@ -40,45 +41,25 @@ fn cycle_step(turn: Cycle, s: &mut [f32], src: usize, r: usize, dst: usize)
 // n turns from output `from` on, which is the first that isn't below the first cell. It is called with a literal ratio, so that the compiler
 // makes a loop for each. A turn whose cells are all its first would be a pair of `across_each`; that loop stays, since it reads a pair's two
 // cells once for all outputs between them, and here each output names cells of its own.
-fn each_cycle(
-    axis: Axis,
-    turn: Cycle,
-    s: &mut [f32],
-    src: usize,
-    cw: usize,
-    r: usize,
-    dst: usize,
-    from: usize,
-    n: usize,
-)
-    requires lt_num { (1 < axis.num) × (axis.num < r) × (r ≤ 4) × (from ≡ first_of axis.siting) × (axis.num * n < cw) × Cycled axis r cw from turn }
-    requires n_bound { (dst + from + r * n ≤ src) × (src + cw ≤ length s.old) }
-    ensures { s.new ≡ across_run axis src cw r dst from (r * n) s.old }
+// `r` is the row's own.
+fn each_cycle(row: Row, r: usize, turn: Cycle, s: &mut [f32], from: usize, n: usize)
+    requires { RowFits row (length s.old) × Turning row from n × Cycled row from turn × (r ≡ row.r) }
+    ensures { s.new ≡ across_run row from (row.r * n) s.old }
 {
     for i in 0..n {
-        cycle_step(turn, s, src + axis.num * i, r, dst + from + r * i);
+        let src = row.src + row.axis.num * i;
+        cycle_step(turn, s, src, r, row.dst + from + r * i);
     }
 }
 
 // Inner: n turns from output `from` on, by a loop for each ratio: below 3 no numerator lies between 1 and the ratio.
-pub fn across_cycles(
-    axis: Axis,
-    turn: Cycle,
-    s: &mut [f32],
-    src: usize,
-    cw: usize,
-    r: usize,
-    dst: usize,
-    from: usize,
-    n: usize,
-)
-    requires lt_num { (1 < axis.num) × (axis.num < r) × (r ≤ 4) × (from ≡ first_of axis.siting) × (axis.num * n < cw) × Cycled axis r cw from turn }
-    requires n_bound { (dst + from + r * n ≤ src) × (src + cw ≤ length s.old) }
-    ensures { s.new ≡ across_run axis src cw r dst from (r * n) s.old }
+pub fn across_cycles(row: Row, turn: Cycle, s: &mut [f32], from: usize, n: usize)
+    requires { RowFits row (length s.old) × Turning row from n × Cycled row from turn }
+    ensures { s.new ≡ across_run row from (row.r * n) s.old }
 {
-    if r == 3 {
-        each_cycle(axis, turn, s, src, cw, 3, dst, from, n);
+    if row.r == 3 {
+        each_cycle(row, 3, turn, s, from, n);
         return;
     }
-    each_cycle(axis, turn, s, src, cw, 4, dst, from, n);
+    each_cycle(row, 4, turn, s, from, n);
 }

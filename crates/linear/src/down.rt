@@ -5,6 +5,7 @@ ghost use Rattle.linear.specs.Inner.Down.{down_run};
 use taps::lerp;
 
 // Inner: n samples of the two rows of a plane that begin at bytes a and b, lerped by f, to s from dst on.
+#[tactic(auto, using(laws::proofs::Lists::run_none, laws::proofs::Lists::run_end), unfolding(crate::specs::Inner::Down::down_run))]
 pub fn down_row(
     plane: &[u8],
     sample_bytes: usize,

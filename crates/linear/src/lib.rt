@@ -9,6 +9,7 @@ mod cycles;
 mod down;
 mod plane;
 mod rounded;
+mod rows;
 mod sitings;
 mod twos;
 

@@ -8,6 +8,7 @@ ghost use Rattle.linear.specs.Inner.Linear.{Ready};
 use crate::across::across_row;
 use crate::down::down_row;
 use crate::rounded::store_row;
+use crate::rows::Row;
 use image::{Layout, Plane};
 use laws::Refusal;
 use taps::tap_at;
@@ -33,7 +34,15 @@ pub fn linear_row(layout: Layout, plane: Plane<'_>, y: usize, s: &mut [f32], dst
         s,
         cells,
     );
-    across_row(layout.across, s, cells, layout.cw, layout.rh, dst, layout.w);
+    let row = Row {
+        axis: layout.across,
+        r: layout.rh,
+        cw: layout.cw,
+        src: cells,
+        dst,
+        w: layout.w,
+    };
+    across_row(row, s);
 }
 
 // Inner: the lowest refusal of `linear_plane` that applies. `space` and `room` are the lengths of scratch and output; nothing is written.
@@ -61,6 +70,7 @@ pub fn linear_answer(
 }
 
 // Every row of the plane, each lerped into scratch at 0 and then rounded into out.
+#[tactic(auto, using(laws::proofs::Lists::rows_none, laws::proofs::Lists::rows_end, crate::proofs::LinearRows::scratch_none, crate::proofs::LinearRows::scratch_end), unfolding(crate::specs::Linear::linear_plane))]
 fn linear_rows(layout: Layout, plane: Plane<'_>, s: &mut [f32], out: &mut [u16])
     requires ready { Ready layout (seen plane) (length s.old) }
     requires h_in_bounds { layout.w * layout.h ≤ length out.old }

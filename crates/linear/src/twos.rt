@@ -16,6 +16,7 @@ impl Twos {
 }
 
 // The outputs between eight pairs of the cells at src, from pair i on, by the two fractions that stand first in `parts`.
+#[tactic(auto, using(laws::proofs::Lists::run_none, laws::proofs::Lists::front_at))]
 fn twos_block(s: &[f32], src: usize, parts: [f32; 4], i: usize) -> [f32; Lanes::PIXELS]
     requires { src + (i + 9) ≤ length s.now }
     ensures { (k : ℕ) → k < 16 → get_or result k nan ≡ between_at (parts_in parts) 2 s.now src (2 * i + k) }
@@ -32,6 +33,7 @@ fn twos_block(s: &[f32], src: usize, parts: [f32; 4], i: usize) -> [f32; Lanes::
 
 // Inner: the outputs between n pairs of the cells at src, to s from dst on. The last block ends with the last pair: it overlaps the block
 // before it and stores again what that stored.
+#[tactic(auto, using(laws::proofs::Lists::run_end), unfolding(crate::specs::Inner::AcrossRows::between_run))]
 pub fn across_twos(s: &mut [f32], src: usize, parts: [f32; 4], n: usize, dst: usize)
     requires { (8 ≤ n) × (dst + 2 * n ≤ src) × (src + (n + 1) ≤ length s.old) }
     ensures { s.new ≡ between_run (parts_in parts) 2 src n dst s.old }

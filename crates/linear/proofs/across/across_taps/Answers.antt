@@ -1,14 +1,9 @@
 use mathlib.Core.Path.{refl, ◌∙◌}
 use Prim.Native.Nat.{◌+◌}
 use lib.Ieee.{nan}
-use Rattle.linear.specs.Inner.AcrossRows.{across_run}
-use Rattle.laws.proofs.Lists.{run_none, run_more, run_end, run_after}
+use Rattle.laws.proofs.Lists.{run_more, run_after}
 use native.Mathlib.Omega.{arith}
 use Rattle.linear.proofs.across.across_taps.Goals as goal
-
-pub loop-i-init : goal.loop-i-init
-loop-i-init c =
-    run_none _ _ _
 
 pub loop-i-preserved : goal.loop-i-preserved
 loop-i-preserved c =
@@ -16,13 +11,8 @@ loop-i-preserved c =
     let l = c.loop-i in
     let t = c.tap_at-t in
     let w = l.invariant in
-    let p = run_after w (a.src + t.result.i0) nan (omega arith) in
-    let q = run_after w (a.src + t.result.i1) nan (omega arith) in
+    let p = run_after w (a.row.src + t.result.i0) nan (omega arith) in
+    let q = run_after w (a.row.src + t.result.i1) nan (omega arith) in
     let e = t.ensures.is in
     let v = c.lerp.ensures in
     run_more w _ (v ∙ rw (p, q, e) refl)
-
-pub returns : goal.returns
-unfolding across_run
-returns c =
-    run_end c.loop-i.invariant _ (omega arith) (omega arith)

@@ -10,11 +10,8 @@ use Rattle.linear.proofs.across.across_turns.Goals as goal
 pub returns : goal.returns
 returns c =
     let a = c.args in
-    let p = c.requires in
-    let one = c.across_taps in
-    let two = c.across_cycles in
-    let run : ℕ → ℕ → List Float → List Float = across_run a.axis a.src a.cw a.r a.dst in
-    let turns = a.r * a.n in
+    let run : ℕ → ℕ → List Float → List Float = across_run a.row in
+    let turns = a.row.r * a.n in
     c.across_taps-2.ensures
-    ∙ ap (run (a.from + turns) (a.w - (a.from + turns))) (two.ensures ∙ ap (run a.from turns) one.ensures)
-    ∙ across_parts a.axis a.src a.cw a.r a.dst a.from turns a.w a.s.now p.w_bound.0 p.from_value.2
+    ∙ ap (run (a.from + turns) (a.row.w - (a.from + turns))) (c.across_cycles.ensures ∙ ap (run a.from turns) c.across_taps.ensures)
+    ∙ across_parts a.row a.from turns a.s.now c.requires.0.behind c.requires.1.outputs

@@ -1,9 +1,5 @@
-use Rattle.laws.proofs.Lists.{run_none, run_more}
+use Rattle.laws.proofs.Lists.{run_more}
 use Rattle.linear.proofs.across.put_between.Goals as goal
-
-pub loop-k-init : goal.loop-k-init
-loop-k-init c =
-    run_none _ _ _
 
 pub loop-k-preserved : goal.loop-k-preserved
 loop-k-preserved c =

@@ -3,13 +3,8 @@ use Prim.Native.Nat.{◌+◌}
 use native.Mathlib.Omega.{arith}
 use lib.Ieee.{nan}
 use lib.ListN.{get_or}
-use Rattle.laws.proofs.Lists.{run_none, run_more, run_end, run_after}
-use Rattle.linear.specs.Inner.AcrossRows.{cycle_run}
+use Rattle.laws.proofs.Lists.{run_more, run_after}
 use Rattle.linear.proofs.cycles.cycle_step.Goals as goal
-
-pub loop-k-init : goal.loop-k-init
-loop-k-init c =
-    run_none _ _ _
 
 pub loop-k-preserved : goal.loop-k-preserved
 loop-k-preserved c =
@@ -21,8 +16,3 @@ loop-k-preserved c =
     let q = run_after w (a.src + (i + 1)) nan (omega arith) in
     let v = c.lerp.ensures in
     run_more w _ (v ∙ rw (p, q) refl)
-
-pub returns : goal.returns
-unfolding cycle_run
-returns c =
-    run_end c.loop-k.invariant _ (omega arith) (omega arith)

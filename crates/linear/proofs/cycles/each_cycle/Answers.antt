@@ -1,4 +1,4 @@
-use mathlib.Core.Path.{refl, ◌∙◌}
+use mathlib.Core.Path.{◌≡◌, refl, ap, ◌∙◌}
 use Prim.Native.Nat.{ℕ, ◌+◌, ◌*◌, ◌≤◌, ◌<◌}
 use native.Mathlib.Nat.{mul-le-mul_left}
 use native.Mathlib.Omega.{arith}
@@ -18,34 +18,41 @@ loop-i-init c =
 pub cycle_step-requires : goal.cycle_step-requires
 cycle_step-requires c =
     let a = c.args in
+    let row = a.row in
     let p = c.requires in
+    let o = p.0 in
+    let t = p.1 in
     let l = c.loop-i in
-    let y = next a.r l.i a.n (omega arith) in (
+    let same : a.r * l.i ≡ row.r * l.i = ap (λ (r : ℕ). r * l.i) p.3 in
+    let y = next row.r l.i a.n (omega arith) in (
       omega arith,
       omega arith,
       λ k h.
-          let t = turned_from a.axis a.r a.cw a.from a.n k l.i p.lt_num.3 p.lt_num.0 p.lt_num.1 p.lt_num.2 p.lt_num.4 h (omega arith) in
-          let e = p.lt_num.5.cell k h in
+          let d = turned_from row a.from a.n k l.i t o.r_most (omega arith) (omega arith) in
+          let e = p.2.cell k (omega arith) in
           let n = l.invariant.len in
-          omega (arith, t.inside, e, n),
+          omega (arith, d.inside, e, n),
     )
 
 pub loop-i-preserved : goal.loop-i-preserved
 unfolding cycle_run
 loop-i-preserved c =
     let a = c.args in
+    let row = a.row in
     let p = c.requires in
+    let o = p.0 in
     let l = c.loop-i in
     let w = l.invariant in
-    let y = next a.r l.i a.n (omega arith) in run_run w _ (a.dst + a.from + a.r * l.i) (a.r * (l.i + 1)) a.r
+    let y = next row.r l.i a.n (omega arith) in
+    run_run w _ (row.dst + a.from + row.r * l.i) (row.r * (l.i + 1)) row.r
     (c.cycle_step.ensures
-    ∙ put_same _ _ a.r _ _ (λ k h.
-    turn_is a.axis a.r a.cw a.from k l.i _ l.s a.s.now a.src
-    (turned_from a.axis a.r a.cw a.from a.n k l.i p.lt_num.3 p.lt_num.0 p.lt_num.1 p.lt_num.2 p.lt_num.4 h (omega arith))
-    p.lt_num.5 h (λ x. run_after w (a.src + x) nan (omega arith))))
+    ∙ ap (λ (r : ℕ). cycle_run a.turn (row.src + row.axis.num * l.i) r (row.dst + a.from + r * l.i) l.s) p.3
+    ∙ put_same _ _ row.r _ _ (λ k h.
+    turn_is row a.from k l.i _ l.s a.s.now (turned_from row a.from a.n k l.i p.1 o.r_most h (omega arith))
+    p.2 h (λ x. run_after w (row.src + x) nan (omega arith))))
     refl (omega arith)
 
 pub returns : goal.returns
 unfolding across_run
 returns c =
-    let a = c.args in run_end c.loop-i.invariant _ (mul-le-mul_left a.r (omega arith)) (mul-le-mul_left a.r (omega arith))
+    let a = c.args in run_end c.loop-i.invariant _ (mul-le-mul_left a.row.r (omega arith)) (mul-le-mul_left a.row.r (omega arith))

@@ -8,4 +8,4 @@ use Rattle.linear.specs.Linear.{across_by}
 use Rattle.linear.proofs.cycles.each_cycle.Given as goal
 
 abbrev pub invariant-loop-i : goal.invariant-loop-i
-invariant-loop-i l = Run l.initial.s l.s (l.dst + l.from) (l.r * l.i) (λ k. across_by (tap_by l.axis l.r l.cw (l.from + k)) (cell_at l.initial.s l.src))
+invariant-loop-i l = Run l.initial.s l.s (l.row.dst + l.from) (l.row.r * l.i) (λ k. across_by (tap_by l.row.axis l.row.r l.row.cw (l.from + k)) (cell_at l.initial.s l.row.src))

@@ -1,11 +1,5 @@
-use Rattle.linear.specs.Inner.Down.{down_run}
-use Rattle.laws.proofs.Lists.{run_none, run_more, run_end}
-use native.Mathlib.Omega.{arith}
+use Rattle.laws.proofs.Lists.{run_more}
 use Rattle.linear.proofs.down.down_row.Goals as goal
-
-pub loop-i-init : goal.loop-i-init
-loop-i-init c =
-    run_none _ _ _
 
 pub loop-i-preserved : goal.loop-i-preserved
 loop-i-preserved c =
@@ -13,8 +7,3 @@ loop-i-preserved c =
     let far = c.sample-far.ensures in
     let value = c.lerp.ensures in
     run_more c.loop-i.invariant _ (cc)
-
-pub returns : goal.returns
-unfolding down_run
-returns c =
-    run_end c.loop-i.invariant _ (omega arith) (omega arith)

@@ -1,54 +1,35 @@
 use mathlib.Core.Path.{ap, ◌∙◌}
-use Prim.Native.Nat.{◌+◌, ◌*◌, ◌≤◌}
+use Prim.Native.Nat.{◌*◌}
 use lib.Ieee.{Float}
 use mathlib.Core.List.{List}
 use native.Mathlib.Nat.{mul_comm}
-use Rattle.laws.proofs.Lists.{rows_none, rows_more, rows_end}
+use Rattle.laws.proofs.Lists.{rows_more}
 use Rattle.image.specs.Samples.{Plane, seen}
-use Rattle.linear.specs.Linear.{linear_plane}
-use Rattle.linear.specs.Inner.Linear.{Ready}
-use Rattle.image.specs.Scratch.{scratch_need}
 use Rattle.linear.specs.Inner.Stores.{store_run}
-use Rattle.linear.proofs.LinearRows.{scratch_none, scratch_more, scratch_end, length_row, stored_is}
+use Rattle.linear.proofs.LinearRows.{ready_on, front_room, scratch_more, length_row, stored_is}
 use Rattle.laws.proofs.Rows.{row_fits}
 use native.Mathlib.Omega.{arith}
 use lib.ListN.{length}
 use Rattle.linear.proofs.plane.linear_rows.Goals as goal
 
-pub loop-y-init : goal.loop-y-init
-loop-y-init c =
-    (rows_none _ _ _, scratch_none _ _ _)
-
 pub store_row-requires : goal.store_row-requires
-unfolding scratch_need
 store_row-requires c =
-    let ready : Ready c.args.layout (seen c.args.plane) (length c.loop-y.s) = let r = c.requires.ready in record { shaped = r.shaped; plane = r.plane; scratch = rw c.loop-y.invariant.1.len r.scratch } in
-    let room : 0 + c.args.layout.w ≤ length c.loop-y.s = let r = ready in omega arith in
-    let inside : c.loop-y.y * c.args.layout.w + c.args.layout.w ≤ length c.loop-y.out = let a = c.args in
-    omega (arith, row_fits c.loop-y.y a.layout.h a.layout.w (omega arith), mul_comm a.layout.w a.layout.h, c.loop-y.invariant.0.len) in
-    let h = inside in
-    let r = ready in
-    let k = room in
+    let a = c.args in
+    let l = c.loop-y in
+    let room = front_room (ready_on c.requires.ready l.invariant.1.len) in
     let e = ap length c.linear_row.ensures ∙ length_row _ _ _ _ _ in
-    omega arith
+    omega (arith, row_fits l.y a.layout.h a.layout.w (omega arith), mul_comm a.layout.w a.layout.h, l.invariant.0.len)
 
 pub loop-y-preserved : goal.loop-y-preserved
-unfolding scratch_need
 loop-y-preserved c =
-    let ready : Ready c.args.layout (seen c.args.plane) (length c.loop-y.s) = let r = c.requires.ready in record { shaped = r.shaped; plane = r.plane; scratch = rw c.loop-y.invariant.1.len r.scratch } in
-    let room : 0 + c.args.layout.w ≤ length c.loop-y.s = let r = ready in omega arith in
     let a = c.args in
     let p : Plane = seen a.plane in
     let l = c.loop-y in
-    let row = c.linear_row in (
+    let row = c.linear_row in
+    let room = front_room (ready_on c.requires.ready l.invariant.1.len) in (
       rows_more l.invariant.0 _
           (c.store_row.ensures
           ∙ ap (λ (z : List Float). store_run z 0 a.layout.w a.layout.maxval (l.y * a.layout.w) l.out) row.ensures
           ∙ stored_is a.layout p l.y (l.y * a.layout.w) l.s l.out room),
       scratch_more l.invariant.1 _ row.ensures,
     )
-
-pub returns : goal.returns
-unfolding linear_plane
-returns c =
-    record { out_after = rows_end c.loop-y.invariant.0 _ (omega arith) (omega arith); s_after = scratch_end c.loop-y.invariant.1 _ (omega arith) (omega arith) }

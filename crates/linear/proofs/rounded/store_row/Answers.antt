@@ -1,15 +1,10 @@
 use mathlib.Core.Path.{◌≡◌, ap, ◌∙◌}
 use Prim.Native.Nat.{ℕ, min}
 use Rattle.fround.specs.Rounding.{round_clamped}
-use Rattle.linear.specs.Inner.Stores.{store_run}
 use Rattle.image.specs.Scratch.{cell_at}
-use Rattle.laws.proofs.Lists.{run_none, run_more, run_end}
+use Rattle.laws.proofs.Lists.{run_more}
 use native.Mathlib.Omega.{arith}
 use Rattle.linear.proofs.rounded.store_row.Goals as goal
-
-pub loop-i-init : goal.loop-i-init
-loop-i-init c =
-    run_none _ _ _
 
 pub loop-i-preserved : goal.loop-i-preserved
 loop-i-preserved c =
@@ -17,8 +12,3 @@ loop-i-preserved c =
     let l = c.loop-i in
     let e : min a.maxval 4194304 ≡ a.maxval = omega arith in
     run_more l.invariant _ (c.round_clamped_by_grid.ensures.is ∙ ap (λ (k : ℕ). round_clamped k (cell_at a.s.now a.src l.i)) e)
-
-pub returns : goal.returns
-unfolding store_run
-returns c =
-    run_end c.loop-i.invariant _ (omega arith) (omega arith)

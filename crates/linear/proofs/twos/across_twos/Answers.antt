@@ -2,8 +2,8 @@ use mathlib.Core.Path.{◌∙◌}
 use Prim.Native.Nat.{◌+◌, ◌*◌, ◌≤◌, ◌<◌, min}
 use native.Mathlib.Omega.{arith}
 use lib.Ieee.{nan}
-use Rattle.laws.proofs.Lists.{put_same, run_none, run_at, run_end, run_after, run_over}
-use Rattle.linear.specs.Inner.AcrossRows.{parts_in, between_run}
+use Rattle.laws.proofs.Lists.{put_same, run_none, run_at, run_after, run_over}
+use Rattle.linear.specs.Inner.AcrossRows.{parts_in}
 use Rattle.linear.proofs.AcrossRuns.{between_same}
 use Rattle.linear.proofs.twos.across_twos.Goals as goal
 
@@ -19,7 +19,3 @@ loop-b-preserved c =
     let r = run_at c.loop-b.invariant (2 * (c.loop-b.b * 8)) (omega arith) in
     let z = run_over r _ (2 * i) 16 nan (c.put_block.ensures ∙ put_same _ _ 16 _ _ (λ k q. c.twos_block-v.ensures k q ∙ between_same (parts_in a.parts) 2 c.loop-b.s a.s.now a.src (2 * i + k) (λ m. run_after r (a.src + m) nan (omega arith)))) (omega arith) (omega arith) (omega arith) in
     run_at z (2 * min ((c.loop-b.b + 1) * 8) a.n) (omega arith)
-
-pub returns : goal.returns
-unfolding between_run
-returns c = run_end c.loop-b.invariant _ (omega arith) (omega arith)

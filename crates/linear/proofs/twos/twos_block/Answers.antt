@@ -3,14 +3,10 @@ use Prim.Native.Nat.{◌+◌, ◌*◌}
 use native.Mathlib.Omega.{arith}
 use lib.ListN.{get_or}
 use lib.Ieee.{nan}
-use Rattle.laws.proofs.Lists.{run_none, run_at, front_more, front_at}
+use Rattle.laws.proofs.Lists.{run_at, front_more}
 use Rattle.linear.specs.Inner.AcrossRows.{parts_in}
 use Rattle.linear.proofs.AcrossRuns.{between_is}
 use Rattle.linear.proofs.twos.twos_block.Goals as goal
-
-pub loop-k-init : goal.loop-k-init
-loop-k-init c =
-    run_none _ _ _
 
 pub loop-k-preserved : goal.loop-k-preserved
 loop-k-preserved c =
@@ -24,7 +20,3 @@ loop-k-preserved c =
     let v = front_more l.invariant c.lerp.result (between_is part 2 xs o.src p 0 (2 * o.i + 2 * l.k) (omega arith) (omega arith) a b c.lerp.result refl refl c.lerp.ensures) in
     let w = front_more v c.lerp-in-loop-k.result (between_is part 2 xs o.src p 1 (2 * o.i + (2 * l.k + 1)) (omega arith) (omega arith) a b c.lerp-in-loop-k.result refl refl c.lerp-in-loop-k.ensures) in
     run_at w (2 * (l.k + 1)) (omega arith)
-
-pub returns : goal.returns
-returns c =
-    λ k h. front_at c.loop-k.invariant k nan (omega arith) (omega arith)
