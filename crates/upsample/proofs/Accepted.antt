@@ -16,32 +16,27 @@ use Rattle.image.specs.Tests.{div_ceil, layout_tests}
 use Rattle.image.specs.Inner.Tests.{Sound}
 use Rattle.image.specs.Samples.{Plane}
 use Rattle.image.proofs.Layouts.{sound}
-use Rattle.image.proofs.Holding.{Holds, row_inside, short_holds}
+use Rattle.image.proofs.Holding.{row_inside, short_holds}
 use Rattle.upsample.specs.Triangular.{bad_triangular, triangular_tests}
-use Rattle.upsample.specs.Inner.Pairs.{RowInside, Doubled}
+use Rattle.upsample.specs.Inner.Pairs.{RowsInside, Doubled, Taken}
+use Rattle.upsample.specs.declared.rows.CellRows.{CellRows}
 
 -- ---- all refusals passed
 
-pub record Taken (l : Layout) (stride len room : ℕ) : Type 0 where
-  pub size : Sound l
-  pub kind : bad_triangular l ≡ false
-  pub plane : Holds l.sample_bytes l.cw l.ch stride len
-  pub output : l.w * l.h ≤ room
-
-pub taken : (l : Layout) (p : Plane) (room : ℕ) → first (triangular_tests l p room) ≡ Ok tt → Taken l p.stride (length p.bytes) room
+pub taken : (l : Layout) (p : Plane) (room : ℕ) → first (triangular_tests l p room) ≡ Ok tt → Taken l p room
 unfolding triangular_tests
 taken l p room e =
     let f = failed_both (layout_tests false l) _ (accepted_failed (triangular_tests l p room) e) in
     record {
       size = sound false l f.0;
       kind = f.1.0;
-      plane = short_holds l l.cw l.ch p f.1.1.1.0;
+      plane = f.1.1.1.0;
       output = ltb-false room (l.w * l.h) f.1.1.1.1.1.0;
     }
 
 -- ---- the three kinds
 
-pub across_kind : (l : Layout) → bad_triangular l ≡ false → l.rv ≡ 1 → (l.rh ≡ 2) × (2 < l.cw)
+across_kind : (l : Layout) → bad_triangular l ≡ false → l.rv ≡ 1 → (l.rh ≡ 2) × (2 < l.cw)
 unfolding bad_triangular
 across_kind l b e =
     let w = go (eqb l.rh 2) (eqb l.rh 1) (leb l.cw 2) (rw e at b) in
@@ -52,7 +47,7 @@ across_kind l b e =
     go false true e h = let z : ◌≡◌ {A = ℕ} 0 1 = cc in absurd (omega arith)
     go false false e h = let z : ◌≡◌ {A = ℕ} 0 1 = cc in absurd (omega arith)
 
-pub two_down : (l : Layout) → bad_triangular l ≡ false → (l.rv ≡ 1 → ⊥) → l.rv ≡ 2
+two_down : (l : Layout) → bad_triangular l ≡ false → (l.rv ≡ 1 → ⊥) → l.rv ≡ 2
 unfolding bad_triangular
 two_down l b e = eqb-true l.rv 2 (go (eqb l.rh 2) (eqb l.rh 1) (eqb l.rv 2) (leb l.cw 2) (rw (ne_eqb l.rv 1 e) at b))
   where
@@ -63,7 +58,7 @@ two_down l b e = eqb-true l.rv 2 (go (eqb l.rh 2) (eqb l.rh 1) (eqb l.rv 2) (leb
     go false true false e h = let z : ◌≡◌ {A = ℕ} 0 1 = cc in absurd (omega arith)
     go false false false e h = let z : ◌≡◌ {A = ℕ} 0 1 = cc in absurd (omega arith)
 
-pub both_kind : (l : Layout) → bad_triangular l ≡ false → (l.rh ≡ 1 → ⊥) → (l.rh ≡ 2) × (2 < l.cw)
+both_kind : (l : Layout) → bad_triangular l ≡ false → (l.rh ≡ 1 → ⊥) → (l.rh ≡ 2) × (2 < l.cw)
 unfolding bad_triangular
 both_kind l b f =
     let w = go (eqb l.rh 2) (eqb l.rv 1) (eqb l.rv 2) (leb l.cw 2) (rw (ne_eqb l.rh 1 f) at b) in
@@ -76,36 +71,49 @@ both_kind l b f =
     go false b d e h = let z : ◌≡◌ {A = ℕ} 0 1 = cc in absurd (omega arith)
 
 -- cells that are halves of the width, more than two
-pub doubled : (l : Layout) → Sound l → l.rh ≡ 2 → 2 < l.cw → Doubled l.cw l.w
+doubled : (l : Layout) → Sound l → l.rh ≡ 2 → 2 < l.cw → Doubled l.cw l.w
 unfolding div_ceil
 doubled l s e h =
     let d : l.cw ≡ (l.w + 1) / 2 = rw e at s.cw_is in
     record { wide = h; least = omega arith; most = omega arith }
 
--- ---- rows
+-- ---- what each call that a row makes is handed
 
-module _ {l : Layout} {stride len room : ℕ} (t : Taken l stride len room) where
+module _ {l : Layout} {p : Plane} {room : ℕ} (t : Taken l p room) where
   -- row y of the output
   pub output_row : (y : ℕ) → y < l.h → y * l.w + l.w ≤ room
   output_row y h = omega (arith, t.output, row_fits y l.h l.w h)
 
   -- row j of cells
-  pub cell_row : (j : ℕ) → j < l.ch → RowInside l.sample_bytes l.cw (j * stride) len
-  cell_row j h = record { one = t.size.bytes_some; two = t.size.bytes_most; ends = row_inside t.plane j h }
+  pub cell_row : (j : ℕ) → j < l.ch → j * p.stride + l.cw * l.sample_bytes ≤ length p.bytes
+  cell_row j h = row_inside (short_holds l l.cw l.ch p t.plane) j h
+
+  -- rows j and k of cells
+  pub cell_rows : (r : CellRows) → r.bytes.now ≡ p.bytes → (j k : ℕ) → j < l.ch → k < l.ch → r.near ≡ j * p.stride → r.far ≡ k * p.stride → RowsInside l.sample_bytes l.cw r
+  cell_rows r b j k h i n f =
+      record { one = t.size.bytes_some; two = t.size.bytes_most; near = rw (b, n) (cell_row j h); far = rw (b, f) (cell_row k i) }
+
+  -- where the output has as many columns, they are as many samples
+  pub cells_all : l.rh ≡ 1 → (r : CellRows) → RowsInside l.sample_bytes l.cw r → RowsInside l.sample_bytes l.w r
+  unfolding div_ceil
+  cells_all a r o =
+      let d : l.cw ≡ (l.w + 0) / 1 = rw a at t.size.cw_is in
+      let q : l.cw ≡ l.w = omega arith in
+      rw q at o
 
   -- the cell row of output row y, at either ratio down
   pub near_one : l.rv ≡ 1 → (y : ℕ) → y < l.h → y < l.ch
   unfolding div_ceil
-  near_one e y h = let d : l.ch ≡ (l.h + 0) / 1 = rw e at t.size.ch_is in omega arith
+  near_one a y h = let d : l.ch ≡ (l.h + 0) / 1 = rw a at t.size.ch_is in omega arith
 
-  pub near_two : l.rv ≡ 2 → (y : ℕ) → y < l.h → y / 2 < l.ch
+  pub near_two : (l.rv ≡ 1 → ⊥) → (y : ℕ) → y < l.h → y / 2 < l.ch
   unfolding div_ceil
-  near_two e y h = let d : l.ch ≡ (l.h + 1) / 2 = rw e at t.size.ch_is in omega arith
+  near_two n y h =
+      let d : l.ch ≡ (l.h + 1) / 2 = rw (two_down l t.kind n) at t.size.ch_is in omega arith
 
-  -- row j of cells where they are as many as the output's columns
-  pub cell_row_all : l.rh ≡ 1 → (j : ℕ) → j < l.ch → RowInside l.sample_bytes l.w (j * stride) len
-  unfolding div_ceil
-  cell_row_all e j h =
-      let d : l.cw ≡ (l.w + 0) / 1 = rw e at t.size.cw_is in
-      let q : l.cw ≡ l.w = omega arith in
-      rw q at (cell_row j h)
+  -- two outputs a cell, at either ratio that has them
+  pub doubled_one : l.rv ≡ 1 → Doubled l.cw l.w
+  doubled_one a = let k = across_kind l t.kind a in doubled l t.size k.0 k.1
+
+  pub doubled_two : (l.rh ≡ 1 → ⊥) → Doubled l.cw l.w
+  doubled_two n = let k = both_kind l t.kind n in doubled l t.size k.0 k.1

@@ -1,18 +1,19 @@
--- Laws of a row of cells that lies inside its plane.
+-- Laws of rows of cells that lie inside their plane.
 use mathlib.Core.Path.{◌≡◌, refl}
 use mathlib.Core.List.{List}
 use Prim.Native.Nat.{ℕ, ◌+◌, ◌*◌, ◌≤◌, ◌<◌}
-use native.Mathlib.Nat.{mul-le-mul_right, eq-or-lt_of_le}
+use native.Mathlib.Nat.{mul-le-mul_right}
 use native.Mathlib.Omega.{arith}
 use lib.ListN.{get_or}
 use Rattle.image.specs.Samples.{sample_of}
-use Rattle.upsample.specs.Inner.Pairs.{RowInside, cells}
+use Rattle.upsample.specs.Inner.Pairs.{RowsInside, cells}
+use Rattle.upsample.specs.declared.rows.CellRows.{CellRows}
 
--- the first cells of a row that lies inside lie inside too
-pub cells_to : {bytes n row len : ℕ} → RowInside bytes n row len → (i : ℕ) → i < n → RowInside bytes (i + 1) row len
-cells_to {bytes} {n} {row} {len} o i h =
+-- the first cells of rows that lie inside lie inside too
+pub cells_to : {bytes n : ℕ} {r : CellRows} → RowsInside bytes n r → (i : ℕ) → i < n → RowsInside bytes (i + 1) r
+cells_to {bytes} {n} {r} o i h =
     let m : (i + 1) * bytes ≤ n * bytes = mul-le-mul_right bytes (omega arith) in
-    record { one = o.one; two = o.two; ends = omega (arith, o.ends) }
+    record { one = o.one; two = o.two; near = omega (arith, o.near); far = omega (arith, o.far) }
 
 -- a cell of one byte
 pub byte_cell : (plane : List ℕ) (row i : ℕ) → cells 1 plane row i ≡ get_or plane (row + i) 0

@@ -1,4 +1,4 @@
-// The weighing of a near and a far cell, or of their vertical sums, as the original's src/jpeg/upsample.rs has it.
+// The weighing of a near and a far cell, and what is added where vertical sums are weighed, as the original's src/jpeg/upsample.rs has it.
 ghost use Rattle.std.specs.Prelude.{◌≡◌, ◌+◌, ◌*◌, ◌/◌, ◌≤◌};
 
 // Inner: three parts of the near cell and one of the far, divided by 4. Cells are at most 65,535, so that the quotient fits 16 bits.
@@ -21,13 +21,4 @@ impl Bias {
     pub const BOTH: Bias = Bias { left: 8, right: 7 };
     // One axis, across: four times 1 and 2, since its sums are its cells four times.
     pub const ACROSS: Bias = Bias { left: 4, right: 8 };
-}
-
-// Inner: three parts of the near vertical sum and one of the far, divided by 16. A vertical sum has four parts of cells, so that it is at
-// most 262,140 = 4 * 65,535.
-pub fn weigh(near: u32, far: u32, bias: u16) -> u16
-    requires { (near ≤ 262140) × (far ≤ 262140) × (bias ≤ 8) }
-    ensures { result ≡ (3 * near + far + bias) / 16 }
-{
-    ((3 * near + far + u32::from(bias)) >> 4) as u16
 }

@@ -9,6 +9,8 @@ mod answer;
 mod axes;
 mod down;
 mod plane;
+mod rows;
+mod sums;
 mod weights;
 
 pub use plane::triangular_plane;

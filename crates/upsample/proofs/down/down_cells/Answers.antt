@@ -10,4 +10,4 @@ loop-x-init c =
 pub loop-x-preserved : goal.loop-x-preserved
 unfolding down_row
 loop-x-preserved c =
-    run_more c.loop-x.invariant _ (rw (sym c.cell.ensures.0, sym c.cell-in-loop-x.ensures.0, sym c.from.ensures) c.one_axis.ensures)
+    run_more c.loop-x.invariant _ (rw (sym c.near_cell.ensures.0, sym c.far_cell.ensures.0, sym c.from.ensures) c.one_axis.ensures)

@@ -1,8 +1,8 @@
 -- A loop that writes a run (`Run` of laws), a value a turn: `down_row` unfolds to the quotient that `one_axis` promises.
 -- Cell x of w lies within both rows by `cells_to`.
 use Rattle.laws.proofs.Lists.{Run}
-use Rattle.upsample.specs.Inner.Pairs.{down_row}
+use Rattle.upsample.specs.Inner.Pairs.{down_row, sums}
 use Rattle.upsample.proofs.down.down_cells.Given as goal
 
 abbrev pub invariant-loop-x : goal.invariant-loop-x
-invariant-loop-x l = Run l.initial.out l.out l.at l.x (down_row l.sample_bytes l.plane l.near l.far l.bias)
+invariant-loop-x l = Run l.initial.out l.out l.at l.x (down_row (sums l.sample_bytes l.rows) l.bias)
