@@ -1,6 +1,5 @@
 -- Laws that the proofs and other crates cite.
 pub mod Accepted
 pub mod Axis
-pub mod Inside
 pub mod Lowest
 pub mod Ratios

@@ -33,6 +33,7 @@ fn first_cell<S: Sum>(rows: CellRows<'_>, cw: usize, bias: Bias, out: &mut [u16]
 }
 
 // The outputs of the cells between the first and the last of a row.
+#[tactic(auto, using(laws::proofs::Lists::run_none))]
 fn inner_cells<S: Sum>(rows: CellRows<'_>, cw: usize, bias: Bias, out: &mut [u16], at: usize)
     requires { RowsInside S.BYTES cw rows × Small bias × (2 < cw) × (at + 2 * (cw - 2) ≤ length out.old) }
     ensures { out.new ≡ put out.old at (2 * (cw - 2)) (λ x. across_row bias cw (sums S.BYTES rows.entry) (2 + x)) }

@@ -7,6 +7,7 @@ use crate::axes::one_axis;
 use crate::rows::CellRows;
 
 // The w values of a row between two rows of cells, for either size of sample.
+#[tactic(auto, using(laws::proofs::Lists::run_none))]
 fn down_cells(
     rows: CellRows<'_>,
     sample_bytes: usize,

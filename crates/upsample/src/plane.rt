@@ -46,6 +46,7 @@ fn triangular_row(layout: Layout, plane: Plane<'_>, y: usize, out: &mut [u16])
 }
 
 // All rows of an accepted call, one after another.
+#[tactic(auto, using(laws::proofs::Lists::rows_none))]
 fn triangular(layout: Layout, plane: Plane<'_>, out: &mut [u16])
     requires { Taken layout (seen plane) (length out.old) }
     ensures { out.new ≡ triangular_plane layout (seen plane.entry) out.old }

@@ -32,7 +32,7 @@ impl Sum for u16 {
 
     ghost number = { λ x. x };
 
-    #[tactic(auto, using(crate::proofs::Inside::byte_cell))]
+    #[tactic(auto, unfolding(image::specs::Samples::sample_of))]
     fn sum(rows: CellRows<'_>, i: usize) -> u16 {
         3 * u16::from(rows.bytes[rows.near + i]) + u16::from(rows.bytes[rows.far + i])
     }

@@ -1,14 +1,10 @@
 use mathlib.Core.Path.{refl}
 use Prim.Native.Nat.{◌+◌, ◌*◌}
 use native.Mathlib.Omega.{arith}
-use Rattle.laws.proofs.Lists.{run_none, run_two}
+use Rattle.laws.proofs.Lists.{run_two}
 use Rattle.upsample.specs.Inner.Pairs.{sums}
 use Rattle.upsample.proofs.Axis.{pair_left, pair_right}
 use Rattle.upsample.proofs.across.inner_cells.Goals as goal
-
-pub loop-k-init : goal.loop-k-init
-loop-k-init g c =
-    run_none _ _ _
 
 pub loop-k-preserved : goal.loop-k-preserved
 loop-k-preserved g c =

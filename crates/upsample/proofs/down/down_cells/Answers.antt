@@ -1,11 +1,7 @@
 use mathlib.Core.Path.{sym}
-use Rattle.laws.proofs.Lists.{run_none, run_more}
+use Rattle.laws.proofs.Lists.{run_more}
 use Rattle.upsample.specs.Inner.Pairs.{down_row}
 use Rattle.upsample.proofs.down.down_cells.Goals as goal
-
-pub loop-x-init : goal.loop-x-init
-loop-x-init c =
-    run_none _ _ _
 
 pub loop-x-preserved : goal.loop-x-preserved
 unfolding down_row

@@ -1,5 +1,5 @@
 -- A loop that writes a run (`Run` of laws), a value a turn: `down_row` unfolds to the quotient that `one_axis` promises.
--- Cell x of w lies within both rows by `cells_to`.
+-- Cell x of w lies within both rows, which have w cells.
 use Rattle.laws.proofs.Lists.{Run}
 use Rattle.upsample.specs.Inner.Pairs.{down_row, sums}
 use Rattle.upsample.proofs.down.down_cells.Given as goal

@@ -1,11 +1,7 @@
 use native.Mathlib.Omega.{arith}
-use Rattle.laws.proofs.Lists.{rows_none, rows_more, rows_end}
+use Rattle.laws.proofs.Lists.{rows_more, rows_end}
 use Rattle.upsample.specs.Triangular.{triangular_plane}
 use Rattle.upsample.proofs.plane.triangular.Goals as goal
-
-pub loop-y-init : goal.loop-y-init
-loop-y-init c =
-    rows_none _ _ _
 
 pub loop-y-preserved : goal.loop-y-preserved
 loop-y-preserved c =
