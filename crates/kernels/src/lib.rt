@@ -23,6 +23,6 @@ pub use kernel::YcbcrKernel;
 pub use offsets::Bias;
 pub use studio::{studio_chroma, studio_green, ycbcr_frac_to_rgb8_studio};
 pub use tables::{
-    Raise, blue_entry, blue_raised, green_cb_entry, green_cb_raised, green_cr_entry, green_cr_raised,
-    red_entry, red_raised,
+    Raise, blue_entry, blue_raised, green_cb_entry, green_cb_raised, green_cr_entry,
+    green_cr_raised, red_entry, red_raised,
 };
