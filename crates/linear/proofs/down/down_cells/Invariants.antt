@@ -2,7 +2,7 @@
 -- (i + 1) * bytes <= n * bytes, the one product that omega doesn't find; with it every read and every address is linear arithmetic.
 use Rattle.linear.specs.Inner.Down.{down_at}
 use Rattle.laws.proofs.Lists.{Run}
-use Rattle.linear.proofs.down.down_row.Given as goal
+use Rattle.linear.proofs.down.down_cells.Given as goal
 
 abbrev pub invariant-loop-i : goal.invariant-loop-i
 invariant-loop-i l = Run l.initial.s l.s l.dst l.i (down_at l.plane l.sample_bytes l.a l.b l.f)

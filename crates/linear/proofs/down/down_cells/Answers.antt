@@ -1,5 +1,5 @@
 use Rattle.laws.proofs.Lists.{run_more}
-use Rattle.linear.proofs.down.down_row.Goals as goal
+use Rattle.linear.proofs.down.down_cells.Goals as goal
 
 pub loop-i-preserved : goal.loop-i-preserved
 loop-i-preserved c =
