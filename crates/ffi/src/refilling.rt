@@ -9,7 +9,8 @@ use crate::filling::{no_such_way, to_kernel};
 use crate::patches::{ChromaRectangle, to_rectangle};
 use crate::types::{ChromaLayout, ChromaStrides, number_of, to_layout, to_planes};
 
-// `refill`: kernel exact (0) or fixed (1); 255 for any other switch or siting, before all else. Fourteen parameters: those of `refill`, with the planes as slices.
+// `refill`: kernel exact (0) or fixed (1); 255 for any other switch or siting, before all else. Fourteen parameters:
+// those of `refill`, with the planes as slices.
 pub fn chroma_refill(
     layout: ChromaLayout,
     old_y: &[u8],

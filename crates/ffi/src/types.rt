@@ -2,7 +2,8 @@
 // enums.
 ghost use Rattle.std.specs.Prelude.{◌≡◌};
 ghost use Rattle.image.specs.Picture.{planes_seen};
-ghost use Rattle.ffi.specs.Types.{as_planes, as_axis, as_range, chroma_range, as_layout, strange_layout, as_phase, chroma_phase, as_reader, chroma_reader, strange_phases, strange_reader, answer_number};
+ghost use Rattle.ffi.specs.Types.{answer_number, as_axis, as_range, chroma_range, as_layout, strange_layout, as_planes};
+ghost use Rattle.ffi.specs.Types.{as_phase, chroma_phase, as_reader, chroma_reader, strange_phases, strange_reader};
 
 use guided::{Geometry, Reader};
 use image::{Layout, Plane, Planes, Range};

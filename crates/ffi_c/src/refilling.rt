@@ -7,7 +7,8 @@ ghost use Rattle.ffi.specs.Calls.{Numbered, no_such_way, as_kernel};
 
 use ffi::{ChromaLayout, ChromaRectangle, ChromaStrides};
 
-// `refill`: kernel exact (0) or fixed (1); 255 for any other switch or siting, before all else. Fourteen parameters: those of `refill`, with the planes as slices.
+// `refill`: kernel exact (0) or fixed (1); 255 for any other switch or siting, before all else. Fourteen parameters:
+// those of `refill`, with the planes as slices.
 #[unsafe(no_mangle)]
 pub extern "C" fn chroma_refill(
     layout: ChromaLayout,

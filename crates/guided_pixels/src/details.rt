@@ -12,7 +12,7 @@ ghost use Rattle.guided_pixels.specs.Inner.Laws.{detail_keeps, across_keeps, det
 use crate::columns::{RowOfCells, column_at};
 use crate::lines::Line;
 use crate::pairs::{Pair, across_pixel, cell_at, pair_at};
-use crate::rows::row;
+use crate::rows::line_row;
 use guided_window::{Window, sample_at};
 use image::{Layout, Plane};
 use taps::Phase;
@@ -86,5 +86,5 @@ pub fn detail_row(layout: Layout, plane: Plane<'_>, y: usize, s: &mut [f32])
 {
     let src = column_at(layout, RowOfCells::Samples);
     let line = Detail { plane, y, src };
-    row(layout, line, s, Window::DETAIL * layout.w);
+    line_row(layout, line, s, Window::DETAIL * layout.w);
 }

@@ -77,7 +77,7 @@ fn inner<L: Line>(layout: Layout, line: L, s: &mut [f32], dst: usize, n: usize)
 
 // Inner: the values in all columns: those of the first cell, of the inner cells, and of the last cell that lie inside the picture.
 #[tactic(auto, using(crate::proofs::Phases::cells_inside))]
-pub fn row<L: Line>(layout: Layout, line: L, s: &mut [f32], dst: usize)
+pub fn line_row<L: Line>(layout: Layout, line: L, s: &mut [f32], dst: usize)
     requires { Sound layout × L.given line layout (length s.old) × (dst + layout.w ≤ L.low line layout) }
     ensures { s.new ≡ line_run (L.value line layout) dst 0 layout.w s.old }
 {

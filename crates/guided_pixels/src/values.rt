@@ -8,7 +8,7 @@ ghost use Rattle.guided_pixels.specs.Inner.Laws.{value_keeps, cell_keeps, value_
 
 use crate::lines::Line;
 use crate::pairs::{Pair, across_pixel, cell_at, pair_at};
-use crate::rows::row;
+use crate::rows::line_row;
 use crate::value_inputs::{ValueCell, ValueInputs, finished_at, inputs_of, limited};
 use guided_window::Window;
 use image::{Chroma, Layout};
@@ -86,5 +86,5 @@ pub fn value_row(layout: Layout, k: Chroma, j: usize, s: &mut [f32])
     ensures { s.new ≡ value_row layout k j s.old }
 {
     let dst = finished_at(layout, k);
-    row(layout, inputs_of(layout, k, j), s, dst);
+    line_row(layout, inputs_of(layout, k, j), s, dst);
 }

@@ -16,7 +16,7 @@ pub struct Window {
 }
 
 impl Window {
-    // The places n further on in these rows.
+    // Inner: the places n further on in these rows.
     pub fn on(self, n: usize) -> Window
         requires { (self.up + n < 2 ^ 64) × (self.at + n < 2 ^ 64) × (self.down + n < 2 ^ 64) }
         ensures { result ≡ on self n }

@@ -1,4 +1,5 @@
-// Why a call is turned down, and the test by which it is: the first of a list that applies is the refusal.
+// Why a call is turned down, and the test by which it is: the first of a list that applies is the refusal. `Refusal` and its `number` are public:
+// `reconstruction` passes the type on.
 ghost use Rattle.std.specs.Prelude.{◌≡◌};
 ghost use Rattle.laws.specs.Refusals.{first, number_of};
 

@@ -1,6 +1,6 @@
 // The public crate: document 01's calls and their types, and nothing else but a reader's row as RGB. The chroma row by `open`, `seek` and
-// `row`, the same row as colour by `rgb_row`, one whole chroma plane three ways, the fill to RGB and again of the rows near a change, and the colour of one pixel. What each
-// promises stands at its own definition in the crate named here.
+// `row`, the same row as colour by `rgb_row`, one whole chroma plane three ways, the fill to RGB and again of the rows near a change, and the
+// colour of one pixel. What each promises stands at its own definition in the crate named here.
 #![tactic(auto)]
 
 pub use fill::{ChromaUpsampling, fill, refill};

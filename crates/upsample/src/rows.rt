@@ -12,7 +12,7 @@ pub struct CellRows<'a> {
 }
 
 impl CellRows<'_> {
-    // Cell i of the near row.
+    // Inner: cell i of the near row.
     pub fn near_cell(self, sample_bytes: usize, i: usize) -> u32
         requires { RowsInside sample_bytes (i + 1) self }
         ensures { (result ≡ cells sample_bytes self.entry.bytes.now self.entry.near i) × (result ≤ 65535) }
@@ -20,7 +20,7 @@ impl CellRows<'_> {
         u32::from(image::sample(self.bytes, sample_bytes, self.near + i * sample_bytes))
     }
 
-    // Cell i of the far row.
+    // Inner: cell i of the far row.
     pub fn far_cell(self, sample_bytes: usize, i: usize) -> u32
         requires { RowsInside sample_bytes (i + 1) self }
         ensures { (result ≡ cells sample_bytes self.entry.bytes.now self.entry.far i) × (result ≤ 65535) }

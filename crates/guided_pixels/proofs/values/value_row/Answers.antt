@@ -3,8 +3,8 @@ use Rattle.guided_pixels.proofs.ValueRows.{inputs_inside, value_line}
 use Rattle.guided.proofs.Places.{finished_place}
 use Rattle.guided_pixels.proofs.values.value_row.Goals as goal
 
-pub row-requires : goal.row-requires
-row-requires c =
+pub line_row-requires : goal.line_row-requires
+line_row-requires c =
     let a = c.args in
     let k = a.k in
     let e = c.finished_at-dst.ensures in
@@ -12,4 +12,4 @@ row-requires c =
 
 pub returns : goal.returns
 returns c =
-    let a = c.args in c.row.ensures ∙ value_line a.layout a.k a.j _ _ a.s.now c.inputs_of.ensures c.finished_at-dst.ensures
+    let a = c.args in c.line_row.ensures ∙ value_line a.layout a.k a.j _ _ a.s.now c.inputs_of.ensures c.finished_at-dst.ensures

@@ -3,7 +3,7 @@
 use Rattle.std.proofs.Common.{◌-◌, ◌*◌, arith}
 use Rattle.guided_pixels.proofs.Phases.{cells_inside}
 use Rattle.guided_pixels.proofs.LineRows.{runs_made}
-use Rattle.guided_pixels.proofs.rows.row.Goals as goal
+use Rattle.guided_pixels.proofs.rows.line_row.Goals as goal
 
 pub run-requires-2 : goal.run-requires-2
 run-requires-2 g c =
