@@ -70,7 +70,7 @@ pub fn linear_answer(
 }
 
 // Every row of the plane, each lerped into scratch at 0 and then rounded into out.
-#[tactic(auto, using(laws::proofs::Lists::rows_none, laws::proofs::Lists::rows_end, crate::proofs::LinearRows::scratch_none, crate::proofs::LinearRows::scratch_end), unfolding(crate::specs::Linear::linear_plane))]
+#[tactic(auto, using(laws::proofs::Lists::rows_none, crate::proofs::LinearRows::scratch_none), unfolding(crate::specs::Linear::linear_plane))]
 fn linear_rows(layout: Layout, plane: Plane<'_>, s: &mut [f32], out: &mut [u16])
     requires ready { Ready layout (seen plane) (length s.old) }
     requires h_in_bounds { layout.w * layout.h ≤ length out.old }

@@ -47,7 +47,7 @@ impl Image {
 }
 
 // The number of a header that begins with the whitespace at `at`, comments counted.
-#[tactic(auto, using(crate::proofs::Runs::space_is), unfolding(crate::specs::Inner::Held::field_held, crate::specs::Images::has_number, crate::specs::Images::field_of, crate::specs::Images::field_end, crate::specs::Inner::Held::number_held))]
+#[tactic(auto, unfolding(crate::specs::Images::field_end, crate::specs::Inner::Held::number_held))]
 fn field_at(input: &[u8], at: usize) -> Field
     ensures { result ≡ field_held input.now at }
 {
