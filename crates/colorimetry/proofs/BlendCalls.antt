@@ -1,13 +1,7 @@
 -- What a blend's functions promise, from the promises of the row calls: a refused blend, the late row mixed over the early one, both together.
 -- A row call keeps its output's length, accepted or not (`length_given`), so that the room for the late row is as long after the call as before.
-use mathlib.Core.Path.{◌≡◌, refl, sym, ap, ◌∙◌, subst}
-use mathlib.Core.Bool.{Bool, true, false, cond}
-use mathlib.Core.List.{List}
-use Prim.Native.Nat.{ℕ, ◌*◌, ◌≤◌}
-use lib.Ieee.{Float}
-use lib.ListN.{length}
+use Rattle.std.proofs.Common.{◌≡◌, refl, sym, ap, ◌∙◌, subst, Bool, true, false, cond, List, ℕ, ◌*◌, ◌≤◌, Float, length, Ok}
 use Rattle.laws.specs.Refusals.{accepted, first}
-use Rattle.std.specs.Prelude.{Ok}
 use Rattle.laws.specs.Lists.{put}
 use Rattle.laws.proofs.Refusals.{accepted_failed}
 use Rattle.reconstruction.specs.Fill.{pixels}

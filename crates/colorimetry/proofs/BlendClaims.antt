@@ -1,10 +1,6 @@
 -- `BlendClaims`: a blend counts as a row call in each reader's list, its row is the mix of the two fills' rows, and at weights 0 and 16 it is
 -- one of the two. An accepted blend's sides are both fine, so that `side_ran` counts them; rgb_rows' `colour_is` brings demand 3 in.
-use mathlib.Core.Path.{◌≡◌, refl, sym, ap, ◌∙◌, subst}
-use mathlib.Core.List.{List}
-use Prim.Native.Nat.{ℕ, ◌<◌}
-use lib.Dec.{T}
-use lib.Ieee.{Float}
+use Rattle.std.proofs.Common.{◌≡◌, refl, sym, ap, ◌∙◌, subst, List, ℕ, ◌<◌, T, Float}
 use Rattle.laws.specs.Refusals.{accepted}
 use Rattle.reconstruction.specs.Colour.{Colour}
 use Rattle.reconstruction.specs.Fill.{pixels}

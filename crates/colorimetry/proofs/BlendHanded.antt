@@ -1,9 +1,5 @@
 -- What an accepted blend was handed: each side is fine for its row call, and both are equally wide, so that neither row call is refused.
-use mathlib.Core.Path.{◌≡◌, sym, ap, ◌∙◌}
-use Prim.Native.Nat.{ℕ, ◌*◌, ◌≤◌}
-use lib.Dec.{leb, ltb}
-use lib.ListN.{length}
-use borrow.Author.Tests.{ltb-false}
+use Rattle.std.proofs.Common.{◌≡◌, sym, ap, ◌∙◌, ℕ, ◌*◌, ◌≤◌, leb, ltb, length, ltb-false}
 use Rattle.laws.proofs.Limits.{neither}
 use Rattle.laws.proofs.Refusals.{Failed}
 use Rattle.image.specs.Picture.{bad_planes}

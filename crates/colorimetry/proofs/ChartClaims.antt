@@ -1,14 +1,6 @@
 -- The claims of specs/ChartClaims. A reading that was given is the definition's (`shade_is`, `mix_is`), and that is the first among the least.
 -- Of mixes the order is carried over from the places in the row: pair i and weight k stand at place 17 * i + k.
-use mathlib.Core.Path.{◌≡◌, refl, sym, ap, ap₂, ◌∙◌, subst}
-use mathlib.Core.Bool.{Bool, true, false, ◌&&◌}
-use mathlib.Core.Logic.{◌⊎◌, inl, inr}
-use mathlib.Core.List.{List}
-use Prim.Native.Nat.{ℕ, zero, suc, ◌+◌, ◌-◌, ◌*◌, ◌/◌, ◌%◌, ◌≤◌, ◌<◌}
-use native.Mathlib.Omega.{arith}
-use lib.Dec.{T}
-use lib.ListN.{length}
-use lib.Ieee.{Float}
+use Rattle.std.proofs.Common.{◌≡◌, refl, sym, ap, ap₂, ◌∙◌, subst, Bool, true, false, ◌&&◌, ◌⊎◌, inl, inr, List, ℕ, zero, suc, ◌+◌, ◌-◌, ◌*◌, ◌/◌, ◌%◌, ◌≤◌, ◌<◌, arith, T, length, Float, Option, None, Some}
 use lib.Ieee.Bits.{is_true}
 use Rattle.laws.specs.Refusals.{Answer, first, accepted}
 use Rattle.laws.proofs.Refusals.{accepted_is, accepted_failed}
@@ -19,7 +11,6 @@ use Rattle.colorimetry.specs.ChartClaims.{FirstLeast, OnChart, Before, shade_fro
 use Rattle.colorimetry.proofs.Least.{least_found, least_only}
 use Rattle.colorimetry.proofs.Mixing.{mix_between, mix_first, mix_last}
 use Rattle.colorimetry.proofs.Readings.{chart_shades, reading_is}
-use Rattle.std.specs.Prelude.{Option, None, Some}
 use Rattle.colorimetry.specs.declared.shade.Between.{Between}
 
 -- ---- what was given is the definition's

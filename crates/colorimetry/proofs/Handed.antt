@@ -1,17 +1,7 @@
 -- What an accepted `patch_mean` was handed, and its three answers: refused, no pixel shared, a mean.
 -- The loops sum bytes by their places, the promise pixels by row and column: `area_is` says that these are the same bytes.
-use mathlib.Core.Path.{◌≡◌, refl, sym, ap, ◌∙◌, subst}
-use mathlib.Core.Bool.{true, false, ◌&&◌}
-use mathlib.Core.Logic.{inl, inr}
-use mathlib.Core.List.{List, [], ◌∷◌}
-use Prim.Native.Nat.{ℕ, ◌+◌, ◌*◌, ◌≤◌, ◌<◌}
-use native.Mathlib.Nat.{mul-le-mul, eq-zero-or-pos, add-mul}
-use native.Mathlib.Omega.{arith}
-use lib.Dec.{ltb}
-use lib.ListN.{length, get_or}
-use borrow.Author.Tests.{ltb-false, lt-ltb}
+use Rattle.std.proofs.Common.{◌≡◌, refl, sym, ap, subst, true, false, ◌&&◌, inl, inr, List, [], ◌∷◌, ℕ, ◌+◌, ◌*◌, ◌≤◌, ◌<◌, mul-le-mul, eq-zero-or-pos, add-mul, arith, ltb, length, get_or, ltb-false, lt-ltb, Ok, Err}
 use Rattle.laws.specs.Refusals.{first, accepted}
-use Rattle.std.specs.Prelude.{Ok, Err}
 use Rattle.laws.proofs.Limits.{neither, within}
 use Rattle.laws.proofs.Refusals.{accepted_failed}
 use Rattle.laws.proofs.Rows.{row_fits}

@@ -1,9 +1,6 @@
 -- "The lowest number that applies is given, and only then": the lists of `patch_mean`, `chart_reading` and `blend_row` stand in the table's
 -- order, so their answers are the lowest.
-use mathlib.Core.List.{List}
-use Prim.Native.Nat.{ℕ}
-use native.Mathlib.Omega.{arith}
-use lib.Ieee.{Float}
+use Rattle.std.proofs.Common.{List, ℕ, arith, Float}
 use Rattle.laws.specs.Refusals.{place_of, Ascending, Lowest}
 use Rattle.laws.proofs.Refusals.{given_lowest}
 use Rattle.colorimetry.specs.Blends.{BlendReply, BlendCall, blend_tests, BlendGiven}

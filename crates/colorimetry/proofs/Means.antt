@@ -1,10 +1,5 @@
 -- The mean of bytes: rounded once, and within the bytes.
-use mathlib.Core.Path.{◌≡◌, ap₂, ◌∙◌}
-use mathlib.Core.Bool.{false}
-use Prim.Native.Nat.{ℕ, ◌+◌, ◌*◌, ◌≤◌, ◌<◌}
-use native.Mathlib.Nat.{div-lt_iff_lt-mul, le-div_iff_mul-le, mul-one}
-use native.Mathlib.Omega.{arith}
-use lib.Dec.{T}
+use Rattle.std.proofs.Common.{◌≡◌, ap₂, ◌∙◌, false, ℕ, ◌+◌, ◌*◌, ◌≤◌, ◌<◌, div-lt_iff_lt-mul, le-div_iff_mul-le, mul-one, arith, T}
 use lib.IntN.{pos}
 use lib.Ieee.{binary64, of_int, round, le}
 use lib.Ieee.Order.{round_mono}

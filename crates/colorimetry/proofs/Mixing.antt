@@ -1,8 +1,5 @@
 -- Mixes: both products together are sixteen times a number between the two, so that the eight added decides a half and no more.
-use mathlib.Core.Path.{◌≡◌, sym, ap, ◌∙◌}
-use Prim.Native.Nat.{ℕ, ◌+◌, ◌-◌, ◌*◌, ◌/◌, ◌≤◌, min, max}
-use native.Mathlib.Nat.{mul-le-mul_left, add-mul}
-use native.Mathlib.Omega.{arith}
+use Rattle.std.proofs.Common.{◌≡◌, sym, ap, ◌∙◌, ℕ, ◌+◌, ◌-◌, ◌*◌, ◌/◌, ◌≤◌, min, max, mul-le-mul_left, add-mul, arith}
 use Rattle.colorimetry.specs.Mixes.{mix_of}
 
 -- the weights are sixteen together

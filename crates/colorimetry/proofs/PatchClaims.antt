@@ -1,16 +1,8 @@
 -- The claims of specs/PatchClaims. A sum goes over exactly the shared pixels (`counted`, `all_counted`), so that what is known of each of
 -- these is known of the sum: its bounds by `sum_within`, its value by `sum_same`. The floats are laws of Means.
-use mathlib.Core.Path.{◌≡◌, refl, sym, ap, ◌∙◌, subst}
-use mathlib.Core.Bool.{Bool, true, ◌&&◌}
-use mathlib.Core.Logic.{inl, inr}
-use mathlib.Core.List.{List, [], ◌∷◌}
-use Prim.Native.Nat.{ℕ, zero, suc, ◌+◌, ◌-◌, ◌*◌, ◌≤◌, ◌<◌}
-use native.Mathlib.Nat.{mul_assoc, mul-pos, eq-zero-or-pos}
-use native.Mathlib.Omega.{arith}
-use lib.Dec.{T, ltb}
-use lib.Ieee.{Float, binary64}
+use Rattle.std.proofs.Common.{◌≡◌, refl, sym, ap, ◌∙◌, subst, Bool, true, ◌&&◌, inl, inr, List, [], ◌∷◌, ℕ, zero, suc, ◌+◌, ◌-◌, ◌*◌, ◌≤◌, ◌<◌, mul_assoc, mul-pos, eq-zero-or-pos, arith, T, ltb, Float, lt-ltb}
+use lib.Ieee.{binary64}
 use lib.Ieee.Bits.{is_true}
-use borrow.Author.Tests.{lt-ltb}
 use Rattle.laws.specs.Refusals.{Answer, first, accepted}
 use Rattle.laws.proofs.Refusals.{accepted_is}
 use Rattle.laws.proofs.Sums.{sum_same, sum_within}

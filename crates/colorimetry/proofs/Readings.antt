@@ -1,16 +1,8 @@
 -- The three answers of `chart_reading`: the chart refused, the patch refused or nothing, a reading.
 -- Behind a good chart the list is the patch's, so that there is a reading exactly where there is a mean (`reading_is`), and the patch's
 -- count tells which (`no_mean`, `some_mean`). What the searches found is the definition's by `least_is`.
-use mathlib.Core.Path.{◌≡◌, refl, sym, ap, ◌∙◌, subst}
-use mathlib.Core.Bool.{Bool, true, false, ◌&&◌, not}
-use mathlib.Core.List.{List, [], ◌∷◌}
-use Prim.Native.Nat.{ℕ, ◌-◌, ◌*◌, ◌/◌, ◌%◌, ◌≤◌, ◌<◌}
-use native.Mathlib.Omega.{arith}
-use lib.Dec.{ltb, eqb}
-use lib.ListN.{length}
-use borrow.Author.Tests.{ltb-true}
+use Rattle.std.proofs.Common.{◌≡◌, refl, sym, ap, ◌∙◌, subst, Bool, true, false, ◌&&◌, not, List, ℕ, ◌-◌, ◌*◌, ◌/◌, ◌%◌, ◌≤◌, ◌<◌, arith, ltb, eqb, length, ltb-true, Err, Some}
 use Rattle.laws.specs.Refusals.{Answer, first, accepted}
-use Rattle.std.specs.Prelude.{Err, Some}
 use Rattle.laws.proofs.Limits.{neither, within}
 use Rattle.laws.proofs.Refusals.{refused_here, passed_over}
 use Rattle.colorimetry.specs.Patches.{PatchReply, PatchCall, count_of, patch_tests, has_mean, PatchGiven}

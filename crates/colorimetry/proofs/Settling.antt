@@ -1,14 +1,7 @@
 -- Two row calls' answers, settled, are the first refusal of the blend. Behind 1 a row call's numbers rise, so that the first of the tests for
 -- either is the lower of the two firsts (`lower_first`); 10 and 11 are one test for both, since the sizes are equal.
-use mathlib.Core.Path.{◌≡◌, refl, sym, ap, ◌∙◌}
-use mathlib.Core.Bool.{Bool, true, false, ◌||◌, ◌&&◌, not}
-use mathlib.Core.List.{List, [], ◌∷◌}
-use Prim.Native.Nat.{ℕ, ◌*◌, ◌≤◌, ◌<◌}
-use native.Mathlib.Omega.{arith}
-use lib.Dec.{leb, ltb, eqb}
-use lib.ListN.{length}
-use borrow.Author.Tests.{eqb-true, ne_eqb, not-false, le-leb, lt-leb}
-use Rattle.std.specs.Prelude.{Ok, Err}
+use Rattle.std.proofs.Common.{◌≡◌, refl, sym, ap, ◌∙◌, Bool, true, false, ◌||◌, ◌&&◌, not, List, [], ◌∷◌, ℕ, ◌*◌, ◌≤◌, ◌<◌, arith, leb, ltb, eqb, length, eqb-true, ne_eqb, le-leb, Ok, Err}
+use borrow.Author.Tests.{not-false, lt-leb}
 use Rattle.laws.specs.declared.refusal.Refusal.{Refusal}
 use Rattle.laws.specs.Refusals.{Answer, Test, first, number_of, pick_answer}
 use Rattle.laws.proofs.Limits.{neither}

@@ -1,9 +1,5 @@
 -- One more pixel and one more row of the sums over an area.
-use mathlib.Core.Path.{◌≡◌, refl}
-use mathlib.Core.List.{List}
-use Prim.Native.Nat.{ℕ, ◌+◌, ◌*◌}
-use native.Mathlib.Numerals.{add-one}
-use lib.ListN.{get_or}
+use Rattle.std.proofs.Common.{◌≡◌, refl, List, ℕ, ◌+◌, ◌*◌, add-one, get_or}
 use Rattle.laws.specs.Sums.{sum_to}
 use Rattle.colorimetry.specs.Inner.Sums.{row_sum, area_sum}
 

@@ -1,13 +1,9 @@
 -- Patches computed from the definitions: means to their bits, halves up, one pixel shared, none, and the order of the refusals.
-use mathlib.Core.Path.{◌≡◌, refl}
-use mathlib.Core.Bool.{true, false}
-use mathlib.Core.List.{[], ◌∷◌}
-use Prim.Native.Nat.{ℕ}
+use Rattle.std.proofs.Common.{◌≡◌, refl, true, false, [], ◌∷◌, ℕ, Ok, Err}
 use lib.Ieee.{binary64, of_bits, of_fields, of_int, div, round, size, span, climb, units, odd}
 use lib.Count.{count_trailing_zeros}
 use Rattle.laws.specs.Refusals.{first}
 use Rattle.laws.specs.Sums.{sum_to}
-use Rattle.std.specs.Prelude.{Ok, Err}
 use Rattle.colorimetry.specs.Patches.{PatchCall, patch_call, channel_at, shared_of, count_of, channel_sum, mean_of, channel_mean, whole_mean, bad_sides, passes, passes_end, patch_tests, has_mean}
 use Rattle.laws.specs.declared.refusal.Refusal.TheVariants.{BadSize, BadRectangle}
 

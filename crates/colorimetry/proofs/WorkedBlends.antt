@@ -2,14 +2,8 @@
 -- one that is refused as 22 since its weight is 17, and an accepted blend of row 1, whose bytes are computed.
 -- Every blend is written by its contract, so that it counts in both lists by `early_counts` and `late_counts`; what a call leaves passes by
 -- guided's LeftStates.
-use mathlib.Core.Path.{◌≡◌, refl, ◌∙◌}
-use mathlib.Core.Bool.{Bool, false, cond, ◌||◌}
-use mathlib.Core.List.{List, [], ◌∷◌}
-use Prim.Native.Nat.{ℕ}
-use lib.Dec.{lit<}
-use lib.ListN.{length, replicate}
-use lib.Ieee.{Float, nan}
-use Rattle.std.specs.Prelude.{Ok, Err}
+use Rattle.std.proofs.Common.{◌≡◌, refl, ◌∙◌, Bool, false, cond, ◌||◌, List, [], ◌∷◌, ℕ, lit<, length, replicate, Float, Ok, Err}
+use lib.Ieee.{nan}
 use Rattle.laws.specs.Refusals.{first, accepted}
 use Rattle.laws.proofs.Refusals.{failed_accepted, refused_here, passed_over}
 use Rattle.image.specs.Tests.{bad_plane}

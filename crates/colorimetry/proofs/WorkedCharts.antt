@@ -1,11 +1,7 @@
 -- Readings computed from the definitions: ties between shades and between mixes, and the lengths that a chart may have.
-use mathlib.Core.Path.{◌≡◌, refl}
-use mathlib.Core.Bool.{true, false}
-use mathlib.Core.List.{List, [], ◌∷◌}
-use Prim.Native.Nat.{ℕ}
+use Rattle.std.proofs.Common.{◌≡◌, refl, true, false, List, [], ◌∷◌, ℕ, Err}
 use Rattle.laws.specs.Refusals.{first}
 use Rattle.laws.specs.Sums.{sum_to}
-use Rattle.std.specs.Prelude.{Err}
 use Rattle.colorimetry.specs.Mixes.{mix_of}
 use Rattle.colorimetry.specs.Patches.{channel_at, shared_of, channel_sum, bad_sides, passes, passes_end, patch_tests}
 use Rattle.colorimetry.specs.Charts.{ChartCall, chart_call, shade_at, mix_at, square_of, distance, shade_off, mix_off, candidate_off, first_least, bad_chart, chart_tests, whole_colour, nearest_of, between_of}

@@ -1,11 +1,5 @@
 -- A state that went to C and came back is the state it was, and C's form of it is never a strange one. This is what carries laws about lists of the Rattle calls over to calls through C.
-use mathlib.Core.Path.{◌≡◌, refl}
-use mathlib.Core.Bool.{Bool, true, false, cond}
-use mathlib.Core.List.{List, [], ◌∷◌}
-use Prim.Native.Nat.{ℕ}
-use native.Mathlib.Omega.{arith}
-use lib.Dec.{eqb, ltb}
-use lib.ListN.{length, get_or}
+use Rattle.std.proofs.Common.{◌≡◌, refl, Bool, true, false, cond, List, [], ◌∷◌, ℕ, arith, eqb, ltb, length, get_or}
 use lib.Ieee.{nan}
 use Rattle.image.specs.declared.layout.Range.{Range}
 use Rattle.image.specs.declared.layout.Range.TheVariants.{Full, Studio}

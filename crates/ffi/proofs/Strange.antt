@@ -1,9 +1,7 @@
 -- What a call answers by whether C's numbers stand for something: two laws for the calls that answer by a number (`Numbered`), two for those
 -- that reply with a state (`Checked`) and two for the blend, which replies with two (`BlendChecked`). A proof of a call names its test and hands
 -- over one of the two.
-use mathlib.Core.Path.{◌≡◌, refl, sym, ◌∙◌}
-use mathlib.Core.Bool.{Bool, true, false, true≢false}
-use Prim.Native.Nat.{ℕ}
+use Rattle.std.proofs.Common.{◌≡◌, refl, sym, ◌∙◌, Bool, true, false, true≢false, ℕ}
 use Rattle.laws.specs.Refusals.{Answer}
 use Rattle.guided.specs.Calls.{Reply}
 use Rattle.ffi.specs.declared.types.ChromaReader.{ChromaReader}

@@ -1,9 +1,5 @@
 -- What an accepted fill may rely on.
-use mathlib.Core.Path.{◌≡◌, subst}
-use Prim.Native.Nat.{◌*◌}
-use lib.ListN.{length}
-use borrow.Author.Tests.{ltb-false}
-use Rattle.std.specs.Prelude.{Ok}
+use Rattle.std.proofs.Common.{◌≡◌, subst, ◌*◌, length, ltb-false, Ok}
 use Rattle.laws.specs.Refusals.{first}
 use Rattle.laws.proofs.Refusals.{Failed, accepted_failed, failed_both}
 use Rattle.image.specs.Tests.{tests_for}

@@ -1,14 +1,8 @@
 -- The finished rows of chroma that a step leaves in scratch are the definition's.
 -- Linear chroma is a pair of rows read back from scratch; guided chroma is `rows_finished` of guided_rows. The hard step is `linear_same`: the
 -- picture has 0 where a plane has padding, and the taps never look there.
-use mathlib.Core.Path.{◌≡◌, refl, sym, ap, ◌∙◌}
-use mathlib.Core.Logic.{inl, inr}
-use mathlib.Core.List.{List, [], ◌∷◌}
-use Prim.Native.Nat.{ℕ, suc, ◌+◌, ◌*◌, ◌≤◌, ◌<◌}
-use native.Mathlib.Numerals.{add-one}
-use native.Mathlib.Omega.{arith}
-use lib.ListN.{length}
-use lib.Ieee.{Float, nan}
+use Rattle.std.proofs.Common.{◌≡◌, refl, sym, ap, ◌∙◌, inl, inr, List, [], ◌∷◌, ℕ, suc, ◌+◌, ◌*◌, ◌≤◌, ◌<◌, add-one, arith, length, Float}
+use lib.Ieee.{nan}
 use Rattle.laws.proofs.Lists.{put_before}
 use Rattle.image.specs.declared.layout.Layout.{Layout}
 use Rattle.image.specs.Inner.Tests.{Shaped}

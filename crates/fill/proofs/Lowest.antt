@@ -1,8 +1,5 @@
 -- "The lowest number that applies is given, and only then": the lists of `fill` and `refill` stand in the table's order, so their answers are the lowest.
-use mathlib.Core.List.{List}
-use Prim.Native.Nat.{ℕ}
-use native.Mathlib.Omega.{arith}
-use lib.Ieee.{Float}
+use Rattle.std.proofs.Common.{List, ℕ, arith, Float}
 use Rattle.laws.specs.Refusals.{Answer, place_of, Ascending, Lowest}
 use Rattle.laws.proofs.Refusals.{given_lowest}
 use Rattle.image.specs.Tests.{tests_for}

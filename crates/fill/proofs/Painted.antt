@@ -1,14 +1,7 @@
 -- The rows of out: where they lie, and that each is the row of the picture's colours.
 -- Products of limited numbers don't wrap, and row y of h ends before the end of out. The hard step is `pixel_is`: scratch's two finished rows
 -- are the picture's chroma by `chroma_is`, and luma inside the picture is the plane's.
-use mathlib.Core.Path.{◌≡◌, refl, ap, ◌∙◌}
-use mathlib.Core.List.{List}
-use Prim.Native.Nat.{ℕ, ◌+◌, ◌*◌, ◌≤◌, ◌<◌}
-use native.Mathlib.Nat.{mul-le-mul}
-use native.Mathlib.Numerals.{add-one}
-use native.Mathlib.Omega.{arith}
-use lib.ListN.{length}
-use lib.Ieee.{Float}
+use Rattle.std.proofs.Common.{◌≡◌, refl, ap, ◌∙◌, List, ℕ, ◌+◌, ◌*◌, ◌≤◌, ◌<◌, mul-le-mul, add-one, arith, length, Float}
 use Rattle.laws.proofs.Rows.{row_fits}
 use Rattle.image.specs.declared.layout.Layout.{Layout}
 use Rattle.image.specs.Samples.{sample_at}

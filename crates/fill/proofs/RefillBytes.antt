@@ -1,17 +1,7 @@
 -- Out after a refill, byte by byte: "Those rows are then the guided conversion afterwards, and every other row's bytes are untouched." The fourth
 -- byte of a pixel and all surplus keep what they held. Near rows are the rows from `near_first` on and before `near_end`, for which Bytes has the laws;
 -- the hard step is `row_kept`: a byte of a row that isn't stored lies before or behind every row that is (`row_fits`).
-use mathlib.Core.Path.{◌≡◌, refl, sym, subst, ◌∙◌}
-use mathlib.Core.Logic.{◌⊎◌, inl, inr, ⊎_elim}
-use mathlib.Core.Bool.{Bool, true, false, cond, true≢false}
-use mathlib.Core.List.{List}
-use Prim.Native.Nat.{ℕ, zero, suc, ◌+◌, ◌-◌, ◌*◌, ◌≤◌, ◌<◌}
-use native.Mathlib.Nat.{mul-le-mul_right}
-use native.Mathlib.Omega.{arith}
-use lib.Dec.{ltb}
-use lib.ListN.{get_or}
-use lib.Ieee.{Float}
-use borrow.Author.Tests.{ltb-true, ltb-false}
+use Rattle.std.proofs.Common.{◌≡◌, refl, sym, subst, ◌∙◌, ◌⊎◌, inl, inr, ⊎_elim, Bool, true, false, cond, true≢false, List, ℕ, zero, suc, ◌+◌, ◌-◌, ◌*◌, ◌≤◌, ◌<◌, mul-le-mul_right, arith, ltb, get_or, Float, ltb-true, ltb-false}
 use Rattle.laws.specs.Refusals.{Answer, accepted}
 use Rattle.laws.proofs.Refusals.{accepted_is}
 use Rattle.laws.proofs.Rows.{row_fits}

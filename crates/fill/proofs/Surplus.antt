@@ -1,11 +1,7 @@
 -- "Any lent slice may be longer; its surplus is untouched": scratch after `fill` and `refill`, behind what the call needs. Out's surplus is `kept_behind` of Bytes
 -- and of RefillBytes.
-use mathlib.Core.Path.{◌≡◌, refl, sym, ◌∙◌}
-use mathlib.Core.List.{List, [], ◌∷◌}
-use Prim.Native.Nat.{ℕ, zero, suc, ◌+◌, ◌-◌, ◌≤◌, zero-le}
-use native.Mathlib.Nat.{le_refl}
-use lib.ListN.{get_or}
-use lib.Ieee.{Float, nan}
+use Rattle.std.proofs.Common.{◌≡◌, refl, sym, ◌∙◌, List, [], ◌∷◌, ℕ, zero, suc, ◌+◌, ◌-◌, ◌≤◌, zero-le, le_refl, get_or, Float}
+use lib.Ieee.{nan}
 use Rattle.laws.specs.Refusals.{Answer, accepted}
 use Rattle.laws.proofs.Refusals.{accepted_is}
 use Rattle.image.specs.declared.chroma.Chroma.TheVariants.{Cb, Cr}

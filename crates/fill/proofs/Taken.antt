@@ -1,11 +1,5 @@
 -- What an accepted refill may rely on. Its list is taken apart as its functions look at it: `planes_tests`, then `lent_tests`, then 21.
-use mathlib.Core.Path.{◌≡◌, refl, subst}
-use mathlib.Core.Bool.{true, false}
-use mathlib.Core.List.{List, [], ◌∷◌, ◌++◌}
-use Prim.Native.Nat.{◌*◌}
-use lib.ListN.{length}
-use borrow.Author.Tests.{ltb-false}
-use Rattle.std.specs.Prelude.{Ok}
+use Rattle.std.proofs.Common.{◌≡◌, refl, subst, true, false, List, [], ◌∷◌, ◌++◌, ◌*◌, length, ltb-false, Ok}
 use Rattle.laws.specs.Refusals.{Test, first}
 use Rattle.laws.proofs.Refusals.{Failed, accepted_failed, failed_both}
 use Rattle.image.specs.declared.layout.Layout.{Layout}

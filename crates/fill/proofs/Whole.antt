@@ -1,10 +1,6 @@
 -- "If the old picture was the guided conversion before the change, the whole result equals the guided conversion afterwards."
 -- Rows that aren't near are alike: a guided sample turns on nothing more than two cells from its own (guided-local), and what is that close wasn't changed (21).
-use mathlib.Core.Path.{◌≡◌, refl, sym, ap, ◌∙◌}
-use mathlib.Core.Bool.{true, false}
-use mathlib.Core.List.{List}
-use Prim.Native.Nat.{ℕ, ◌/◌, ◌<◌}
-use lib.Ieee.{Float}
+use Rattle.std.proofs.Common.{◌≡◌, refl, sym, ap, ◌∙◌, true, false, List, ℕ, ◌/◌, ◌<◌, Float}
 use Rattle.laws.specs.Refusals.{Answer, accepted}
 use Rattle.laws.proofs.Refusals.{accepted_is}
 use Rattle.image.specs.declared.layout.Layout.{Layout}

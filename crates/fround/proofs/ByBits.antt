@@ -1,15 +1,11 @@
 -- A value below 2 ^ 24, rounded from its bit pattern.
 -- `bits_val` carries it: by the library's `of_bits-to_bits` the digits s and the exponent of the pattern are the value, so that it is
 -- s / 2 ^ K, which `up_halves` rounds by a shift. The bounds on the exponent's field are read off the number of digits of the value.
-use mathlib.Core.Path.{◌≡◌, refl, sym, ap, ◌∙◌, subst}
-use Prim.Native.Nat.{ℕ, suc, ◌+◌, ◌-◌, ◌*◌, ◌/◌, ◌%◌, ◌^◌, ◌≤◌, ◌<◌}
-use native.Mathlib.Nat.{le_of_eq, lt_of_lt_of_le, lt_of_le_of_lt, not-le_of_lt, zero-lt-suc, mul_comm, mul_assoc, mul_right_comm, mul_left_comm, add-mul, mul-pos, mul-lt-mul_of_pos_right, lt_of_mul-lt-mul_right, div-lt_iff_lt-mul, eq_of_mul-eq-mul_right, mod-eq_of_lt}
-use native.Mathlib.Omega.{arith}
-use mathlib.Core.Bool.{Bool, true, false, not, cond}
+use Rattle.std.proofs.Common.{◌≡◌, refl, sym, ap, ◌∙◌, subst, ℕ, suc, ◌+◌, ◌-◌, ◌*◌, ◌/◌, ◌%◌, ◌^◌, ◌≤◌, ◌<◌, le_of_eq, lt_of_lt_of_le, lt_of_le_of_lt, not-le_of_lt, zero-lt-suc, mul_comm, mul_assoc, mul_right_comm, mul_left_comm, add-mul, mul-pos, mul-lt-mul_of_pos_right, lt_of_mul-lt-mul_right, div-lt_iff_lt-mul, mod-eq_of_lt, arith, Bool, true, false, not, cond, T, ltb, leb, eqb, ltb→lt, nltb→le, leb→le, eqb→eq, pow-add, pow_pos, pow_mono, Float}
+use native.Mathlib.Nat.{eq_of_mul-eq-mul_right}
 use lib.IntN.{ℤ}
-use lib.Dec.{T, ltb, leb, eqb, ltb→lt, nltb→le, leb→le, eqb→eq, not_T}
-use lib.Pow.{pow-add, pow_pos, pow_mono}
-use lib.Ieee.{Float, nan, inf, fin, binary32, up, down, size, odd, fits, of_fields, of_bits, to_bits}
+use lib.Dec.{not_T}
+use lib.Ieee.{nan, inf, fin, binary32, up, down, size, odd, fits, of_fields, of_bits, to_bits}
 use lib.Ieee.Digits.{size-lt, size-le}
 use lib.Ieee.Fits.{down_pos, kept-lt}
 use lib.Ieee.Bits.{is_false, cond_no, of_bits-to_bits}

@@ -1,14 +1,11 @@
 -- Halves up from two sums on the grid: ties go to even in c + 2 ^ 23, and to odd in c + (2 ^ 23 + 1) - 1, so that the larger went up.
 -- The fact is `both`, over whole numbers, by the three orders of the remainder and a half. The rest carries it through the sums, the
 -- larger of two floats (`max_val`) and the last difference, whose sign `less_centre` splits on.
-use mathlib.Core.Path.{◌≡◌, refl, sym, ap, ◌∙◌, subst}
-use Prim.Native.Nat.{ℕ, ◌+◌, ◌-◌, ◌*◌, ◌/◌, ◌%◌, ◌≤◌, ◌<◌, max, compare, Ordering}
-use native.Mathlib.Nat.{le_trans, le_of_eq, zero-lt-suc, mul-one, add-mul-div_right, add-mul-mod_self_right, div-add-mod', mod-lt}
-use native.Mathlib.Omega.{arith}
-use mathlib.Core.Bool.{Bool, true, false, not, cond}
+use Rattle.std.proofs.Common.{◌≡◌, refl, sym, ap, ◌∙◌, subst, ℕ, ◌+◌, ◌-◌, ◌*◌, ◌/◌, ◌%◌, ◌≤◌, ◌<◌, max, le_trans, le_of_eq, zero-lt-suc, mul-one, div-add-mod', mod-lt, arith, Bool, true, false, not, cond, T, ltb, ltb→lt, nltb→le, Float}
+use Prim.Native.Nat.{compare, Ordering}
+use native.Mathlib.Nat.{add-mul-div_right, add-mul-mod_self_right}
 use lib.IntN.{ℤ, pos}
-use lib.Dec.{T, ltb, ltb→lt, nltb→le}
-use lib.Ieee.{Float, fin, binary32, up, down, nearest, round, lt}
+use lib.Ieee.{fin, binary32, up, down, nearest, round, lt}
 use lib.Ieee.Fits.{down_pos}
 use lib.Ieee.Back.{round_whole}
 use lib.Ieee.Exact.{HasValue}

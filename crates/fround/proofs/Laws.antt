@@ -1,17 +1,12 @@
 -- What callers ask of the definitions: a rounding is within its limit, keeps whole numbers and the order; a value raised to lo and lowered to hi
 -- lies between. By the cases of a float: of two fractions `round_mono` is laws' `up_mono`, and its odd case is a value at most a negative one,
 -- which is a zero. Two floats of the same bits are equal because both fit the format, so that their bits can be read back.
-use mathlib.Core.Path.{◌≡◌, refl, sym, ap, ◌∙◌}
-use mathlib.Core.Bool.{Bool, true, false, not, ◌&&◌, true≢false, cond}
-use Prim.Native.Nat.{ℕ, ◌*◌, ◌≤◌, min, zero-le}
-use native.Mathlib.Nat.{le_refl, le_trans, le_of_eq, mul-one, zero-mul, eq_of_mul-eq-mul_right}
-use native.Mathlib.Omega.{arith}
-use lib.Dec.{T, eqb}
-use lib.Ieee.{Float, nan, inf, fin, up, down, lt, le, binary32, fits, is_nan, of_bits, to_bits}
+use Rattle.std.proofs.Common.{◌≡◌, refl, sym, ap, ◌∙◌, Bool, true, false, not, ◌&&◌, true≢false, cond, ℕ, ◌*◌, ◌≤◌, min, zero-le, le_refl, le_trans, le_of_eq, mul-one, zero-mul, arith, T, eqb, Float, eqb-true}
+use native.Mathlib.Nat.{eq_of_mul-eq-mul_right}
+use lib.Ieee.{nan, inf, fin, up, down, lt, le, binary32, fits, is_nan, of_bits, to_bits}
 use lib.Ieee.Fits.{down_pos}
 use lib.Ieee.Bits.{of_bits-to_bits}
 use lib.Ieee.Exact.{HasValue}
-use borrow.Author.Tests.{eqb-true}
 use Rattle.laws.specs.Floats.{f32}
 use Rattle.laws.specs.Rounding.{half_up}
 use Rattle.laws.proofs.Halves.{up_whole, up_mono}

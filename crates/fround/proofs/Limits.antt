@@ -1,14 +1,9 @@
 -- x limited to 0 .. max by two comparisons, and what the limit does to the rounding.
 -- `low` and `high` go by the cases of x: what is limited rounds to the limit, and the rest is left. The hard step is in `high`, where
 -- a comparison with the float of max becomes one of x's fraction with max (`cross_lt`, `cross_le`).
-use mathlib.Core.Path.{◌≡◌, refl, sym, ap, ◌∙◌, subst}
-use Prim.Native.Nat.{ℕ, ◌*◌, ◌≤◌, ◌<◌, min, zero-le}
-use native.Mathlib.Nat.{le_of_eq, le_trans, le_of_lt, lt_of_lt_of_le, mul-one, mul_right_comm, lt_of_mul-lt-mul_right, le_of_mul-le-mul_right}
-use native.Mathlib.Omega.{arith}
-use mathlib.Core.Bool.{Bool, true, false, not, cond, true≢false}
+use Rattle.std.proofs.Common.{◌≡◌, refl, sym, ap, ◌∙◌, subst, ℕ, ◌*◌, ◌≤◌, ◌<◌, min, zero-le, le_of_eq, le_trans, le_of_lt, lt_of_lt_of_le, mul-one, mul_right_comm, lt_of_mul-lt-mul_right, le_of_mul-le-mul_right, arith, Bool, true, false, not, cond, true≢false, T, ltb, ltb→lt, nltb→le, Float}
 use lib.IntN.{ℤ, pos}
-use lib.Dec.{T, ltb, ltb→lt, nltb→le}
-use lib.Ieee.{Float, nan, inf, fin, binary32, up, down, lt, fits}
+use lib.Ieee.{nan, inf, fin, binary32, up, down, lt, fits}
 use lib.Ieee.Fits.{down_pos, of_int-fits}
 use lib.Ieee.Exact.{HasValue}
 use Rattle.laws.specs.Floats.{f32}

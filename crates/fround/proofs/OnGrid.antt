@@ -1,15 +1,11 @@
 -- The grid: c + 2 ^ 23 rounds c to the nearest whole number, ties to even, and the test for one half mends the ties that went down.
 -- laws' `on_grid` gives the sum, and `side` the three places of c about its whole number. The hard step is `test`: c less that number is
 -- rounded to itself (`round_kept`), so that it equals one half exactly where a tie went down.
-use mathlib.Core.Path.{◌≡◌, refl, sym, ap, ◌∙◌, subst}
-use Prim.Native.Nat.{ℕ, zero, suc, ◌+◌, ◌-◌, ◌*◌, ◌%◌, ◌^◌, ◌≤◌, ◌<◌}
-use native.Mathlib.Nat.{le_trans, le_of_eq, le_of_lt, lt_of_le_of_lt, lt_irrefl, zero-lt-suc, mul-one, one-mul, mul_comm, mul_assoc, mul_right_comm, mul-le-mul_right, eq_of_mul-eq-mul_right, add-zero}
-use native.Mathlib.Numerals.{add-one}
-use native.Mathlib.Omega.{arith}
-use mathlib.Core.Bool.{Bool, true, false, not, ◌&&◌, cond, true≢false}
+use Rattle.std.proofs.Common.{◌≡◌, refl, sym, ap, ◌∙◌, subst, ℕ, zero, suc, ◌+◌, ◌-◌, ◌*◌, ◌%◌, ◌^◌, ◌≤◌, ◌<◌, le_trans, le_of_eq, le_of_lt, lt_of_le_of_lt, lt_irrefl, zero-lt-suc, mul-one, one-mul, mul_comm, mul_assoc, mul_right_comm, mul-le-mul_right, add-zero, add-one, arith, Bool, true, false, not, ◌&&◌, cond, true≢false, T, ltb, eqb, eqb→eq, lit≤, Float}
+use native.Mathlib.Nat.{eq_of_mul-eq-mul_right}
 use lib.IntN.{ℤ, pos, negsuc}
-use lib.Dec.{T, ltb, eqb, eqb→eq, not_T, lit≤}
-use lib.Ieee.{Float, nan, inf, fin, Format, binary32, prec, emax, low, up, down, odd, units, round, add, sub, eq, fits, is_nan, to_bits}
+use lib.Dec.{not_T}
+use lib.Ieee.{nan, inf, fin, Format, binary32, prec, emax, low, up, down, odd, units, round, add, sub, eq, fits, is_nan, to_bits}
 use lib.Ieee.Fits.{round_is, down_pos, and_l, and_r, eq→eqb}
 use lib.Ieee.Bits.{is_true, is_false}
 use lib.Ieee.Exact.{HasValue}

@@ -1,15 +1,8 @@
 -- What an accepted open, seek or row was handed.
 -- An accepted call has all its tests failed, and each test that failed is turned into the inequality that it stands for; only the counters of
 -- a state need a case split.
-use mathlib.Core.Path.{◌≡◌, refl, sym, ◌∙◌}
-use mathlib.Core.Logic.{◌⊎◌, inl, inr}
-use mathlib.Core.Bool.{Bool, true, false, ◌&&◌, ◌||◌, not}
-use mathlib.Core.List.{List}
-use Prim.Native.Nat.{ℕ, ◌≤◌, ◌<◌}
-use native.Mathlib.Omega.{arith}
-use lib.Dec.{T, leb, ltb, eqb}
-use lib.ListN.{length}
-use borrow.Author.Tests.{ltb-false, leb-false, eqb-true, not-false}
+use Rattle.std.proofs.Common.{◌≡◌, refl, sym, ◌∙◌, ◌⊎◌, inl, inr, Bool, true, false, ◌&&◌, ◌||◌, not, List, ℕ, ◌≤◌, ◌<◌, arith, T, leb, ltb, eqb, length, ltb-false, leb-false, eqb-true}
+use borrow.Author.Tests.{not-false}
 use Rattle.laws.specs.Refusals.{Answer, Test, first, accepted}
 use Rattle.laws.proofs.Refusals.{Failed, accepted_failed, accepted_is, failed_both}
 use Rattle.image.specs.Tests.{bad_siting, layout_tests}

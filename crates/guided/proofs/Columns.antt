@@ -1,12 +1,8 @@
 -- From the window to the finished rows of one picture row: they are the guided samples, and the window is kept.
 -- Where a put is read back Places says so, and all else is kept. The hard step is `down_part` and `down_slope`: the rows that row y takes from
 -- are among the last three that the window holds, by `Taken`, so that lerping them is lerping the picture's.
-use mathlib.Core.Path.{◌≡◌, refl, ◌∙◌}
-use mathlib.Core.List.{List}
-use Prim.Native.Nat.{ℕ, ◌+◌, ◌*◌, ◌/◌, ◌%◌, ◌<◌}
-use native.Mathlib.Omega.{arith}
-use lib.ListN.{length, get_or}
-use lib.Ieee.{Float, nan}
+use Rattle.std.proofs.Common.{◌≡◌, refl, ◌∙◌, List, ℕ, ◌+◌, ◌*◌, ◌/◌, ◌%◌, ◌<◌, arith, length, get_or, Float}
+use lib.Ieee.{nan}
 use Rattle.laws.specs.Floats.{f32}
 use Rattle.laws.specs.Lists.{put}
 use Rattle.laws.proofs.Lists.{length_put, put_inside}

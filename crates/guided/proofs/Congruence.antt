@@ -1,10 +1,7 @@
 -- What the arithmetic of a guided sample looks at, and nothing else.
 -- Each law unfolds one definition and replaces the few values that it looks at. The one thing to know is that these values are there: the
 -- tap's rows by `Taken`, the column's own cell and its neighbours by `own_column`.
-use mathlib.Core.Path.{◌≡◌, refl}
-use Prim.Native.Nat.{ℕ, ◌+◌, ◌-◌, ◌/◌, ◌≤◌, ◌<◌, min}
-use native.Mathlib.Omega.{arith}
-use lib.Ieee.{Float}
+use Rattle.std.proofs.Common.{◌≡◌, refl, ℕ, ◌+◌, ◌-◌, ◌/◌, ◌≤◌, ◌<◌, min, arith, Float}
 use Rattle.laws.specs.Floats.{◌⊕◌}
 use Rattle.image.specs.declared.layout.Layout.{Layout}
 use Rattle.image.specs.Inner.Tests.{Sound}

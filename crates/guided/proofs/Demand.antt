@@ -1,15 +1,8 @@
 -- Demand 3, proved; and that a call which meets the premise is not turned away without a reason.
 -- Runs says that a row given is the guided row; Extremes and Locality then say the rest of that row. Acceptance of later calls is their tests,
 -- read off the invariant `InStep`.
-use mathlib.Core.Path.{◌≡◌, refl, sym, ap, ◌∙◌, subst}
-use mathlib.Core.Bool.{Bool, true, false, cond, ◌&&◌, ◌||◌}
-use mathlib.Core.List.{List}
-use Prim.Native.Nat.{ℕ, ◌/◌, ◌≤◌, ◌<◌, zero-le}
-use lib.Dec.{ltb}
-use lib.ListN.{length, get_or}
-use lib.Ieee.{Float}
-use borrow.Author.Tests.{le-ltb, lt-leb}
-use Rattle.std.specs.Prelude.{Ok}
+use Rattle.std.proofs.Common.{◌≡◌, refl, sym, ap, ◌∙◌, subst, Bool, true, false, cond, ◌&&◌, ◌||◌, List, ℕ, ◌/◌, ◌≤◌, ◌<◌, zero-le, ltb, length, get_or, Float, le-ltb, Ok}
+use borrow.Author.Tests.{lt-leb}
 use Rattle.laws.specs.Floats.{f32}
 use Rattle.laws.specs.Refusals.{first}
 use Rattle.laws.proofs.Refusals.{failed_accepted}

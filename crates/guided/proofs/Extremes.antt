@@ -1,13 +1,9 @@
 -- Every guided sample lies within the extremes of the nine chroma cells round its own, and is no not-a-number.
 -- The last two operations of a value are its limits, so that it lies between them whatever came before (`between`). The hard step is that the
 -- limits are floats: up to 65,535 whole numbers are exact as f32, so that they compare as numbers do (`values_compare`).
-use mathlib.Core.Path.{◌≡◌, refl, sym, ap}
-use mathlib.Core.Bool.{Bool, true, false, not, cond}
-use Prim.Native.Nat.{ℕ, ◌+◌, ◌-◌, ◌/◌, ◌≤◌, ◌<◌, min, max}
-use native.Mathlib.Nat.{mul-le-mul_right, le_trans, min-le_left, le-max_left}
-use native.Mathlib.Omega.{arith}
-use lib.Dec.{T, lit<}
-use lib.Ieee.{Float, nan, inf, fin, binary32, lt, le, is_nan, of_int}
+use Rattle.std.proofs.Common.{◌≡◌, refl, sym, ap, Bool, true, false, not, cond, ℕ, ◌+◌, ◌-◌, ◌/◌, ◌≤◌, ◌<◌, min, max, mul-le-mul_right, le_trans, arith, T, lit<, Float}
+use native.Mathlib.Nat.{min-le_left, le-max_left}
+use lib.Ieee.{nan, inf, fin, binary32, lt, le, is_nan, of_int}
 use lib.Ieee.Order.{round_mono}
 use Rattle.laws.specs.Floats.{f32}
 use Rattle.laws.proofs.Order.{not_nan_right}

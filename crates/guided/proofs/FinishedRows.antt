@@ -1,13 +1,8 @@
 -- A picture row of the components ks, from the window on: each finished row is the guided one, and the window stands at that row.
 -- `component_made` carries it: the value looks at few cells (Congruence), and each of these is held or was just put (Columns). The other
 -- component's row is kept since the two lie apart; the components are gone through by induction.
-use mathlib.Core.Path.{◌≡◌, refl, sym, ◌∙◌, subst}
-use mathlib.Core.Logic.{◌⊎◌, inl, inr}
-use mathlib.Core.List.{List, [], ◌∷◌}
-use Prim.Native.Nat.{ℕ, ◌+◌, ◌-◌, ◌/◌, ◌≤◌, ◌<◌}
-use native.Mathlib.Omega.{arith}
-use lib.ListN.{length}
-use lib.Ieee.{Float, nan}
+use Rattle.std.proofs.Common.{◌≡◌, refl, sym, ◌∙◌, subst, ◌⊎◌, inl, inr, List, [], ◌∷◌, ℕ, ◌+◌, ◌-◌, ◌/◌, ◌≤◌, ◌<◌, arith, length, Float}
+use lib.Ieee.{nan}
 use Rattle.laws.specs.Floats.{f32}
 use Rattle.laws.proofs.Lists.{length_put, put_inside}
 use Rattle.image.specs.Inner.Tests.{Sound}

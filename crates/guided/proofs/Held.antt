@@ -2,14 +2,8 @@
 -- A put is read back or leaves the other buffers, by Places; so the list of parts is gone through by induction. The hard step is that a buffer
 -- has one use: `stored_of` and `result_of` give back what a number was given to. A component's sums are no buffer: they are the picture's
 -- where its samples are held (`read_sums`).
-use mathlib.Core.Path.{◌≡◌, refl, sym, ap, ◌∙◌, subst}
-use mathlib.Core.Logic.{◌≢◌, ◌⊎◌, inl, inr}
-use mathlib.Core.List.{List, [], ◌∷◌, ◌++◌}
-use Prim.Native.Nat.{ℕ, ◌+◌, ◌*◌, ◌%◌, ◌<◌}
-use native.Mathlib.Omega.{arith}
+use Rattle.std.proofs.Common.{◌≡◌, refl, sym, ap, ◌∙◌, subst, ◌≢◌, ◌⊎◌, inl, inr, List, [], ◌∷◌, ◌++◌, ℕ, ◌+◌, ◌*◌, ◌%◌, ◌<◌, arith, length, get_or, Float}
 use native.Mathlib.Decide.{ℕ_discrete}
-use lib.ListN.{length, get_or}
-use lib.Ieee.{Float}
 use Rattle.laws.specs.Floats.{◌⊕◌}
 use Rattle.laws.specs.Lists.{put}
 use Rattle.laws.proofs.Lists.{length_put}

@@ -1,16 +1,10 @@
 -- A state passes exactly when some list of accepted calls leaves it.
 -- One way is by cases of the last call. For the other LeftStates names the call, a seek or a row after an open, and what is left is to have
 -- such calls accepted: planes of zeros, scratch and outputs of just the length that the tests ask for.
-use mathlib.Core.Path.{◌≡◌, refl, ◌∙◌}
-use mathlib.Core.Logic.{inl, inr}
-use mathlib.Core.Bool.{Bool, true, false, cond}
-use Prim.Native.Nat.{ℕ, zero, suc, ◌+◌, ◌-◌, ◌*◌, ◌<◌, zero-le}
-use native.Mathlib.Nat.{le_refl}
-use lib.Dec.{ltb, eqb}
-use lib.ListN.{length, get_or, replicate, length-replicate}
+use Rattle.std.proofs.Common.{◌≡◌, refl, ◌∙◌, inl, inr, Bool, true, false, cond, ℕ, zero, suc, ◌+◌, ◌-◌, ◌*◌, ◌<◌, zero-le, le_refl, ltb, eqb, length, get_or, replicate, le-ltb, Ok}
+use lib.ListN.{length-replicate}
 use lib.Ieee.{nan}
-use borrow.Author.Tests.{le-ltb, lt-leb}
-use Rattle.std.specs.Prelude.{Ok}
+use borrow.Author.Tests.{lt-leb}
 use Rattle.laws.specs.Refusals.{first, accepted}
 use Rattle.laws.proofs.Refusals.{accepted_failed, accepted_is, failed_accepted, passed_early}
 use Rattle.image.specs.declared.layout.Layout.{Layout}

@@ -2,17 +2,11 @@
 -- One way is computation: the tests of what a call leaves. The other is `geometry_is`: phases that pass bit for bit are open's own, since two
 -- f32 that pass for the same are the same (`same_float`), and four entries make the array. The counters then leave two cases, seek's and
 -- row's.
-use mathlib.Core.Path.{◌≡◌, refl, sym, ap, ◌∙◌}
-use mathlib.Core.Logic.{◌⊎◌, inl, inr}
-use mathlib.Core.Bool.{Bool, true, false, ◌&&◌, ◌||◌, not, cond, beq}
-use mathlib.Core.List.{List, [], ◌∷◌}
-use Prim.Native.Nat.{ℕ, zero, suc, ◌+◌, ◌-◌, ◌*◌, ◌<◌}
-use native.Mathlib.Omega.{arith}
-use lib.Dec.{T, leb, ltb, eqb}
-use lib.ListN.{length, get_or}
+use Rattle.std.proofs.Common.{◌≡◌, refl, sym, ap, ◌∙◌, ◌⊎◌, inl, inr, Bool, true, false, ◌&&◌, ◌||◌, not, cond, List, [], ◌∷◌, ℕ, zero, suc, ◌+◌, ◌-◌, ◌*◌, ◌<◌, arith, T, leb, ltb, eqb, length, get_or, eq-eqb}
+use mathlib.Core.Bool.{beq}
 use lib.Ieee.{binary32, fits, is_nan, to_bits}
 use lib.Ieee.Fits.{div-fits, of_int-fits}
-use borrow.Author.Tests.{lt-leb, eq-eqb, not-false}
+use borrow.Author.Tests.{lt-leb, not-false}
 use Rattle.laws.specs.Axes.{plain}
 use Rattle.laws.specs.Floats.{f32}
 use Rattle.laws.specs.Refusals.{first, accepted}

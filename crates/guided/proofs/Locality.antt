@@ -1,11 +1,8 @@
 -- A guided sample turns on nothing more than two cells from its own.
 -- A slope looks one cell round its own cell and the lerps look one cell round that, so two cells in all. Each step is a law of Congruence; how
 -- far the cells are is arithmetic over `Taken`.
-use mathlib.Core.Path.{◌≡◌, refl, sym, ap, ap₂, ◌∙◌}
-use Prim.Native.Nat.{ℕ, ◌+◌, ◌-◌, ◌*◌, ◌/◌, ◌<◌, min}
-use native.Mathlib.Nat.{mul-add-div_right, div-eq_of_lt, add-zero}
-use native.Mathlib.Omega.{arith}
-use lib.Ieee.{Float}
+use Rattle.std.proofs.Common.{◌≡◌, refl, sym, ap, ap₂, ◌∙◌, ℕ, ◌+◌, ◌-◌, ◌*◌, ◌/◌, ◌<◌, min, add-zero, arith, Float}
+use native.Mathlib.Nat.{mul-add-div_right, div-eq_of_lt}
 use Rattle.laws.specs.Floats.{f32, ◌⊕◌, ◌⊗◌}
 use Rattle.laws.specs.Sums.{sum_to}
 use Rattle.laws.proofs.Sums.{sum_same}

@@ -1,7 +1,5 @@
 -- "The lowest number that applies is given, and only then": the lists of open, seek and row stand in the table's order, so their answers are the lowest.
-use mathlib.Core.List.{List}
-use native.Mathlib.Omega.{arith}
-use lib.Ieee.{Float}
+use Rattle.std.proofs.Common.{List, arith, Float}
 use Rattle.laws.specs.Refusals.{place_of, Ascending, Lowest}
 use Rattle.laws.proofs.Refusals.{given_lowest}
 use Rattle.image.specs.Tests.{tests_for}

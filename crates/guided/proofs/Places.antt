@@ -1,17 +1,9 @@
 -- Where things lie in scratch: the finished rows, the detail and 35 row buffers, one behind another and apart, all within what a call is lent.
 -- Everything is arithmetic over multiples of the pitch. The hard step is `pitch_room`: rows of 256 cells and more are padded by what scratch
 -- leaves to each of 35 buffers, 48 at most, and a row has no more cells than pixels.
-use mathlib.Core.Path.{◌≡◌, refl, ◌∙◌}
-use mathlib.Core.Logic.{◌≢◌, ◌⊎◌, inl, inr}
-use mathlib.Core.Bool.{Bool, true, false, cond}
-use mathlib.Core.List.{List}
-use Prim.Native.Nat.{ℕ, ◌+◌, ◌-◌, ◌*◌, ◌/◌, ◌%◌, ◌≤◌, ◌<◌, min}
-use native.Mathlib.Nat.{le_trans}
-use native.Mathlib.Omega.{arith}
+use Rattle.std.proofs.Common.{◌≡◌, refl, ◌∙◌, ◌≢◌, ◌⊎◌, inl, inr, Bool, true, false, cond, List, ℕ, ◌+◌, ◌-◌, ◌*◌, ◌/◌, ◌%◌, ◌≤◌, ◌<◌, min, le_trans, arith, leb, lit≤, length, get_or, Float}
 use native.Mathlib.Decide.{dec_lt}
-use lib.Dec.{leb, lit≤}
-use lib.ListN.{length, get_or}
-use lib.Ieee.{Float, nan}
+use lib.Ieee.{nan}
 use Rattle.laws.specs.Lists.{put}
 use Rattle.laws.proofs.Lists.{length_put, put_before, put_inside, put_after}
 use Rattle.laws.proofs.Rows.{row_fits}

@@ -2,14 +2,7 @@
 -- An induction over the list with the invariant `InStep`: open begins it, seek keeps it with nothing held, and a row call keeps it by
 -- FinishedRows. The hard step is to put the current picture in the place of the planes and the state that a row call was handed, which the
 -- premise allows.
-use mathlib.Core.Path.{◌≡◌, refl, sym, ap, ◌∙◌, subst}
-use mathlib.Core.Logic.{inl, inr}
-use mathlib.Core.Bool.{Bool, true, false, cond}
-use mathlib.Core.List.{List, [], ◌∷◌}
-use Prim.Native.Nat.{ℕ, ◌-◌, ◌≤◌, ◌<◌}
-use lib.Dec.{T}
-use lib.ListN.{length, take}
-use lib.Ieee.{Float}
+use Rattle.std.proofs.Common.{◌≡◌, refl, sym, ap, ◌∙◌, subst, inl, inr, Bool, true, false, cond, List, [], ◌∷◌, ℕ, ◌-◌, ◌≤◌, ◌<◌, T, length, take, Float}
 use Rattle.laws.specs.Refusals.{accepted}
 use Rattle.laws.specs.Lists.{put}
 use Rattle.laws.proofs.Lists.{take_put, table_same}

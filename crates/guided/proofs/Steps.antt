@@ -1,14 +1,8 @@
 -- What a chroma row across and a chroma row down leave: their own row is held, other rows stay held.
 -- Slots of other rows are apart, and so are the parts and the results of one row (`apart`), so that a put touches one buffer only. The hard
 -- step is `down_is`: the slope that is put is the picture's, since the three rows of sums that it looks at are held.
-use mathlib.Core.Path.{◌≡◌, refl, sym, ◌∙◌, subst}
-use mathlib.Core.Logic.{◌≢◌, inl, inr}
-use mathlib.Core.List.{List, [], ◌∷◌}
-use Prim.Native.Nat.{ℕ, ◌+◌, ◌*◌, ◌%◌, ◌<◌}
-use native.Mathlib.Omega.{arith}
+use Rattle.std.proofs.Common.{◌≡◌, refl, sym, ◌∙◌, subst, ◌≢◌, inl, inr, List, [], ◌∷◌, ℕ, ◌+◌, ◌*◌, ◌%◌, ◌<◌, arith, length, Float}
 use native.Mathlib.Decide.{ℕ_discrete}
-use lib.ListN.{length}
-use lib.Ieee.{Float}
 use Rattle.laws.specs.Lists.{put}
 use Rattle.laws.proofs.Lists.{length_put}
 use Rattle.image.specs.declared.chroma.Chroma.{Chroma}

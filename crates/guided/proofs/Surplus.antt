@@ -1,13 +1,8 @@
 -- "Any lent slice may be longer; its surplus is untouched": scratch after a row call, behind what the call needs.
 -- Every step of a guided row is a run of scratch that ends within the need (Places) where cells are no more than pixels, as in every accepted
 -- call, and no other step is taken; a refused call takes none.
-use mathlib.Core.Path.{◌≡◌, refl, sym, ◌∙◌}
-use mathlib.Core.Bool.{true}
-use mathlib.Core.List.{List, [], ◌∷◌}
-use Prim.Native.Nat.{ℕ, zero, suc, ◌+◌, ◌-◌, ◌≤◌, ◌<◌, min}
-use native.Mathlib.Omega.{arith}
-use lib.ListN.{get_or}
-use lib.Ieee.{Float, nan}
+use Rattle.std.proofs.Common.{◌≡◌, refl, sym, ◌∙◌, true, List, [], ◌∷◌, ℕ, zero, suc, ◌+◌, ◌-◌, ◌≤◌, ◌<◌, min, arith, get_or, Float}
+use lib.Ieee.{nan}
 use Rattle.laws.specs.Lists.{put}
 use Rattle.laws.specs.Refusals.{accepted}
 use Rattle.laws.proofs.Refusals.{accepted_failed, accepted_is}

@@ -1,10 +1,7 @@
 -- The chroma rows that a picture row takes from: beside its own cell, inside the plane, and no row's before an earlier row's.
 -- All of it follows from where taps' spots lie: round the own cell, beside each other, inside, and in the order of the rows (spot-around,
 -- -beside, -inside, -ordered).
-use mathlib.Core.Path.{◌≡◌, refl, subst}
-use Prim.Native.Nat.{ℕ, ◌+◌, ◌/◌, ◌≤◌, ◌<◌}
-use native.Mathlib.Nat.{div-one, mul-le-mul_right}
-use native.Mathlib.Omega.{arith}
+use Rattle.std.proofs.Common.{◌≡◌, refl, subst, ℕ, ◌+◌, ◌/◌, ◌≤◌, ◌<◌, div-one, mul-le-mul_right, arith}
 use lib.Ieee.Nearest.{div_mono}
 use Rattle.image.specs.declared.layout.Layout.{Layout}
 use Rattle.image.specs.Inner.Tests.{Sound}

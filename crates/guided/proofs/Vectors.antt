@@ -1,7 +1,5 @@
 -- Rows by their bits, whose answers come from the original: pictures of two bytes with edge cells of fewer pixels, by which the arithmetic is told from its neighbours.
-use mathlib.Core.Path.{◌≡◌, refl}
-use mathlib.Core.List.{List, [], ◌∷◌}
-use Prim.Native.Nat.{ℕ, ◌*◌}
+use Rattle.std.proofs.Common.{◌≡◌, refl, List, [], ◌∷◌, ℕ, ◌*◌}
 use lib.Ieee.{binary32, add, sub, sum, neg, mul, div, round, size, span, climb, units, odd, lt, of_int, of_bits, of_fields}
 use lib.Count.{count_trailing_zeros}
 use Rattle.laws.specs.Axes.{plain}

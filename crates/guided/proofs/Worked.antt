@@ -2,15 +2,9 @@
 -- picture, in studio range, over the first one's scratch; and a list of its own with that picture in full range, whose row is the same.
 -- Each answer is computed from its tests; what a call leaves passes by LeftStates. The long computations are the guided rows of both pictures,
 -- whose numbers come from the original; their slopes are computed first, since each sample takes its slope several times.
-use mathlib.Core.Path.{◌≡◌, refl, ◌∙◌}
-use mathlib.Core.Bool.{Bool, true, false, cond, ◌&&◌}
-use mathlib.Core.List.{List, [], ◌∷◌}
-use Prim.Native.Nat.{ℕ, zero, suc, ◌<◌}
-use lib.Dec.{T, ltb, ltb→lt, lit<}
-use lib.ListN.{length, get_or, replicate}
-use lib.Ieee.{Float, nan, binary32, add, sub, sum, neg, mul, div, round, size, span, climb, units, odd, lt, of_int, of_bits, of_fields}
+use Rattle.std.proofs.Common.{◌≡◌, refl, ◌∙◌, Bool, true, false, cond, ◌&&◌, List, [], ◌∷◌, ℕ, zero, suc, ◌<◌, T, ltb, ltb→lt, lit<, length, get_or, replicate, Float, Ok, Err}
+use lib.Ieee.{nan, binary32, add, sub, sum, neg, mul, div, round, size, span, climb, units, odd, lt, of_int, of_bits, of_fields}
 use lib.Count.{count_trailing_zeros}
-use Rattle.std.specs.Prelude.{Ok, Err}
 use Rattle.laws.specs.Axes.{plain}
 use Rattle.laws.specs.Floats.{f32}
 use Rattle.laws.specs.Lists.{table}

@@ -1,14 +1,6 @@
 -- The luma of cells: which pixels a cell has, and that none outside the picture is looked at.
 -- `cell_is` and `luma_inside` follow the definition; the work is in `byte_cell`, where pairs of bytes at ratio 2 are the samples that `luma_of` sums, place by place.
-use mathlib.Core.Path.{◌≡◌, refl, sym, ap, ◌∙◌}
-use mathlib.Core.List.{List}
-use Prim.Native.Nat.{ℕ, ◌+◌, ◌-◌, ◌*◌, ◌/◌, ◌≤◌, ◌<◌, min}
-use native.Mathlib.Numerals.{add-one}
-use mathlib.Core.Bool.{false}
-use native.Mathlib.Nat.{mul-le-mul}
-use native.Mathlib.Omega.{arith}
-use lib.ListN.{length, get_or}
-use lib.Ieee.{Float}
+use Rattle.std.proofs.Common.{◌≡◌, refl, sym, ap, ◌∙◌, List, ℕ, ◌+◌, ◌-◌, ◌*◌, ◌/◌, ◌≤◌, ◌<◌, min, add-one, false, mul-le-mul, arith, length, get_or, Float}
 use Rattle.laws.specs.Floats.{f32, ◌⊘◌}
 use Rattle.laws.specs.Lists.{put}
 use Rattle.laws.proofs.Lists.{put_same, put_chain}

@@ -1,12 +1,7 @@
 -- Cells of bytes by sixteens: their sums row by row, and a block more, which may overlap those before.
-use mathlib.Core.Path.{◌≡◌, refl, ap, ◌∙◌}
-use mathlib.Core.List.{List}
-use Prim.Native.Nat.{ℕ, ◌+◌, ◌*◌, ◌≤◌, ◌<◌}
-use native.Mathlib.Numerals.{add-one}
-use native.Mathlib.Omega.{arith}
-use lib.ListN.{get_or, replicate}
+use Rattle.std.proofs.Common.{◌≡◌, refl, ap, ◌∙◌, List, ℕ, ◌+◌, ◌*◌, ◌≤◌, ◌<◌, add-one, arith, get_or, replicate, Float}
 use Rattle.std.proofs.lemmas.List.{get_or-replicate}
-use lib.Ieee.{Float, nan}
+use lib.Ieee.{nan}
 use Rattle.laws.specs.Floats.{f32, ◌⊘◌}
 use Rattle.laws.specs.Lists.{put}
 use Rattle.laws.proofs.Lists.{put_same}

@@ -1,12 +1,7 @@
 -- Rows that scratch holds are read back as they were put, so that the code's steps are the definition's.
 -- `Row` is what scratch holds at a place, and `row_kept` carries it over stores behind it. The hard step is `chroma_across_is`: products read luma's row, put before.
-use mathlib.Core.Path.{◌≡◌, refl, sym, ap, ◌∙◌}
-use mathlib.Core.List.{List}
-use Prim.Native.Nat.{ℕ, ◌+◌, ◌*◌, ◌≤◌, ◌<◌}
-use native.Mathlib.Omega.{arith}
-use lib.Dec.{lit<}
-use lib.ListN.{length}
-use lib.Ieee.{Float, nan}
+use Rattle.std.proofs.Common.{◌≡◌, refl, sym, ap, ◌∙◌, List, ℕ, ◌+◌, ◌*◌, ◌≤◌, ◌<◌, arith, lit<, length, Float}
+use lib.Ieee.{nan}
 use Rattle.laws.specs.Floats.{f32, ◌⊕◌, ◌⊗◌}
 use Rattle.laws.specs.Lists.{put}
 use Rattle.laws.proofs.Lists.{put_same, put_inside, put_before}

@@ -1,11 +1,7 @@
 -- Sums of three neighbours with edges repeated, whatever is summed: which cells a value has, and a row in parts.
 -- The hard step is that a row is written while it is summed: `Behind` says that what is summed lies before dst, so that stores leave it (`inner_more`, `three_chain`).
-use mathlib.Core.Path.{◌≡◌, refl, sym, ap, ◌∙◌}
-use mathlib.Core.List.{List}
-use Prim.Native.Nat.{ℕ, ◌+◌, ◌-◌, ◌≤◌, ◌<◌, min}
-use native.Mathlib.Omega.{arith}
-use lib.ListN.{set}
-use lib.Ieee.{Float, nan}
+use Rattle.std.proofs.Common.{◌≡◌, refl, sym, ap, ◌∙◌, List, ℕ, ◌+◌, ◌-◌, ◌≤◌, ◌<◌, min, arith, set, Float}
+use lib.Ieee.{nan}
 use Rattle.laws.specs.Floats.{◌⊕◌}
 use Rattle.laws.specs.Lists.{put}
 use Rattle.laws.proofs.Lists.{put_same, put_before, put_chain}

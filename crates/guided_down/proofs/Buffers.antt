@@ -1,5 +1,5 @@
 -- Windows of the row buffers end within scratch and lie before every result.
-use Prim.Native.Nat.{ℕ, ◌+◌, ◌-◌, ◌≤◌, ◌<◌, min}
+use Rattle.std.proofs.Common.{ℕ, ◌+◌, ◌-◌, ◌≤◌, ◌<◌, min}
 use Rattle.image.specs.declared.layout.Layout.{Layout}
 use Rattle.image.specs.Scratch.{scratch_need}
 use Rattle.guided.specs.Scratch.{slot_at, result_at}

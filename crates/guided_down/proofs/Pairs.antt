@@ -1,11 +1,6 @@
 -- Two runs that grow side by side, the second behind the first: what a block puts into the first leaves the second, so that the two puts change
 -- places (`put_swap`), and each run grows as one alone would.
-use mathlib.Core.Path.{◌≡◌, refl, ap, ◌∙◌}
-use mathlib.Core.List.{List, [], ◌∷◌}
-use Prim.Native.Nat.{ℕ, zero, suc, ◌+◌, ◌≤◌, ◌<◌}
-use native.Mathlib.Nat.{le_of_suc-le-suc}
-use native.Mathlib.Omega.{arith}
-use lib.ListN.{length, get_or, set}
+use Rattle.std.proofs.Common.{◌≡◌, refl, ap, ◌∙◌, List, [], ◌∷◌, ℕ, zero, suc, ◌+◌, ◌≤◌, ◌<◌, le_of_suc-le-suc, arith, length, get_or, set}
 use Rattle.laws.specs.Lists.{put}
 use Rattle.laws.proofs.Lists.{length_put, put_before, put_over}
 

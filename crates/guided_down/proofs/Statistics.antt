@@ -1,13 +1,8 @@
 -- Slopes over scratch: what is written leaves what they are made of.
 -- `slope_same` and `inside_same` carry it: the rows that slopes are made of lie before the row of slopes (`Clear`), so that a slope made later is by what scratch
 -- held at the beginning. `inside_is` says that a cell with neighbours on both sides may be made without looking at an edge.
-use mathlib.Core.Path.{◌≡◌, refl, sym, ap, ◌∙◌}
-use mathlib.Core.List.{List}
-use Prim.Native.Nat.{ℕ, ◌+◌, ◌-◌, ◌*◌, ◌/◌, ◌≤◌, ◌<◌, min}
-use native.Mathlib.Nat.{le_trans}
-use native.Mathlib.Omega.{arith}
-use lib.ListN.{length, get_or, set}
-use lib.Ieee.{Float, nan}
+use Rattle.std.proofs.Common.{◌≡◌, refl, sym, ap, ◌∙◌, List, ℕ, ◌+◌, ◌-◌, ◌*◌, ◌/◌, ◌≤◌, ◌<◌, min, le_trans, arith, length, get_or, set, Float, lit<}
+use lib.Ieee.{nan}
 use Rattle.laws.specs.Floats.{f32, ◌⊕◌, ◌⊗◌, ◌⊘◌}
 use Rattle.laws.specs.Lists.{put}
 use Rattle.laws.proofs.Lists.{Run, run_none, run_of, run_before, run_run, run_over, run_end, put_same, put_before}
@@ -15,14 +10,14 @@ use Rattle.image.specs.Scratch.{cell_at, scratch_need}
 use Rattle.guided_window.specs.declared.buffers.Window.{Window}
 use Rattle.guided_window.specs.declared.buffers.Buffer.TheVariants.{Slopes}
 use Rattle.guided_down.specs.declared.slopes.Stats.{Stats}
-use Rattle.guided_down.specs.Inner.Slopes.{slope_by, mean_at, mean_over, sum_round, mean_round, slope_round, slope_with, slope_at, sum_inside, mean_inside, slope_inside, slope_run, slopes_from, slopes_inside, Inside, AllInside, ClearOf, Clear, Alike, PairLent, pair_run, pairs_from, pairs_inside, stats_of, slope_row, slope_rows}
-use lib.Dec.{lit<}
+use Rattle.guided_down.specs.declared.neighbours.Neighbours.{Neighbours}
+use Rattle.guided_down.specs.Inner.Slopes.{slope_by, mean_at, mean_over, sum_round, mean_round, slope_round, slope_with, slope_at, sum_inside, mean_inside, slope_inside, slope_run, slopes_from, slopes_inside, Inside, AllInside, ClearOf, Clear, SameLuma, PairLent, pair_run, pairs_from, pairs_inside, stats_of, slope_row, slope_rows}
 use Rattle.image.specs.declared.layout.Layout.{Layout}
 use Rattle.image.specs.declared.chroma.Chroma.{Chroma}
 use Rattle.image.specs.declared.chroma.Chroma.TheVariants.{Cb, Cr}
 use Rattle.guided.specs.Guided.{three, mean, slope_of, epsilon}
 use Rattle.guided.specs.Scratch.{result_at, first_of, Slope, num_down, read_stored, read_across}
-use Rattle.guided_window.specs.Inner.Buffers.{window_of, RowGiven}
+use Rattle.guided_window.specs.Inner.Buffers.{window_of, RowAt}
 use Rattle.guided.proofs.Places.{first_few, buffers_apart}
 use Rattle.guided.proofs.Congruence.{three_cong}
 use Rattle.guided_window.proofs.Puts.{put_more}
@@ -95,13 +90,13 @@ unfolding slope_inside slope_at slope_with mean_inside mean_over
 inside_is s t eps n i h = rw (sum_is s t.c.up n i h, sum_is s t.c.at n i h, sum_is s t.c.down n i h) refl
 
 -- both by their neighbours
-pub at_round : (s : List Float) (t : Stats) (n : ℕ) (eps : Float) (l i r : ℕ) → l ≡ i - 1 → r ≡ min (i + 1) (n - 1) → slope_round s t eps l i r ≡ slope_at s t n eps i
+pub at_round : (s : List Float) (t : Stats) (n : ℕ) (eps : Float) (i : ℕ) (c : Neighbours) → c.left ≡ i - 1 → c.at ≡ i → c.right ≡ min (i + 1) (n - 1) → slope_round s t eps c ≡ slope_at s t n eps i
 unfolding slope_at slope_round mean_round sum_round mean_over three
-at_round s t n eps l i r p q = rw (p, q) refl
+at_round s t n eps i c p q r = rw (p, q, r) refl
 
-pub inside_round : (s : List Float) (t : Stats) (eps : Float) (i : ℕ) → slope_round s t eps (i - 1) i (i + 1) ≡ slope_inside s t eps i
+pub inside_round : (s : List Float) (t : Stats) (eps : Float) (i : ℕ) (c : Neighbours) → c.left ≡ i - 1 → c.at ≡ i → c.right ≡ i + 1 → slope_round s t eps c ≡ slope_inside s t eps i
 unfolding slope_inside slope_round mean_round sum_round mean_inside sum_inside
-inside_round s t eps i = refl
+inside_round s t eps i c p q r = rw (p, q, r) refl
 
 pub inside_same : (dst n : ℕ) (xs ys : List Float) → ((k : ℕ) → k < dst → get_or ys k nan ≡ get_or xs k nan) → (t : Stats) (eps : Float) → Clear t dst n → (i : ℕ) → i + 1 < n → slope_inside ys t eps i ≡ slope_inside xs t eps i
 inside_same dst n xs ys e t eps o i h = inside_is ys t eps n i h ∙ slope_same dst n xs ys e t eps o i (omega arith) ∙ sym (inside_is xs t eps n i h)
@@ -268,7 +263,7 @@ row_is l k j s = put_same s (result_at l (num_down (Slope k)) j) l.cw _ _ (λ i 
 
 -- ---- what a row of slopes asks, and gives, by what it was handed
 
-module _ (l : Layout) (k : Chroma) (j dst : ℕ) (t : Stats) (p : t ≡ stats_of l k j) (q : RowGiven l (Slopes k) j dst) where
+module _ (l : Layout) (k : Chroma) (j dst : ℕ) (t : Stats) (p : t ≡ stats_of l k j) (q : RowAt l (Slopes k) j dst) where
   pub row_ready : (len : ℕ) → scratch_need l ≤ len → l.cw ≤ l.w → AllInside t l.cw len × Clear t dst l.cw × (dst + l.cw ≤ len)
   row_ready len h c = (rw p (all_less (stats_inside l k j c) l.cw len (omega arith) h), rw (p, q.is) (stats_clear l k j), le_trans q.fits h)
 
@@ -276,8 +271,8 @@ module _ (l : Layout) (k : Chroma) (j dst : ℕ) (t : Stats) (p : t ≡ stats_of
   row_slopes eps s g = let e = q.is in rw (p, g, e) (row_is l k j s)
 
 -- Cb's slopes lie before Cr's, and all that they are made of before both
-module _ (l : Layout) (j a b : ℕ) (t u : Stats) (p : t ≡ stats_of l Cb j) (q : u ≡ stats_of l Cr j) (e : RowGiven l (Slopes Cb) j a) (f : RowGiven l (Slopes Cr) j b) where
-  alike : Alike t u
+module _ (l : Layout) (j a b : ℕ) (t u : Stats) (p : t ≡ stats_of l Cb j) (q : u ≡ stats_of l Cr j) (e : RowAt l (Slopes Cb) j a) (f : RowAt l (Slopes Cr) j b) where
+  alike : SameLuma t u
   unfolding stats_of
   alike = rw (p, q) (record { y = refl; yy = refl })
 

@@ -1,14 +1,8 @@
 -- Extremes in whole numbers are those in floats, and a row of them in parts.
 -- `whole_is` rests on guided's law that whole samples order as floats do; the work is in `across_from`: an inner cell's neighbours are three samples in a row.
-use mathlib.Core.Path.{◌≡◌, refl, sym, ap, ◌∙◌}
+use Rattle.std.proofs.Common.{◌≡◌, refl, sym, ap, ◌∙◌, List, ℕ, ◌+◌, ◌-◌, ◌*◌, ◌≤◌, ◌<◌, min, arith, false, length, get_or, Float}
 use Rattle.guided_down.specs.declared.picks.Pick.{Pick}
 use Rattle.guided_down.specs.declared.picks.Pick.TheVariants.{Smaller, Greater}
-use mathlib.Core.List.{List}
-use Prim.Native.Nat.{ℕ, ◌+◌, ◌-◌, ◌*◌, ◌≤◌, ◌<◌, min}
-use native.Mathlib.Omega.{arith}
-use mathlib.Core.Bool.{false}
-use lib.ListN.{length, get_or}
-use lib.Ieee.{Float}
 use Rattle.laws.specs.Floats.{f32}
 use Rattle.laws.specs.Lists.{put}
 use Rattle.laws.proofs.Lists.{put_same, put_chain}

@@ -6,6 +6,7 @@
 
 mod extremes;
 mod finishing;
+mod neighbours;
 mod nines;
 mod picks;
 mod slope_pairs;

@@ -4,7 +4,7 @@
 // two components would have more lines than both.
 ghost use Rattle.std.specs.Prelude.{◌≡◌, [], ℕ, ◌+◌, ◌*◌, ◌≤◌, ◌<◌, length, get_or};
 ghost use Rattle.std.specs.Float.{nan};
-ghost use Rattle.guided_down.specs.Inner.Slopes.{slope_inside, AllInside, Alike, PairLent, pair_run, pairs_from, pairs_inside, slope_rows};
+ghost use Rattle.guided_down.specs.Inner.Slopes.{slope_inside, AllInside, SameLuma, PairLent, pair_run, pairs_from, pairs_inside, slope_rows};
 ghost use Rattle.image.specs.Inner.Tests.{Sound};
 ghost use Rattle.image.specs.Scratch.{scratch_need};
 
@@ -27,7 +27,7 @@ fn pair_cell(s: &mut [f32], t: Stats, u: Stats, eps: f32, n: usize, a: usize, b:
 // The second component's rows, with luma's as the first names them: the compiler then sees that they are the same, and makes luma's means
 // once.
 fn beside(t: Stats, u: Stats) -> Stats
-    requires { Alike t u }
+    requires { SameLuma t u }
     ensures { result ≡ u }
 {
     Stats {
@@ -40,7 +40,7 @@ fn beside(t: Stats, u: Stats) -> Stats
 // The slopes of two components at the eight cells from i on, by value.
 #[tactic(auto, using(crate::proofs::Statistics::all_less))]
 fn pair_eight(s: &[f32], t: Stats, u: Stats, eps: f32, i: usize) -> [[f32; Lanes::CELLS]; 2]
-    requires { (0 < i) × AllInside t (i + 9) (length s.now) × AllInside u (i + 9) (length s.now) × Alike t u }
+    requires { (0 < i) × AllInside t (i + 9) (length s.now) × AllInside u (i + 9) (length s.now) × SameLuma t u }
     ensures { (k : ℕ) → k < 8 → (get_or (get_or result 0 []) k nan ≡ slope_inside s.now t eps (i + k))
         × (get_or (get_or result 1 []) k nan ≡ slope_inside s.now u eps (i + k)) }
 {

@@ -4,6 +4,7 @@ ghost use Rattle.laws.specs.Floats.{f32, ◌⊕◌, ◌⊗◌, ◌⊘◌};
 ghost use Rattle.guided_down.specs.Inner.Slopes.{slope_by, mean_at, sum_round, mean_round, slope_round, slope_with, slope_at, slope_inside, slope_run, Inside, AllInside, Clear, stats_of};
 ghost use Rattle.image.specs.Inner.Tests.{Sound};
 
+use crate::neighbours::Neighbours;
 use guided::Geometry;
 use guided_window::{Buffer, Window, window_at};
 use image::{Chroma, Layout};
@@ -67,35 +68,35 @@ fn slope_with(s: &[f32], t: Stats, eps: f32, c: f32, i: usize) -> f32
     slope_by(y, yy, c, yc, eps)
 }
 
-// The sum of cell i at src and its neighbours l and r: document 01's "(left + middle) + right".
+// The sum of a cell of the row at src and its neighbours: document 01's "(left + middle) + right".
 #[tactic(auto, unfolding(crate::specs::Inner::Slopes::sum_round))]
-fn sum_round(s: &[f32], src: usize, l: usize, i: usize, r: usize) -> f32
-    requires { (l ≤ r) × (i ≤ r) × (src + r < length s.now) }
-    ensures { result ≡ sum_round s.now src l i r }
+fn sum_round(s: &[f32], src: usize, c: Neighbours) -> f32
+    requires { src + c.right < length s.now }
+    ensures { result ≡ sum_round s.now src c }
 {
-    (s[src + l] + s[src + i]) + s[src + r]
+    (s[src + c.left] + s[src + c.at]) + s[src + c.right]
 }
 
-// The mean over the three by three cells round cell i, from the samples of three rows: their sums across are formed again.
+// The mean over the three by three cells round a cell, from the samples of three rows: their sums across are formed again.
 #[tactic(auto, unfolding(crate::specs::Inner::Slopes::mean_round))]
-fn mean_round(s: &[f32], t: Window, l: usize, i: usize, r: usize) -> f32
-    requires { (l ≤ r) × (i ≤ r) × Inside t (r + 1) (length s.now) }
-    ensures { result ≡ mean_round s.now t l i r }
+fn mean_round(s: &[f32], t: Window, c: Neighbours) -> f32
+    requires { Inside t (c.right + 1) (length s.now) }
+    ensures { result ≡ mean_round s.now t c }
 {
-    let u = sum_round(s, t.up, l, i, r);
-    let m = sum_round(s, t.at, l, i, r);
-    let d = sum_round(s, t.down, l, i, r);
+    let u = sum_round(s, t.up, c);
+    let m = sum_round(s, t.at, c);
+    let d = sum_round(s, t.down, c);
     mean3(u, m, d)
 }
 
-// A component's slope at cell i, whose neighbours across are l and r.
+// A component's slope at a cell.
 #[tactic(auto, using(crate::proofs::Statistics::all_less), unfolding(crate::specs::Inner::Slopes::slope_round))]
-fn slope_round(s: &[f32], t: Stats, eps: f32, l: usize, i: usize, r: usize) -> f32
-    requires { (l ≤ r) × (i ≤ r) × AllInside t (r + 1) (length s.now) }
-    ensures { result ≡ slope_round s.now t eps l i r }
+fn slope_round(s: &[f32], t: Stats, eps: f32, c: Neighbours) -> f32
+    requires { AllInside t (c.right + 1) (length s.now) }
+    ensures { result ≡ slope_round s.now t eps c }
 {
-    let c = mean_round(s, t.c, l, i, r);
-    slope_with(s, t, eps, c, i)
+    let mean = mean_round(s, t.c, c);
+    slope_with(s, t, eps, mean, c.at)
 }
 
 // Inner: a component's slope at cell i of n, with the edge repeated where a neighbour is missing.
@@ -104,14 +105,12 @@ pub fn slope_at(s: &[f32], t: Stats, eps: f32, n: usize, i: usize) -> f32
     requires { (i < n) × AllInside t n (length s.now) }
     ensures { result ≡ slope_at s.now t n eps i }
 {
-    slope_round(
-        s,
-        t,
-        eps,
-        guided_window::prev(i),
-        i,
-        guided_window::next(i, n),
-    )
+    let c = Neighbours {
+        left: guided_window::prev(i),
+        at: i,
+        right: guided_window::next(i, n),
+    };
+    slope_round(s, t, eps, c)
 }
 
 // Inner: `slope_at` where cell i has a neighbour on both sides. No edge is looked at, so that blocks of it compile to wide loads.
@@ -120,7 +119,12 @@ pub fn slope_inside(s: &[f32], t: Stats, eps: f32, i: usize) -> f32
     requires { (0 < i) × AllInside t (i + 2) (length s.now) }
     ensures { result ≡ slope_inside s.now t eps i }
 {
-    slope_round(s, t, eps, i - 1, i, i + 1)
+    let c = Neighbours {
+        left: i - 1,
+        at: i,
+        right: i + 1,
+    };
+    slope_round(s, t, eps, c)
 }
 
 // Inner: the slopes at n cells one by one, to s from dst on.

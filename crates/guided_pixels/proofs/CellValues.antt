@@ -1,9 +1,6 @@
 -- A component's values in the pixels of a cell, and at ratio 1.
-use mathlib.Core.Path.{◌≡◌, refl, ap, ◌∙◌}
-use Prim.Native.Nat.{ℕ, ◌+◌, ◌*◌, ◌/◌, ◌<◌}
-use native.Mathlib.Nat.{div-one}
+use Rattle.std.proofs.Common.{◌≡◌, refl, ap, ◌∙◌, ℕ, ◌+◌, ◌*◌, ◌/◌, ◌<◌, div-one, Float}
 use lib.Arith.{digits_div}
-use lib.Ieee.{Float}
 use Rattle.laws.specs.Floats.{f32, ◌⊕◌, ◌⊗◌}
 use Rattle.image.specs.declared.layout.Layout.{Layout}
 use Rattle.fround.specs.Rounding.{fmin, fmax}

@@ -1,10 +1,6 @@
 -- Rows of cells lerped down by a tap are the definition's.
-use mathlib.Core.Path.{◌≡◌, refl, ap, ◌∙◌}
-use mathlib.Core.List.{List}
-use Prim.Native.Nat.{ℕ, ◌+◌, ◌≤◌, ◌<◌}
-use native.Mathlib.Omega.{arith}
-use lib.Ieee.{Float, nan}
-use lib.ListN.{set}
+use Rattle.std.proofs.Common.{◌≡◌, refl, ap, ◌∙◌, List, ℕ, ◌+◌, ◌≤◌, ◌<◌, arith, Float, set}
+use lib.Ieee.{nan}
 use Rattle.laws.proofs.Lists.{run_of, run_before}
 use Rattle.guided_window.proofs.Puts.{put_more}
 use Rattle.guided_window.specs.declared.buffers.Buffer.{Buffer}

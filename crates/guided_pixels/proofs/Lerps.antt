@@ -1,7 +1,5 @@
 -- Cells lerped across, and the pixels that are made of them: only the cells of the row are looked at.
-use mathlib.Core.Path.{◌≡◌, ap, ◌∙◌}
-use Prim.Native.Nat.{ℕ, ◌+◌, ◌-◌, ◌/◌, ◌%◌, ◌<◌}
-use lib.Ieee.{Float}
+use Rattle.std.proofs.Common.{◌≡◌, ap, ◌∙◌, ℕ, ◌/◌, ◌%◌, Float}
 use Rattle.image.specs.declared.layout.Layout.{Layout}
 use Rattle.taps.specs.declared.phases.Phase.{Phase}
 use Rattle.taps.specs.Taps.{phase_of}

@@ -1,15 +1,9 @@
 -- The pixels of a cell by its phases, and rows cell by cell.
 -- `pixel_is` is the heart: pixel k of cell i has quotient i and rest k by the ratio.
-use mathlib.Core.Path.{◌≡◌, refl, ap, ◌∙◌}
-use mathlib.Core.Bool.{Bool, true, false, cond}
-use mathlib.Core.List.{List, [], ◌∷◌}
-use Prim.Native.Nat.{ℕ, zero, suc, ◌+◌, ◌-◌, ◌*◌, ◌/◌, ◌%◌, ◌≤◌, ◌<◌, min}
-use native.Mathlib.Nat.{zero-mul}
-use native.Mathlib.Omega.{arith}
+use Rattle.std.proofs.Common.{◌≡◌, refl, ap, ◌∙◌, Bool, true, false, cond, List, [], ◌∷◌, ℕ, zero, suc, ◌+◌, ◌-◌, ◌*◌, ◌/◌, ◌%◌, ◌≤◌, ◌<◌, min, arith, get_or, Float}
 use borrow.Author.Tests.{lt-leb}
 use lib.Arith.{digits_div, digits_mod}
-use lib.ListN.{get_or}
-use lib.Ieee.{Float, nan, div, of_int}
+use lib.Ieee.{nan, div, of_int}
 use Rattle.laws.specs.Floats.{f32}
 use Rattle.laws.proofs.Rows.{next_row}
 use Rattle.image.specs.declared.layout.Layout.{Layout}

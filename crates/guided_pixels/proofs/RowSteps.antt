@@ -1,8 +1,5 @@
 -- The steps of a picture row are the definition's: no sample outside the planes is looked at.
-use mathlib.Core.Path.{◌≡◌, refl, sym, ap, ◌∙◌}
-use mathlib.Core.List.{List, [], ◌∷◌}
-use Prim.Native.Nat.{ℕ, ◌<◌}
-use lib.Ieee.{Float}
+use Rattle.std.proofs.Common.{◌≡◌, refl, sym, ap, ◌∙◌, List, [], ◌∷◌, ℕ, ◌<◌, Float}
 use Rattle.laws.specs.Floats.{f32}
 use Rattle.laws.proofs.Lists.{put_same}
 use Rattle.image.specs.declared.layout.Layout.{Layout}

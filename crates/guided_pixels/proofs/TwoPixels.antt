@@ -1,13 +1,7 @@
 -- Ratio 2: the phases of a cell's two pixels, and rows in parts.
 -- `pair_left` and `pair_right` find the phases.
-use mathlib.Core.Path.{◌≡◌, refl, ap, ◌∙◌}
-use mathlib.Core.List.{List}
-use Prim.Native.Nat.{ℕ, ◌+◌, ◌-◌, ◌*◌, ◌/◌, ◌%◌, ◌≤◌, ◌<◌, min}
-use native.Mathlib.Omega.{arith}
-use lib.ListN.{length, get_or, set, length-set}
-use lib.Seq.{get_or-set_same, get_or-set_other}
-use Rattle.std.proofs.Common.{below_more}
-use lib.Ieee.{Float, nan}
+use Rattle.std.proofs.Common.{◌≡◌, refl, ap, ◌∙◌, List, ℕ, ◌+◌, ◌-◌, ◌*◌, ◌/◌, ◌%◌, ◌<◌, min, arith, length, get_or, set, length-set, get_or-set_same, get_or-set_other, below_more, Float}
+use lib.Ieee.{nan}
 use Rattle.image.specs.declared.layout.Layout.{Layout}
 use Rattle.taps.specs.Taps.{lerp_of, fraction_of, phase_of}
 use Rattle.guided.specs.Guided.{across_to}

@@ -1,14 +1,5 @@
 -- A guided plane's rows, rounded out of scratch, and what an accepted call may rely on.
-use mathlib.Core.Path.{◌≡◌, refl, ap, ◌∙◌}
-use mathlib.Core.Logic.{inl}
-use mathlib.Core.Bool.{false}
-use mathlib.Core.List.{List, [], ◌∷◌}
-use Prim.Native.Nat.{ℕ, ◌+◌, ◌*◌, ◌≤◌, ◌<◌}
-use native.Mathlib.Omega.{arith}
-use lib.ListN.{length}
-use lib.Ieee.{Float}
-use borrow.Author.Tests.{ltb-false}
-use Rattle.std.specs.Prelude.{Ok}
+use Rattle.std.proofs.Common.{◌≡◌, refl, ap, ◌∙◌, inl, false, List, [], ◌∷◌, ℕ, ◌+◌, ◌*◌, ◌≤◌, ◌<◌, arith, length, Float, ltb-false, Ok}
 use Rattle.laws.specs.Lists.{put}
 use Rattle.laws.specs.Refusals.{first}
 use Rattle.laws.proofs.Lists.{put_same}

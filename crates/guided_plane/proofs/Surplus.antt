@@ -1,9 +1,6 @@
 -- "Any lent slice may be longer; its surplus is untouched": scratch after `guided_plane`, behind what the call needs.
-use mathlib.Core.Path.{◌≡◌, sym, ◌∙◌}
-use mathlib.Core.List.{List, [], ◌∷◌}
-use Prim.Native.Nat.{ℕ, ◌≤◌}
-use lib.ListN.{length, get_or}
-use lib.Ieee.{Float, nan}
+use Rattle.std.proofs.Common.{◌≡◌, sym, ◌∙◌, List, [], ◌∷◌, ℕ, ◌≤◌, length, get_or, Float}
+use lib.Ieee.{nan}
 use Rattle.laws.specs.Refusals.{Answer, accepted}
 use Rattle.laws.proofs.Refusals.{accepted_is}
 use Rattle.image.specs.declared.chroma.Chroma.TheVariants.{Cb}

@@ -1,11 +1,7 @@
 -- Turns of the catching-up loops: a row more across, and a row more finished.
 -- The two loops are the recursions `across_rows` and `catch_up` of guided's specs/Scratch, a step at a time. The one care is subtraction: j -
 -- from grows by one since the loop never stands before its start.
-use mathlib.Core.Path.{◌≡◌, refl, ap, ◌∙◌}
-use mathlib.Core.List.{List}
-use Prim.Native.Nat.{ℕ, suc, ◌+◌, ◌-◌, ◌≤◌, ◌<◌, min, max}
-use native.Mathlib.Omega.{arith}
-use lib.Ieee.{Float}
+use Rattle.std.proofs.Common.{◌≡◌, refl, ap, ◌∙◌, List, ℕ, suc, ◌+◌, ◌-◌, ◌≤◌, min, max, arith, Float}
 use Rattle.image.specs.declared.chroma.Chroma.{Chroma}
 use Rattle.image.specs.Picture.{Picture}
 use Rattle.guided.specs.Scratch.{horizontal, finish, across_rows, h_at, catch_up}

@@ -1,14 +1,7 @@
 -- The rows a, a + 1, .. of a picture over scratch: each finds the window that the row before left, and its finished rows are the guided ones.
 -- An induction over the rows: the first starts from an empty window, each later one from the window that `row_window` of guided's FinishedRows
 -- says was left. The counters are those of a reader, fresh at the first row and done after it, so that nothing is said anew here.
-use mathlib.Core.Path.{◌≡◌, refl, ap, ◌∙◌}
-use mathlib.Core.Logic.{inl, inr}
-use mathlib.Core.List.{List}
-use Prim.Native.Nat.{ℕ, zero, suc, ◌+◌, ◌≤◌, ◌<◌}
-use native.Mathlib.Numerals.{add-one}
-use native.Mathlib.Omega.{arith}
-use lib.ListN.{length}
-use lib.Ieee.{Float}
+use Rattle.std.proofs.Common.{◌≡◌, refl, ap, ◌∙◌, inl, inr, List, ℕ, zero, suc, ◌+◌, ◌≤◌, ◌<◌, add-one, arith, length, Float}
 use Rattle.image.specs.Inner.Tests.{Sound}
 use Rattle.image.specs.declared.chroma.Chroma.{Chroma}
 use Rattle.image.specs.Picture.{Picture}

@@ -1,9 +1,5 @@
 -- Places in scratch and in planes.
-use mathlib.Core.Path.{◌≡◌}
-use mathlib.Core.Bool.{false}
-use mathlib.Core.List.{List}
-use Prim.Native.Nat.{ℕ, ◌+◌, ◌*◌, ◌≤◌, ◌<◌}
-use lib.ListN.{length}
+use Rattle.std.proofs.Common.{◌≡◌, false, List, ℕ, ◌+◌, ◌*◌, ◌≤◌, ◌<◌, length}
 use Rattle.image.specs.Samples.{plane_of}
 use Rattle.image.specs.Picture.{short_plane}
 use Rattle.image.proofs.Holding.{short_holds, sample_inside}

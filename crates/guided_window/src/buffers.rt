@@ -2,7 +2,7 @@
 ghost use Rattle.std.specs.Prelude.{◌≡◌, ◌+◌, ◌^◌, ◌≤◌, ◌<◌};
 ghost use Rattle.image.specs.Inner.Tests.{Sound};
 ghost use Rattle.guided.specs.Scratch.{pitch, first_of, first_down};
-ghost use Rattle.guided_window.specs.Inner.Buffers.{BufferGiven, SlotGiven, ResultGiven, RowGiven, window_of, on};
+ghost use Rattle.guided_window.specs.Inner.Buffers.{BufferGiven, SlotGiven, ResultGiven, RowAt, window_of, on};
 
 use crate::neighbours::{next, prev};
 use image::{Chroma, Layout};
@@ -127,7 +127,7 @@ fn result_at(layout: Layout, n: usize, r: usize) -> usize
 // Inner: where a buffer of chroma row r begins in scratch.
 pub fn row_at(layout: Layout, buffer: Buffer, r: usize) -> usize
     requires { Sound layout }
-    ensures { RowGiven layout buffer r result }
+    ensures { RowAt layout buffer r result }
 {
     match buffer {
         Buffer::Luma => slot_at(layout, 0, r),

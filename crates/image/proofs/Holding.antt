@@ -1,16 +1,10 @@
 -- Laws of refusal 7's test: the steps by which the code comes to it, and where the samples of a plane that passes stand.
 -- `same_test` of laws carries the first part: two comparisons are equal where each side's truth and falsehood give the other's; the rest is arithmetic.
-use mathlib.Core.Path.{◌≡◌, refl}
-use mathlib.Core.Bool.{true, false}
-use Prim.Native.Nat.{ℕ, ◌+◌, ◌-◌, ◌*◌, ◌≤◌, ◌<◌}
-use native.Mathlib.Omega.{arith}
-use lib.Dec.{ltb}
-use borrow.Author.Tests.{lt-ltb, ltb-false}
+use Rattle.std.proofs.Common.{◌≡◌, refl, true, false, ℕ, ◌+◌, ◌-◌, ◌*◌, ◌≤◌, ◌<◌, arith, ltb, lt-ltb, ltb-false, length}
 use Rattle.laws.proofs.Products.{same_test}
 use Rattle.laws.proofs.Rows.{row_fits, row_begins}
 use Rattle.image.specs.Tests.{bad_plane}
 use Rattle.image.proofs.Layouts.{neither}
-use lib.ListN.{length}
 use Rattle.image.specs.declared.layout.Layout.{Layout}
 use Rattle.image.specs.Samples.{Plane, place}
 use Rattle.image.specs.Picture.{short_plane, bad_planes, Planes}

@@ -1,14 +1,8 @@
 -- What a layout is whose tests all failed: `shaped` takes the tests apart by `neither` (an 'or' that is false has both sides false) and reads
 -- each side as a bound. The facts about cw and ch follow from Quotients, since test 5 says that they are the rounded-up quotients. `sound` is its
 -- case of numerator 1.
-use mathlib.Core.Path.{◌≡◌, refl, sym, ap, ◌∙◌}
-use mathlib.Core.Bool.{Bool, true, false, true≢false, ◌&&◌, ◌||◌, not, cond}
-use Prim.Native.Nat.{ℕ, suc, ◌+◌, ◌-◌, ◌*◌, ◌≤◌, ◌<◌}
-use native.Mathlib.Nat.{mul-le-mul, mul-le-mul_left, mul-pos, mul-one, le_trans, le-div_iff_mul-le, suc-mul}
-use native.Mathlib.Omega.{arith}
-use lib.Dec.{eqb}
-use borrow.Author.Tests.{eqb-true, not-false}
-use Rattle.std.specs.Prelude.{Ok, Err, is_err}
+use Rattle.std.proofs.Common.{◌≡◌, refl, sym, ap, ◌∙◌, Bool, true, false, true≢false, ◌&&◌, ◌||◌, not, cond, ℕ, suc, ◌+◌, ◌-◌, ◌*◌, ◌≤◌, ◌<◌, mul-le-mul, mul-le-mul_left, mul-pos, mul-one, le_trans, le-div_iff_mul-le, suc-mul, arith, eqb, eqb-true, Ok, Err, is_err}
+use borrow.Author.Tests.{not-false}
 use Rattle.laws.specs.Refusals.{Answer, first, accepted, place_of, Ascending}
 use Rattle.laws.proofs.Refusals.{Failed, accepted_failed, accepted_is}
 pub use Rattle.laws.proofs.Limits.{neither, within}

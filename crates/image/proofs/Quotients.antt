@@ -1,11 +1,7 @@
 -- Laws of the rounded-up quotient (n + (r - 1)) / r. Equations come from n = (n / r) * r + n % r, bounds from turning a quotient below m into a
 -- number below m * r. Products with r are not linear, so that omega is handed them as terms.
-use mathlib.Core.Path.{◌≡◌, ap, ◌∙◌}
-use mathlib.Core.Logic.{inl, inr}
-use Prim.Native.Nat.{ℕ, ◌+◌, ◌-◌, ◌*◌, ◌/◌, ◌%◌, ◌≤◌, ◌<◌}
-use native.Mathlib.Nat.{div-zero, div-add-mod', mod-lt, suc-mul, div-lt_iff_lt-mul, le_of_suc-le-suc, le-div_iff_mul-le, div-mul-le_self, mul-le-mul_left, eq-zero-or-pos}
-use native.Mathlib.Numerals.{add-one}
-use native.Mathlib.Omega.{arith}
+use Rattle.std.proofs.Common.{◌≡◌, ap, ◌∙◌, inl, inr, ℕ, ◌+◌, ◌-◌, ◌*◌, ◌/◌, ◌%◌, ◌≤◌, ◌<◌, div-add-mod', mod-lt, suc-mul, div-lt_iff_lt-mul, le_of_suc-le-suc, le-div_iff_mul-le, div-mul-le_self, mul-le-mul_left, eq-zero-or-pos, add-one, arith}
+use native.Mathlib.Nat.{div-zero}
 use lib.Arith.{digits_div}
 use Rattle.image.specs.Tests.{div_ceil}
 

@@ -1,5 +1,5 @@
 -- A layout in another range has that range, and all else as it was: `ranged` could be mistyped unseen, since reconstructed samples look at no range.
-use mathlib.Core.Path.{◌≡◌, refl}
+use Rattle.std.proofs.Common.{◌≡◌, refl}
 use Rattle.image.specs.declared.layout.Layout.{Layout}
 use Rattle.image.specs.declared.layout.Range.{Range}
 use Rattle.image.specs.Picture.{Picture, ranged, picture_in}

@@ -1,11 +1,6 @@
 -- "Any lent slice may be longer; its surplus is untouched": scratch behind what a call needs.
-use mathlib.Core.Path.{◌≡◌, refl, ap, ◌∙◌}
-use mathlib.Core.Bool.{Bool, true, false, cond}
-use mathlib.Core.List.{List}
-use Prim.Native.Nat.{ℕ, ◌+◌, ◌≤◌}
-use native.Mathlib.Nat.{le_trans}
-use lib.ListN.{get_or}
-use lib.Ieee.{Float, nan}
+use Rattle.std.proofs.Common.{◌≡◌, refl, ap, ◌∙◌, Bool, true, false, cond, List, ℕ, ◌+◌, ◌≤◌, le_trans, get_or, Float}
+use lib.Ieee.{nan}
 use Rattle.laws.specs.Lists.{put}
 use Rattle.laws.proofs.Lists.{put_after}
 use Rattle.image.specs.declared.layout.Layout.{Layout}

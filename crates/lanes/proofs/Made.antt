@@ -1,12 +1,6 @@
 -- An array that `from_fn` makes: what a call gives at each place, the array holds there; and where it may be called at each place, `from_fn`
 -- may be called.
-use mathlib.Core.Path.{◌≡◌, refl, sym, subst}
-use mathlib.Core.Logic.{inl, inr}
-use mathlib.Core.List.{List}
-use Prim.Native.Nat.{ℕ, zero, suc, ◌+◌, ◌≤◌, ◌<◌}
-use native.Mathlib.Nat.{eq-or-lt_of_le}
-use native.Mathlib.Omega.{arith}
-use lib.ListN.{get_or}
+use Rattle.std.proofs.Common.{◌≡◌, refl, sym, subst, inl, inr, List, ℕ, zero, suc, ◌+◌, ◌≤◌, ◌<◌, eq-or-lt_of_le, arith, get_or}
 use denote.Param.Members.{Mut, Called}
 use Rattle.std.specs.Array.{index_steps, IsFromFnResult, IsFromFnResultFrom}
 use Rattle.std.specs.Iterator.{CallableAtEachTurn}

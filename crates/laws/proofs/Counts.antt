@@ -1,7 +1,5 @@
 -- Counts and places whose sums do not compute.
-use mathlib.Core.Path.{◌≡◌}
-use Prim.Native.Nat.{ℕ, ◌+◌, ◌-◌, ◌≤◌}
-use native.Mathlib.Omega.{arith}
+use Rattle.std.proofs.Common.{◌≡◌, ℕ, ◌+◌, ◌-◌, ◌≤◌, arith}
 
 pub plus_none : (n : ℕ) → n + 0 ≡ n
 plus_none n = omega arith

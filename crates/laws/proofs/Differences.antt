@@ -1,14 +1,9 @@
 -- Laws of differences: sums, products, the floor of a quotient and limits, so that a formula over whole numbers below zero too is shown by `omega`.
 -- Each is linear once the sign of z is known. The hard step is `floored` below zero, where the floor has to come out of the quotient and
 -- the remainder of what z lies below zero by.
-use mathlib.Core.Path.{◌≡◌, refl, sym, ◌∙◌, ap}
-use mathlib.Core.Bool.{Bool, true, false, cond}
-use Prim.Native.Nat.{ℕ, zero, suc, ◌+◌, ◌*◌, ◌-◌, ◌/◌, ◌%◌, ◌<◌, ◌≤◌, min}
-use native.Mathlib.Omega.{arith}
-use native.Mathlib.Nat.{zero-div, add-mul-div_right, div-add-mod', mod-lt, div-lt_iff_lt-mul}
-use lib.Dec.{ltb}
+use Rattle.std.proofs.Common.{◌≡◌, refl, sym, ◌∙◌, ap, Bool, true, false, cond, ℕ, zero, suc, ◌+◌, ◌*◌, ◌-◌, ◌/◌, ◌%◌, ◌<◌, ◌≤◌, min, arith, div-add-mod', mod-lt, div-lt_iff_lt-mul, ltb, ltb-true, ltb-false}
+use native.Mathlib.Nat.{zero-div, add-mul-div_right}
 use lib.Arith.{digits_div}
-use borrow.Author.Tests.{ltb-true, ltb-false}
 use lib.IntN.{ℤ, pos, negsuc, neg_ℤ, sub_ℕ, ◌+ℤ◌, ◌-ℤ◌, ◌*ℤ◌}
 use Rattle.laws.specs.Differences.{floor_div, limit, within}
 use Rattle.laws.specs.Inner.Differences.{Off, Diff}

@@ -1,10 +1,7 @@
 -- Signed fractions (p - n) / c within e / 256 of each other: sums, products by a fraction below 1, and chains. Nothing here is about floats.
 -- Each law is two inequalities, linear once they are multiplied by the other side's denominators. The hard one is the product, `times`:
 -- a chain of the error of (p - n) / c, which a factor below 1 doesn't raise (`grown`), and the error of the factor itself (`nudged`).
-use mathlib.Core.Path.{◌≡◌, ap}
-use Prim.Native.Nat.{ℕ, ◌+◌, ◌*◌, ◌≤◌, ◌<◌}
-use native.Mathlib.Nat.{mul-le-mul_right, le_of_mul-le-mul_right, mul-pos}
-use native.Mathlib.Omega.{arith}
+use Rattle.std.proofs.Common.{◌≡◌, ap, ℕ, ◌+◌, ◌*◌, ◌≤◌, ◌<◌, mul-le-mul_right, le_of_mul-le-mul_right, mul-pos, arith}
 use Rattle.laws.specs.Inner.Floats.{Close}
 
 module _ (P N D p n c e : ℕ) where

@@ -1,15 +1,9 @@
 -- A number from 2 ^ (23 + j) up to 2 ^ (24 + j) is rounded to a multiple of 2 ^ j, the nearest, ties to even; and its bits count those multiples.
 -- In units of 2 ^ -149 it has 173 + j digits (`units_size`), of which 149 + j are dropped. That number put into the library's `grid` is
 -- `on_grid`, and put into `to_bits` it is `grid_bits`.
-use mathlib.Core.Path.{◌≡◌, sym, ap, ◌∙◌, subst}
-use mathlib.Core.Bool.{true≢false, true, false}
-use Prim.Native.Nat.{ℕ, suc, ◌+◌, ◌-◌, ◌*◌, ◌/◌, ◌^◌, ◌≤◌, ◌<◌}
-use native.Mathlib.Nat.{le_trans, le_of_eq, lt_of_lt_of_le, mul-one, mul_right_comm, mul-pos, mul-le-mul_left, mul-le-mul_right, mul-lt-mul_of_pos_right, le-div_iff_mul-le, div-lt_iff_lt-mul, mul-div_cancel}
-use native.Mathlib.Omega.{arith}
+use Rattle.std.proofs.Common.{◌≡◌, sym, ap, ◌∙◌, subst, true≢false, true, false, ℕ, suc, ◌+◌, ◌-◌, ◌*◌, ◌/◌, ◌^◌, ◌≤◌, ◌<◌, le_trans, le_of_eq, lt_of_lt_of_le, mul-one, mul_right_comm, mul-pos, mul-le-mul_left, mul-le-mul_right, mul-lt-mul_of_pos_right, le-div_iff_mul-le, div-lt_iff_lt-mul, mul-div_cancel, arith, lit≤, pow-add, pow_pos, pow_mono, Float}
 use lib.IntN.{ℤ}
-use lib.Dec.{lit≤}
-use lib.Pow.{pow-add, pow_pos, pow_mono}
-use lib.Ieee.{Float, nan, inf, fin, binary32, up, down, size, round, to_bits}
+use lib.Ieee.{nan, inf, fin, binary32, up, down, size, round, to_bits}
 use lib.Ieee.Fits.{down_pos}
 use lib.Ieee.Exact.{HasValue}
 use lib.Ieee.Nearest.{closest, closest_same}

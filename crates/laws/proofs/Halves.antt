@@ -1,12 +1,10 @@
 -- Laws of halves up, and against the ties to even of IEEE rounding (`closest`). Whole numbers alone: no floats here.
 -- All are read off the whole part and the remainder of a / d, in three cases: the remainder below, at or above one half. The hard one is
 -- `side`: at a tie `closest` goes up or down by whether the whole part is odd, and halves up goes up in both.
-use mathlib.Core.Path.{◌≡◌, refl, sym, ap, ◌∙◌, subst}
-use Prim.Native.Nat.{ℕ, zero, suc, ◌+◌, ◌-◌, ◌*◌, ◌/◌, ◌%◌, ◌≤◌, ◌<◌, compare, Ordering}
-use native.Mathlib.Nat.{mul_left_comm, mul_comm, one-mul, suc-mul, mul-pos, zero-lt-suc, le_of_suc-le-suc, le-div_iff_mul-le, div-lt_iff_lt-mul, div-add-mod', mod-lt, div-div-eq-div-mul, add-mul-div_right, add-mul-mod_self_right, mul-le-mul_right}
-use native.Mathlib.Omega.{arith}
-use mathlib.Core.Bool.{not}
-use lib.Dec.{T, is_le, compare_is_eq, eqb, leb→le, nleb→lt, eqb→eq, eqb_refl}
+use Rattle.std.proofs.Common.{◌≡◌, refl, sym, ap, ◌∙◌, subst, ℕ, zero, suc, ◌+◌, ◌-◌, ◌*◌, ◌/◌, ◌%◌, ◌≤◌, ◌<◌, mul_left_comm, mul_comm, one-mul, suc-mul, mul-pos, zero-lt-suc, le_of_suc-le-suc, le-div_iff_mul-le, div-lt_iff_lt-mul, div-add-mod', mod-lt, mul-le-mul_right, arith, not, T, eqb, leb→le, eqb→eq}
+use Prim.Native.Nat.{compare, Ordering}
+use native.Mathlib.Nat.{div-div-eq-div-mul, add-mul-div_right, add-mul-mod_self_right}
+use lib.Dec.{is_le, compare_is_eq, nleb→lt, eqb_refl}
 use lib.Arith.{lt_of_le-ne, digits_div}
 use lib.Ieee.{nearest}
 use lib.Ieee.Nearest.{closest, div_mono}

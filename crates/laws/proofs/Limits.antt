@@ -1,10 +1,5 @@
 -- Tests on numbers that failed.
-use mathlib.Core.Path.{◌≡◌, refl}
-use mathlib.Core.Bool.{Bool, true, false, ◌||◌}
-use Prim.Native.Nat.{ℕ, ◌≤◌}
-use native.Mathlib.Omega.{arith}
-use lib.Dec.{ltb}
-use borrow.Author.Tests.{ltb-false}
+use Rattle.std.proofs.Common.{◌≡◌, refl, Bool, true, false, ◌||◌, ℕ, ◌≤◌, arith, ltb, ltb-false}
 use Rattle.laws.specs.Numbers.{outside_of}
 
 -- neither of two tests applies

@@ -1,15 +1,9 @@
 -- Laws of `put`, `rows` and `table`: reading a run back, chaining runs, comparing them, and the steps of a loop that writes one.
 -- Inductions on the run's length over the library's laws of `set`. The hard one is `put_over`, a block that overlaps the run before it:
 -- its first part writes what stands there already (`put_again`), and the rest chains on.
-use mathlib.Core.Path.{◌≡◌, refl, sym, ap, ◌∙◌}
-use mathlib.Core.Logic.{inl, inr}
-use mathlib.Core.List.{List, [], ◌∷◌, ◌++◌}
-use Prim.Native.Nat.{ℕ, zero, suc, ◌+◌, ◌-◌, ◌*◌, ◌≤◌, ◌<◌}
-use native.Mathlib.Nat.{eq-or-lt_of_le, le_of_suc-le-suc, zero-add, suc-mul}
-use native.Mathlib.Numerals.{add-one}
-use native.Mathlib.Omega.{arith}
-use lib.ListN.{length, get_or, set, take, length-set, length-append, get_or-append}
-use lib.Seq.{get_or_at, get_or-set_same, get_or-set_other, set-get_or, take-suc-set}
+use Rattle.std.proofs.Common.{◌≡◌, refl, sym, ap, ◌∙◌, inl, inr, List, [], ◌∷◌, ◌++◌, ℕ, zero, suc, ◌+◌, ◌-◌, ◌*◌, ◌≤◌, ◌<◌, eq-or-lt_of_le, le_of_suc-le-suc, zero-add, suc-mul, add-one, arith, length, get_or, set, take, length-set, length-append, get_or-set_same, get_or-set_other, take-suc-set}
+use lib.ListN.{get_or-append}
+use lib.Seq.{get_or_at, set-get_or}
 use Rattle.laws.proofs.Rows.{rows_apart}
 use Rattle.laws.specs.Lists.{put, rows, table}
 

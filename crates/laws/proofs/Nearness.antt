@@ -1,14 +1,8 @@
 -- A float's nearness to a fraction, through roundings and operators: each adds 1 / 256 below 2 ^ 17, and nothing where it is exact.
 -- `round_near` carries it: below 2 ^ 17 the digits that are kept are 2 ^ -7 apart at most, and `closest_half` is within half of that.
 -- An operator is then one rounding of a fraction that the laws of Fractions put together, `sum_near` by the signs of the two parts.
-use mathlib.Core.Path.{◌≡◌, refl, sym, ap, ◌∙◌, subst}
-use mathlib.Core.Bool.{Bool, true, false, not, ◌&&◌, cond}
-use Prim.Native.Nat.{ℕ, ◌+◌, ◌-◌, ◌*◌, ◌/◌, ◌^◌, ◌≤◌, ◌<◌}
-use native.Mathlib.Nat.{le_trans, le_of_eq, le_of_lt, lt_of_lt_of_le, lt_of_le_of_lt, mul_comm, mul_assoc, mul_right_comm, zero-mul, mul-pos, mul-le-mul_left, mul-le-mul_right, le_of_mul-le-mul_right, mul-lt-mul_of_pos_right, div-lt_iff_lt-mul}
-use native.Mathlib.Omega.{arith}
-use lib.Dec.{T, ltb, ltb→lt, nltb→le, lit<, lit≤}
-use lib.Pow.{pow_pos, pow_mono}
-use lib.Ieee.{Float, nan, inf, fin, binary32, up, down, size, unlike, round, neg, sum, add, sub, mul}
+use Rattle.std.proofs.Common.{◌≡◌, refl, sym, ap, ◌∙◌, subst, Bool, true, false, not, ◌&&◌, cond, ℕ, ◌+◌, ◌-◌, ◌*◌, ◌/◌, ◌^◌, ◌≤◌, ◌<◌, le_trans, le_of_eq, le_of_lt, lt_of_lt_of_le, lt_of_le_of_lt, mul_comm, mul_assoc, mul_right_comm, zero-mul, mul-pos, mul-le-mul_left, mul-le-mul_right, le_of_mul-le-mul_right, mul-lt-mul_of_pos_right, div-lt_iff_lt-mul, arith, T, ltb, ltb→lt, nltb→le, lit<, lit≤, pow_pos, pow_mono, Float}
+use lib.Ieee.{nan, inf, fin, binary32, up, down, size, unlike, round, neg, sum, add, sub, mul}
 use lib.Ieee.Digits.{size-le}
 use lib.Ieee.Fits.{round_is, down_pos}
 use lib.Ieee.Exact.{HasValue, units_val, round_exact}

@@ -1,13 +1,9 @@
 -- The operators on floats by the fractions that they equal: each is one rounding of the exact result, with its sign.
 -- Their definitions round a fraction over the floats' own denominators, and `round_same` puts any equal fraction in its place. The work is
 -- in the cross products that it asks for, most in `sub_down`, where also which of the two is larger has to be carried over.
-use mathlib.Core.Path.{◌≡◌, refl, sym, ap, ◌∙◌}
-use mathlib.Core.Bool.{Bool, true, false, cond, true≢false}
-use Prim.Native.Nat.{ℕ, ◌+◌, ◌-◌, ◌*◌, ◌≤◌, ◌<◌}
-use native.Mathlib.Nat.{mul_assoc, mul_comm, mul-mul-mul_comm, mul-pos, mul-sub, mul-le-mul_right, mul-lt-mul_of_pos_right}
-use native.Mathlib.Omega.{arith}
-use lib.Dec.{ltb, lt→ltb}
-use lib.Ieee.{Float, nan, inf, fin, Format, up, down, unlike, round, neg, sum, add, sub, mul}
+use Rattle.std.proofs.Common.{◌≡◌, refl, sym, ap, ◌∙◌, Bool, true, false, cond, true≢false, ℕ, ◌+◌, ◌-◌, ◌*◌, ◌≤◌, ◌<◌, mul_assoc, mul_comm, mul-pos, mul-le-mul_right, mul-lt-mul_of_pos_right, arith, ltb, lt→ltb, Float}
+use native.Mathlib.Nat.{mul-mul-mul_comm, mul-sub}
+use lib.Ieee.{nan, inf, fin, Format, up, down, unlike, round, neg, sum, add, sub, mul}
 use lib.Ieee.Bits.{is_true}
 use lib.Ieee.Fits.{down_pos}
 use lib.Ieee.Exact.{HasValue}

@@ -1,15 +1,10 @@
 -- The order of floats: `lt` and `le` hold of numbers alone, so that a not-a-number is on neither side of them.
 -- By the cases not-a-number, infinity and sign the comparisons compute. Of two finite floats a comparison of cross products is left,
 -- which the library's tests turn into an order of whole numbers (`le_cross`).
-use mathlib.Core.Path.{◌≡◌, refl, sym, ◌∙◌, subst}
-use mathlib.Core.Bool.{Bool, true, false, not, ◌&&◌, ◌||◌}
-use mathlib.Core.Logic.{◌⊎◌, inl, inr}
-use Prim.Native.Nat.{ℕ, ◌*◌, ◌≤◌}
-use native.Mathlib.Nat.{le_of_eq, le_of_lt}
+use Rattle.std.proofs.Common.{◌≡◌, refl, sym, ◌∙◌, subst, Bool, true, false, not, ◌&&◌, ◌||◌, ◌⊎◌, inl, inr, ℕ, ◌*◌, ◌≤◌, le_of_eq, le_of_lt, T, ltb, eqb, ltb→lt, eqb→eq, Float, eq-eqb, le-ltb}
 use lib.IntN.{ℤ}
-use lib.Dec.{T, ltb, eqb, ltb→lt, eqb→eq}
-use lib.Ieee.{Float, nan, inf, fin, up, down, below, lt, eq, ne, le, is_nan}
-use borrow.Author.Tests.{eq-eqb, le-ltb, not-true, not-false}
+use lib.Ieee.{nan, inf, fin, up, down, below, lt, eq, ne, le, is_nan}
+use borrow.Author.Tests.{not-true, not-false}
 use lib.Ieee.Fits.{and_l, and_r}
 
 or_l : (a b : Bool) → T a → T (a || b)

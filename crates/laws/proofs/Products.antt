@@ -1,11 +1,5 @@
 -- A product tested by a division: n / b < a says that n < a * b.
-use mathlib.Core.Path.{◌≡◌, refl, sym}
-use mathlib.Core.Bool.{Bool, true, false}
-use Prim.Native.Nat.{ℕ, ◌*◌, ◌/◌, ◌≤◌, ◌<◌}
-use native.Mathlib.Nat.{mul-zero, div-lt_iff_lt-mul, le-div_iff_mul-le}
-use native.Mathlib.Omega.{arith}
-use lib.Dec.{ltb}
-use borrow.Author.Tests.{lt-ltb, le-ltb, ltb-true, ltb-false}
+use Rattle.std.proofs.Common.{◌≡◌, refl, sym, Bool, true, false, ℕ, ◌*◌, ◌/◌, ◌≤◌, ◌<◌, mul-zero, div-lt_iff_lt-mul, le-div_iff_mul-le, arith, ltb, lt-ltb, le-ltb, ltb-true, ltb-false}
 
 -- tests that follow from each other are equal
 pub same_test : (a b c d : ℕ) → (a < b → c < d) → (b ≤ a → d ≤ c) → ltb a b ≡ ltb c d

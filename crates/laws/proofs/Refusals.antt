@@ -1,15 +1,7 @@
 -- Laws of refusal lists: what acceptance and a number say of the tests.
 -- Each is an induction along the list that splits on the first test, by a local `go` over its outcome, at which `first` computes.
 -- Only `refused_lowest` needs more: that the places rise along the list (`above`).
-use mathlib.Core.Path.{◌≡◌, refl, sym, ap, subst, ◌∙◌}
-use mathlib.Core.Logic.{◌⊎◌, inl, inr}
-use mathlib.Core.Bool.{Bool, true, false, ◌||◌, cond}
-use mathlib.Core.List.{List, [], ◌∷◌, ◌++◌}
-use Prim.Native.Nat.{ℕ, ◌≤◌}
-use native.Mathlib.Omega.{arith}
-use lib.Dec.{T}
-use borrow.Author.Tests.{not-true, not-false}
-use Rattle.std.specs.Prelude.{Ok, Err}
+use Rattle.std.proofs.Common.{◌≡◌, refl, sym, ap, subst, ◌∙◌, ◌⊎◌, inl, inr, Bool, true, false, ◌||◌, cond, List, [], ◌∷◌, ◌++◌, ℕ, ◌≤◌, arith, T, Ok, Err}
 use Rattle.laws.specs.declared.refusal.Refusal.{Refusal}
 use Rattle.laws.specs.Refusals.{Answer, Test, first, number_of, pick_answer, accepted, place_of, Ascending, Applies, Lowest}
 use Rattle.laws.specs.Inner.Refusals.{further}

@@ -1,9 +1,5 @@
 -- Rows of w cells each, one after another: the facts about a row's place that are not linear.
-use mathlib.Core.Path.{◌≡◌}
-use Prim.Native.Nat.{ℕ, ◌+◌, ◌-◌, ◌*◌, ◌≤◌, ◌<◌}
-use native.Mathlib.Nat.{mul-le-mul_right, suc-mul}
-use native.Mathlib.Numerals.{add-one}
-use native.Mathlib.Omega.{arith}
+use Rattle.std.proofs.Common.{◌≡◌, ℕ, ◌+◌, ◌-◌, ◌*◌, ◌≤◌, ◌<◌, mul-le-mul_right, suc-mul, add-one, arith}
 
 -- row i of n ends within the n rows
 pub row_fits : (i n w : ℕ) → i < n → i * w + w ≤ n * w

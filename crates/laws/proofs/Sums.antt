@@ -1,8 +1,5 @@
 -- Sums of the first values of a function.
-use mathlib.Core.Path.{◌≡◌, refl, ap, ◌∙◌}
-use Prim.Native.Nat.{ℕ, zero, suc, ◌+◌, ◌*◌, ◌≤◌, ◌<◌}
-use native.Mathlib.Numerals.{add-one}
-use native.Mathlib.Omega.{arith}
+use Rattle.std.proofs.Common.{◌≡◌, refl, ap, ◌∙◌, ℕ, zero, suc, ◌+◌, ◌*◌, ◌≤◌, ◌<◌, add-one, arith}
 use Rattle.laws.specs.Sums.{sum_to}
 
 -- ---- a loop that sums: its invariant is `Summed`, and its steps are `sum_none`, `sum_more` and `sum_end`

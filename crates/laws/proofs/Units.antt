@@ -1,15 +1,10 @@
 -- Rounding in units of 2 ^ -149, of which every f32 is a whole number: how far above R / C its rounding can lie, and what it can't pass.
 -- `closest_half` puts it within half a step, and `step_small`, the hard part, bounds the step by the number's digits. The order is the
 -- library's `round_mono`, read back as fractions by `values_le`.
-use mathlib.Core.Path.{◌≡◌, refl, sym, ap, ◌∙◌, subst}
-use mathlib.Core.Bool.{Bool, false}
-use Prim.Native.Nat.{ℕ, zero, suc, ◌+◌, ◌-◌, ◌*◌, ◌/◌, ◌^◌, ◌≤◌, ◌<◌}
-use native.Mathlib.Nat.{le_trans, le_of_eq, lt_of_le_of_lt, mul-one, one-mul, mul_assoc, mul-pos, mul-le-mul_right, le_of_mul-le-mul_right, eq_of_mul-eq-mul_right, div-mul-le_self}
-use native.Mathlib.Omega.{arith}
+use Rattle.std.proofs.Common.{◌≡◌, refl, sym, ap, ◌∙◌, subst, Bool, false, ℕ, zero, suc, ◌+◌, ◌-◌, ◌*◌, ◌/◌, ◌^◌, ◌≤◌, ◌<◌, le_trans, le_of_eq, lt_of_le_of_lt, mul-one, one-mul, mul_assoc, mul-pos, mul-le-mul_right, le_of_mul-le-mul_right, div-mul-le_self, arith, T, pow-add, pow_pos, Float}
+use native.Mathlib.Nat.{eq_of_mul-eq-mul_right}
 use lib.IntN.{ℤ, pos, negsuc}
-use lib.Dec.{T}
-use lib.Pow.{pow-add, pow_pos}
-use lib.Ieee.{Float, nan, inf, fin, binary32, up, down, size, round, fits, le}
+use lib.Ieee.{nan, inf, fin, binary32, up, down, size, round, fits, le}
 use lib.Ieee.Digits.{size_reaches}
 use lib.Ieee.Fits.{round_is, down_pos}
 use lib.Ieee.Exact.{HasValue, units_val, round_exact}

@@ -2,15 +2,11 @@
 -- Two floats with values that are not negative are finite with no minus sign, by `both_finite`, so that a law of two has one case to look at.
 -- The differences are the hard part: the definition subtracts over the floats' own denominators, and `same_diff` shows that fraction equal
 -- to the one of the given values, so that `round_same` rounds both alike.
-use mathlib.Core.Path.{◌≡◌, refl, sym, ap, ◌∙◌, subst₂}
-use Prim.Native.Nat.{ℕ, zero, suc, ◌-◌, ◌*◌, ◌%◌, ◌^◌, ◌≤◌, ◌<◌}
-use native.Mathlib.Nat.{le_trans, le_of_eq, le_antisymm, lt_of_lt_of_le, lt_of_not-le, not-le_of_lt, lt_irrefl, lt_of_mul-lt-mul_right, le_of_mul-le-mul_right, le_of_suc-le-suc, mul-one, one-mul, zero-mul, mul_comm, mul_assoc, mul_right_comm, mul_left_comm, mul-pos, mul-sub, mul-le-mul_right, mul-le-mul_left, mul-lt-mul_of_pos_right, eq_of_mul-eq-mul_right}
-use native.Mathlib.Omega.{arith}
-use mathlib.Core.Bool.{Bool, true, false, not, ◌&&◌, cond, true≢false}
+use Rattle.std.proofs.Common.{◌≡◌, refl, sym, ap, ◌∙◌, subst₂, ℕ, zero, suc, ◌-◌, ◌*◌, ◌%◌, ◌^◌, ◌≤◌, ◌<◌, le_trans, le_of_eq, le_antisymm, lt_of_lt_of_le, lt_of_not-le, not-le_of_lt, lt_irrefl, lt_of_mul-lt-mul_right, le_of_mul-le-mul_right, le_of_suc-le-suc, mul-one, one-mul, zero-mul, mul_comm, mul_assoc, mul_right_comm, mul_left_comm, mul-pos, mul-le-mul_right, mul-le-mul_left, mul-lt-mul_of_pos_right, arith, Bool, true, false, not, ◌&&◌, cond, true≢false, T, ltb, leb, eqb, ltb→lt, nltb→le, lt→ltb, leb→le, le→leb, eqb→eq, lit≤, lit<, pow-add, pow_pos, pow_mono, Float}
+use native.Mathlib.Nat.{mul-sub, eq_of_mul-eq-mul_right}
 use lib.IntN.{ℤ, pos, negsuc}
-use lib.Dec.{T, ltb, leb, eqb, ltb→lt, nltb→le, lt→ltb, leb→le, le→leb, eqb→eq, lit≤, lit<}
-use lib.Pow.{pow-add, pow_pos, pow_mono, pow-lt}
-use lib.Ieee.{Float, nan, inf, fin, Format, binary32, prec, up, down, size, round, neg, sum, add, sub, div, lt, fits, is_nan, in_float, of_int}
+use lib.Pow.{pow-lt}
+use lib.Ieee.{nan, inf, fin, Format, binary32, prec, up, down, size, round, neg, sum, add, sub, div, lt, fits, is_nan, in_float, of_int}
 use lib.Ieee.Digits.{size-lt, size-le, back}
 use lib.Ieee.Fits.{up_pos, down_pos, and_l, and_r}
 use lib.Ieee.Bits.{is_true}

@@ -1,6 +1,5 @@
 -- What a lent slice holds after a run of it was written. Definitions only.
-use Prim.Native.Nat.{ℕ, zero, suc, ◌+◌, ◌*◌}
-use Rattle.std.specs.Prelude.{List, [], ◌∷◌, ◌++◌, set}
+use Rattle.std.specs.Prelude.{ℕ, zero, suc, ◌+◌, ◌*◌, List, [], ◌∷◌, ◌++◌, set}
 
 module _ {A : Type 0} where
   -- xs after `for i in 0..n { xs[at + i] = f(i) }`

@@ -1,15 +1,10 @@
 -- Outputs between neighbouring cells: which cells and which fraction each has, shown once for any ratio and either siting.
 -- The hard step is `centred_between`: output r / 2 + m lies between cells m / r and m / r + 1, by splitting m as (m / r) * r + m % r. Co-sited,
 -- output m does by the definition.
-use mathlib.Core.Path.{◌≡◌, refl, sym, ap, ◌∙◌}
-use mathlib.Core.List.{List}
-use Prim.Native.Nat.{ℕ, ◌+◌, ◌-◌, ◌*◌, ◌/◌, ◌%◌, ◌≤◌, ◌<◌}
-use native.Mathlib.Nat.{mul_comm, le_trans, div-add-mod', mod-lt, div-lt_iff_lt-mul}
-use native.Mathlib.Omega.{arith}
+use Rattle.std.proofs.Common.{◌≡◌, refl, sym, ap, ◌∙◌, List, ℕ, ◌+◌, ◌-◌, ◌*◌, ◌/◌, ◌%◌, ◌≤◌, ◌<◌, mul_comm, le_trans, div-add-mod', mod-lt, div-lt_iff_lt-mul, arith, Float, get_or, ne_eqb, le-ltb}
 use lib.Arith.{digits_div, digits_mod}
-use lib.Ieee.{Float, nan}
-use lib.ListN.{get_or}
-use borrow.Author.Tests.{ne_eqb, le-ltb, lt-leb}
+use lib.Ieee.{nan}
+use borrow.Author.Tests.{lt-leb}
 use Rattle.laws.specs.Lists.{put}
 use Rattle.laws.proofs.Lists.{put_same, put_after, put_chain}
 use Rattle.laws.specs.declared.axes.Siting.{Siting}

@@ -1,11 +1,7 @@
 -- The linear float lies within 1 / 16 of the exact value between the cells of its taps: a lerp of floats within e / 256 is within (4 + 3e) / 256 (`lerp_bound`).
 -- Down from exact samples that is 4 / 256, then across 16 / 256. The work is that each rounding is of a number up to 2^16, and adds 1 / 256 at most.
-use mathlib.Core.Path.{◌≡◌, ap, ◌∙◌, subst}
-use Prim.Native.Nat.{ℕ, ◌+◌, ◌-◌, ◌*◌, ◌≤◌, ◌<◌}
-use native.Mathlib.Nat.{le_trans, le_of_lt, mul-le-mul_right, mul-le-mul, mul-pos, one-mul}
-use native.Mathlib.Omega.{arith}
-use lib.Dec.{lit≤}
-use lib.Ieee.{Float, binary32, sub, mul}
+use Rattle.std.proofs.Common.{◌≡◌, ap, ◌∙◌, subst, ℕ, ◌+◌, ◌-◌, ◌*◌, ◌≤◌, ◌<◌, le_trans, le_of_lt, mul-le-mul_right, mul-le-mul, mul-pos, one-mul, arith, lit≤, Float}
+use lib.Ieee.{binary32, sub, mul}
 use Rattle.laws.specs.Floats.{f32}
 use Rattle.laws.specs.Inner.Floats.{NearFraction}
 use Rattle.laws.proofs.Nearness.{Mild, Part, Step, mild_step, add_near, sub_near, mul_near, whole_near, near_widen, near_aim}

@@ -1,10 +1,6 @@
 -- What is claimed of linear floats: within a sixteenth of the exact value at every layout that no call refuses, equal to it at denominators 1, 2 and 4, between its
 -- cells, and the same in either range.
-use mathlib.Core.Path.{◌≡◌, refl}
-use mathlib.Core.Bool.{false}
-use Prim.Native.Nat.{ℕ, ◌≤◌, ◌<◌}
-use native.Mathlib.Nat.{mul-pos}
-use Rattle.std.specs.Prelude.{Ok}
+use Rattle.std.proofs.Common.{◌≡◌, refl, false, ℕ, ◌≤◌, ◌<◌, mul-pos, Ok}
 use Rattle.laws.specs.Refusals.{first}
 use Rattle.laws.specs.Inner.Floats.{NearFraction}
 use Rattle.laws.proofs.Refusals.{accepted_failed}

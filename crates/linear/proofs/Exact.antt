@@ -1,14 +1,8 @@
 -- With fractions of halves, quarters and eighths nothing rounds: the linear float is the exact bilinear value. Down, a difference of samples is below 2^16, and
 -- in eighths it has 19 bits; across, a difference of such is in 64ths, 22 bits. A float has 24, so none of the six operations rounds.
-use mathlib.Core.Path.{◌≡◌, refl, sym, ap, ◌∙◌, subst}
-use mathlib.Core.Bool.{Bool, true, false, ◌&&◌}
-use mathlib.Core.Logic.{inl, inr}
-use Prim.Native.Nat.{ℕ, ◌+◌, ◌-◌, ◌*◌, ◌/◌, ◌^◌, ◌≤◌, ◌<◌, min}
-use native.Mathlib.Nat.{one-mul, le_trans, le_of_lt, mul-le-mul, mul-pos, div-eq_of_lt, le_of_suc-le-suc, eq-zero-or-pos, mod-lt}
-use native.Mathlib.Omega.{arith}
-use lib.Dec.{T, eqb, eqb→eq, leb, leb→le, lit≤}
-use lib.Pow.{pow-add, pow_pos, pow_mono}
-use lib.Ieee.{Float, nan, inf, fin, up, down, div, of_int}
+use Rattle.std.proofs.Common.{◌≡◌, refl, sym, ap, ◌∙◌, subst, Bool, true, false, ◌&&◌, inl, inr, ℕ, ◌+◌, ◌-◌, ◌*◌, ◌/◌, ◌^◌, ◌≤◌, ◌<◌, min, one-mul, le_trans, le_of_lt, mul-le-mul, mul-pos, le_of_suc-le-suc, eq-zero-or-pos, mod-lt, arith, T, eqb, eqb→eq, leb, leb→le, lit≤, pow-add, pow_pos, pow_mono, Float}
+use native.Mathlib.Nat.{div-eq_of_lt}
+use lib.Ieee.{nan, inf, fin, up, down, div, of_int}
 use lib.Ieee.Fits.{and_l, and_r, down_pos}
 use lib.Ieee.Nearest.{div_same}
 use Rattle.laws.specs.declared.axes.Siting.{Siting}

@@ -1,18 +1,10 @@
 -- A linear row over scratch is the definition's: what down leaves in the buffer of cells is what across reads there (`across_read`), since each
 -- tap's cells are among them. `Scratched` is the invariant of a plane's loop, and `ready` what an accepted call may rely on.
-use mathlib.Core.Path.{◌≡◌, refl, ap, ◌∙◌}
-use mathlib.Core.Bool.{false}
-use mathlib.Core.List.{List}
-use borrow.Author.Tests.{ltb-false}
-use Prim.Native.Nat.{ℕ, ◌+◌, ◌*◌, ◌≤◌, ◌<◌}
-use native.Mathlib.Numerals.{add-one}
-use native.Mathlib.Omega.{arith}
-use lib.ListN.{length}
-use lib.Ieee.{Float, nan}
+use Rattle.std.proofs.Common.{◌≡◌, refl, ap, ◌∙◌, false, List, ltb-false, ℕ, ◌+◌, ◌*◌, ◌≤◌, ◌<◌, add-one, arith, length, Float, Ok}
+use lib.Ieee.{nan}
 use Rattle.laws.specs.Lists.{put}
 use Rattle.laws.proofs.Lists.{put_same, put_inside, length_put}
 use Rattle.image.specs.declared.layout.Layout.{Layout}
-use Rattle.std.specs.Prelude.{Ok}
 use Rattle.laws.specs.Refusals.{first}
 use Rattle.laws.proofs.Refusals.{accepted_failed, failed_both}
 use Rattle.image.specs.Tests.{tests_for}

@@ -1,11 +1,9 @@
 -- The exact bilinear value by positions is the exact value between the cells of the taps, so that what is near the one is near the other.
 -- An output's spot and its position are held against each other by the cases of `spot_of` (`spot_position`): on a cell the position is a whole
 -- number of cells, and between two cells it is the spot's own fraction.
-use mathlib.Core.Path.{◌≡◌, ap, ◌∙◌}
-use Prim.Native.Nat.{ℕ, ◌+◌, ◌-◌, ◌*◌, ◌/◌, ◌%◌, ◌≤◌, ◌<◌, min}
-use native.Mathlib.Nat.{mul-le-mul_right, mul-div_cancel, mul-mod_left, div-lt_iff_lt-mul, le-div_iff_mul-le}
-use native.Mathlib.Omega.{arith}
-use lib.Ieee.{Float, nan, inf, fin, down}
+use Rattle.std.proofs.Common.{◌≡◌, ap, ◌∙◌, ℕ, ◌+◌, ◌-◌, ◌*◌, ◌/◌, ◌%◌, ◌≤◌, ◌<◌, min, mul-le-mul_right, mul-div_cancel, div-lt_iff_lt-mul, le-div_iff_mul-le, arith, Float}
+use native.Mathlib.Nat.{mul-mod_left}
+use lib.Ieee.{nan, inf, fin, down}
 use Rattle.laws.specs.declared.axes.Siting.{Siting}
 use Rattle.laws.specs.declared.axes.Siting.TheVariants.{Centred, CoSited}
 use Rattle.laws.specs.declared.axes.Axis.{Axis}

@@ -1,14 +1,8 @@
 -- A lerp never leaves the span of its two ends, for ends that are not negative and a fraction from 0 to 7 / 8: the rounded part of the
 -- rounded difference is at most the exact difference. That is the hard step, `portion_within`: two roundings add less than 1 / 8 of it.
-use mathlib.Core.Path.{◌≡◌, sym, ap, subst}
-use mathlib.Core.Bool.{Bool, true, false, not}
-use Prim.Native.Nat.{ℕ, ◌+◌, ◌-◌, ◌*◌, ◌^◌, ◌≤◌, ◌<◌}
-use native.Mathlib.Nat.{le_refl, le_trans, le_of_eq, lt_of_le_of_lt, mul-one, mul-pos, mul-le-mul_right, le_of_mul-le-mul_right}
-use native.Mathlib.Omega.{arith}
-use lib.Dec.{T, ltb, ltb→lt, nltb→le, lit≤, lit<}
-use lib.Pow.{pow_pos}
+use Rattle.std.proofs.Common.{◌≡◌, sym, ap, subst, Bool, true, false, not, ℕ, ◌+◌, ◌-◌, ◌*◌, ◌^◌, ◌≤◌, ◌<◌, le_refl, le_trans, le_of_eq, lt_of_le_of_lt, mul-one, mul-pos, mul-le-mul_right, le_of_mul-le-mul_right, arith, T, ltb, ltb→lt, nltb→le, lit≤, lit<, pow_pos, Float}
 use lib.IntN.{pos}
-use lib.Ieee.{Float, nan, inf, fin, binary32, up, down, fits, round, sub, mul, le}
+use lib.Ieee.{nan, inf, fin, binary32, up, down, fits, round, sub, mul, le}
 use lib.Ieee.Fits.{add-fits, of_int-fits}
 use lib.Ieee.Exact.{HasValue}
 use lib.Ieee.Order.{le_of_values}

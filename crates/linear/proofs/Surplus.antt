@@ -1,10 +1,6 @@
 -- "Any lent slice may be longer; its surplus is untouched": scratch after `linear_plane`, behind what the call needs.
-use mathlib.Core.Path.{◌≡◌, refl, ◌∙◌}
-use mathlib.Core.List.{List}
-use Prim.Native.Nat.{ℕ, zero, suc, ◌≤◌}
-use native.Mathlib.Omega.{arith}
-use lib.ListN.{get_or}
-use lib.Ieee.{Float, nan}
+use Rattle.std.proofs.Common.{◌≡◌, refl, ◌∙◌, List, ℕ, zero, suc, ◌≤◌, arith, get_or, Float}
+use lib.Ieee.{nan}
 use Rattle.laws.specs.Refusals.{Answer, accepted}
 use Rattle.image.specs.declared.layout.Layout.{Layout}
 use Rattle.image.specs.Samples.{Plane}

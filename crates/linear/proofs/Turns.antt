@@ -1,15 +1,9 @@
 -- Ratios that aren't whole: output o + r·i lies num·i cells past output o, with the same fraction (`turned`). Its place is num·i·d parts further, d to a
 -- cell (`place_turned`), and those are whole cells (`place_period`); the cells are there because num·n of them, and one more, cover n turns.
-use mathlib.Core.Path.{◌≡◌, refl, sym, ap, subst, ◌∙◌}
-use Prim.Native.Nat.{ℕ, suc, ◌+◌, ◌-◌, ◌*◌, ◌/◌, ◌%◌, ◌≤◌, ◌<◌}
-use native.Mathlib.Nat.{le_trans, mul-le-mul_left, mul-le-mul_right, div-add-mod', mod-lt, div-lt_iff_lt-mul, div-mul-le_self, lt_of_mul-lt-mul_right, suc-mul}
-use native.Mathlib.Omega.{arith}
-use lib.Dec.{lit≤}
+use Rattle.std.proofs.Common.{◌≡◌, refl, sym, ap, subst, ◌∙◌, ℕ, suc, ◌+◌, ◌-◌, ◌*◌, ◌/◌, ◌%◌, ◌≤◌, ◌<◌, le_trans, mul-le-mul_left, mul-le-mul_right, div-add-mod', mod-lt, div-lt_iff_lt-mul, div-mul-le_self, lt_of_mul-lt-mul_right, suc-mul, arith, lit≤, ne_eqb, le-ltb, List, get_or, Float}
 use lib.Arith.{digits_div, digits_mod}
-use borrow.Author.Tests.{ne_eqb, le-ltb, lt-leb}
-use mathlib.Core.List.{List}
-use lib.ListN.{get_or}
-use lib.Ieee.{Float, nan}
+use borrow.Author.Tests.{lt-leb}
+use lib.Ieee.{nan}
 use Rattle.image.specs.Scratch.{cell_at}
 use Rattle.linear.specs.declared.cycles.Cycle.{Cycle}
 use Rattle.linear.specs.declared.rows.Row.{Row}

@@ -1,10 +1,7 @@
 -- A row by its bits, whose answers come from the original's `Linear`: ratio 3 both ways, where neither 1/3 nor 2/3 is a float, and samples of two bytes.
 -- Co-sited rows by hand from BT.601, for which the original has nothing: at ratio 2 even columns are the samples and odd ones lie halfway. Rows of 2 of 3 and 3 of 4
 -- by hand from exact fractions.
-use mathlib.Core.Path.{◌≡◌, refl}
-use mathlib.Core.List.{List, [], ◌∷◌}
-use Prim.Native.Nat.{ℕ}
-use lib.ListN.{length, get_or}
+use Rattle.std.proofs.Common.{◌≡◌, refl, List, [], ◌∷◌, ℕ, length, get_or}
 use lib.Ieee.{binary32, add, sub, sum, neg, mul, div, round, size, span, climb, units, odd, of_int, of_bits, of_fields}
 use lib.Count.{count_trailing_zeros}
 use Rattle.laws.specs.Lists.{table}

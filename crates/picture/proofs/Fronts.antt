@@ -1,12 +1,8 @@
 -- A line at the front of out, and what is behind it.
 -- `ppm_is` carries the program's output: out is cut behind the header, the part behind it is lent and comes back filled, and joined again
 -- they are `ppm_over`. The step is that the line's copy left what is behind it untouched (`behind_is`).
-use mathlib.Core.Path.{◌≡◌, sym, ap, ◌∙◌, refl}
-use mathlib.Core.List.{List, [], ◌++◌, append-nil}
-use Prim.Native.Nat.{ℕ, ◌+◌, ◌≤◌, ◌<◌, ◌*◌, ◌-◌}
-use native.Mathlib.Omega.{arith}
-use lib.ListN.{length, get_or, take, drop, length-drop, get_or-append, drop_of_length-le}
-use lib.Seq.{ext_get_or, get_or-drop}
+use Rattle.std.proofs.Common.{◌≡◌, sym, ap, ◌∙◌, refl, List, [], ◌++◌, append-nil, ℕ, ◌+◌, ◌≤◌, ◌<◌, ◌*◌, ◌-◌, arith, length, get_or, take, drop, length-drop, drop_of_length-le, ext_get_or, get_or-drop}
+use lib.ListN.{get_or-append}
 use Rattle.laws.specs.Lists.{put, table}
 use Rattle.laws.proofs.Lists.{length_put, put_after, take_put, length_table, table_at}
 use Rattle.image.specs.declared.layout.Layout.{Layout}

@@ -2,19 +2,8 @@
 -- The hard step is `plane_holds`: rows one right behind the other inside
 -- a list make a plane that isn't too short, since h rows are (h - 1) strides and one row. Past it, and where no sample exceeds maxval, `fill`
 -- has nothing to refuse.
-use mathlib.Core.Path.{◌≡◌, refl, sym, ap, subst, ◌∙◌}
-use mathlib.Core.Bool.{true, false}
-use mathlib.Core.List.{List, [], ◌∷◌}
-use Prim.Native.Nat.{ℕ, ◌+◌, ◌-◌, ◌*◌, ◌≤◌, ◌<◌}
-use native.Mathlib.Nat.{mul-le-mul, mul-le-mul_left}
-use native.Mathlib.Omega.{arith}
-use lib.Dec.{ltb}
-use lib.ListN.{length, drop, take, length-drop}
-use lib.Seq.{take_all}
-use lib.Ieee.{Float}
-use borrow.Author.Tests.{le-ltb, lt-ltb}
+use Rattle.std.proofs.Common.{◌≡◌, refl, sym, ap, subst, ◌∙◌, true, false, List, [], ◌∷◌, ℕ, ◌+◌, ◌-◌, ◌*◌, ◌≤◌, ◌<◌, mul-le-mul, mul-le-mul_left, arith, ltb, length, drop, take, length-drop, take_all, Float, le-ltb, lt-ltb, Ok, Err}
 use Rattle.laws.specs.Refusals.{Answer, first, accepted}
-use Rattle.std.specs.Prelude.{Ok, Err}
 use Rattle.laws.proofs.Refusals.{accepted_failed, failed_accepted, passed_early, refused_early, refused_here, passed_over}
 use Rattle.image.specs.declared.layout.Layout.{Layout}
 use Rattle.image.specs.Picture.{Picture, short_plane, bad_planes, picture_of, Planes}

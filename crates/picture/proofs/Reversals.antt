@@ -1,16 +1,8 @@
 -- Samples whose bytes were turned: the sample that a plane has, the low byte first, is the one that the input has, the high byte first.
 -- Shown once, for samples of any number of bytes (`turned_sample`), by taking the low byte off both. Samples of one byte are turned as they
 -- stand (`alone_turned`). The step in between is where in its plane a sample stands: the number of the sample times its bytes (`plane_sample`).
-use mathlib.Core.Path.{◌≡◌, refl, sym, ap, ◌∙◌, fun_ext}
-use mathlib.Core.Bool.{Bool, true, false, cond}
-use mathlib.Core.List.{List}
-use Prim.Native.Nat.{ℕ, zero, suc, ◌+◌, ◌-◌, ◌*◌, ◌≤◌, ◌<◌}
-use native.Mathlib.Nat.{mul-le-mul_right}
-use native.Mathlib.Omega.{arith}
-use lib.Dec.{ltb, eqb}
-use lib.ListN.{length, get_or, drop}
-use lib.Seq.{get_or-drop}
-use borrow.Author.Tests.{ltb-true, ltb-false}
+use Rattle.std.proofs.Common.{◌≡◌, refl, sym, ap, ◌∙◌, Bool, true, false, cond, List, ℕ, zero, suc, ◌+◌, ◌-◌, ◌*◌, ◌≤◌, ◌<◌, mul-le-mul_right, arith, ltb, eqb, length, get_or, drop, get_or-drop, ltb-true, ltb-false}
+use mathlib.Core.Path.{fun_ext}
 use Rattle.laws.specs.Lists.{put}
 use Rattle.laws.proofs.Lists.{length_put, put_before, put_after, put_inside}
 use Rattle.image.specs.declared.layout.Layout.{Layout}

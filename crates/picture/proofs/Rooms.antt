@@ -1,15 +1,8 @@
 -- The rooms of the program: what it lends is enough for every input, and a picture that is written fits.
 -- An input that is read is 128 wide at most and has no more pixels than bytes (`Taken`), which limits scratch to 64 · 128 + 8 · 128 floats
 -- and the PPM to 16 + 3 · 49,152 bytes (`scratch_most`, `out_most`); so the tests for 9 and 10 never apply.
-use mathlib.Core.Path.{◌≡◌, refl, sym, ap, ◌∙◌}
-use mathlib.Core.List.{List, [], ◌∷◌, ◌++◌}
-use Prim.Native.Nat.{ℕ, ◌≤◌}
-use native.Mathlib.Omega.{arith}
-use lib.ListN.{length, length-append}
-use lib.Ieee.{Float}
-use borrow.Author.Tests.{le-ltb, ltb-false}
+use Rattle.std.proofs.Common.{◌≡◌, refl, sym, ap, ◌∙◌, List, [], ◌∷◌, ◌++◌, ℕ, ◌≤◌, arith, length, length-append, Float, le-ltb, ltb-false, Ok, Err}
 use Rattle.laws.specs.Refusals.{Answer, first, accepted}
-use Rattle.std.specs.Prelude.{Ok, Err}
 use Rattle.laws.proofs.Refusals.{accepted_failed, failed_both, passed_early, refused_early}
 use Rattle.image.specs.Limits.{exceeds}
 use Rattle.image.specs.Scratch.{scratch_need}

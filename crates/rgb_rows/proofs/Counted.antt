@@ -1,16 +1,9 @@
 -- A call that sends a reader's row to the kernel counts as a row call in the reader's list: `side_ran`, for an RGB row and for either side of
 -- a blend. Where it was accepted its side is fine, so that row's own tests fail too: the outputs of `row_of` are as long as a row.
-use mathlib.Core.Path.{◌≡◌, refl, sym, ◌∙◌}
-use mathlib.Core.Bool.{Bool, true, false, cond, ◌||◌}
-use mathlib.Core.List.{List, []}
-use Prim.Native.Nat.{ℕ, ◌*◌, ◌≤◌}
-use native.Mathlib.Omega.{arith}
-use lib.Dec.{T, leb, ltb}
-use lib.ListN.{length, replicate, length-replicate}
-use lib.Ieee.{Float, nan}
-use borrow.Author.Tests.{le-ltb}
+use Rattle.std.proofs.Common.{◌≡◌, refl, sym, ◌∙◌, Bool, true, false, cond, ◌||◌, List, [], ℕ, ◌*◌, ◌≤◌, arith, T, leb, ltb, length, replicate, Float, le-ltb, Ok}
+use lib.ListN.{length-replicate}
+use lib.Ieee.{nan}
 use Rattle.laws.specs.Refusals.{Answer, accepted, first}
-use Rattle.std.specs.Prelude.{Ok}
 use Rattle.laws.proofs.Refusals.{Failed, accepted_is, failed_accepted}
 use Rattle.image.specs.Picture.{bad_planes}
 use Rattle.image.specs.Scratch.{scratch_need}

@@ -1,14 +1,9 @@
 -- The colours that a reader's row call leaves to the kernel are the guided exact fill's, over any list that keeps the premise.
 -- Demand 3 says that the finished rows are the guided rows of the current picture; luma is the picture's since the planes show it. The hard
 -- step is `kernel_gets`, from rows as lists to their cells.
-use mathlib.Core.Path.{◌≡◌, refl, sym, ap, ◌∙◌, subst}
-use mathlib.Core.Bool.{true}
-use mathlib.Core.List.{List}
-use Prim.Native.Nat.{ℕ, ◌+◌, ◌*◌, ◌≤◌, ◌<◌}
-use native.Mathlib.Omega.{arith}
-use lib.Dec.{T}
-use lib.ListN.{length, get_or, take, replicate, length-replicate}
-use lib.Ieee.{Float, nan}
+use Rattle.std.proofs.Common.{◌≡◌, refl, sym, ap, ◌∙◌, subst, true, List, ℕ, ◌+◌, ◌*◌, ◌≤◌, ◌<◌, arith, T, length, get_or, take, replicate, Float}
+use lib.ListN.{length-replicate}
+use lib.Ieee.{nan}
 use Rattle.laws.specs.Refusals.{Answer, accepted}
 use Rattle.laws.specs.Lists.{put, table}
 use Rattle.laws.proofs.Lists.{take_put, table_at}

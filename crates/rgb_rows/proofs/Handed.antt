@@ -1,10 +1,5 @@
 -- What an accepted RGB row call was handed: each test that failed is turned into the inequality that it stands for.
-use mathlib.Core.Path.{◌≡◌}
-use mathlib.Core.Bool.{false}
-use Prim.Native.Nat.{◌*◌, ◌≤◌, ◌<◌}
-use lib.ListN.{length}
-use borrow.Author.Tests.{ltb-false, leb-false}
-use Rattle.std.proofs.Common.{◌∙◌, sym, Ok}
+use Rattle.std.proofs.Common.{◌≡◌, false, ◌*◌, ◌≤◌, ◌<◌, length, ltb-false, leb-false, ◌∙◌, sym, Ok}
 use Rattle.laws.specs.Refusals.{Answer, first}
 use Rattle.laws.proofs.Refusals.{Failed, accepted_failed}
 use Rattle.image.specs.Picture.{bad_planes}

@@ -1,13 +1,8 @@
 -- The colours of row 1 of two pictures of one geometry, for the worked pair of lists of a blend: the first is guided's worked picture.
 -- The rows of chroma are computed to their bits, slopes first, as there; the kernel then takes them to bytes.
-use mathlib.Core.Path.{◌≡◌, refl, sym, ap, ◌∙◌}
-use mathlib.Core.List.{List, [], ◌∷◌}
-use Prim.Native.Nat.{ℕ, ◌<◌}
-use lib.Dec.{lit<}
-use lib.ListN.{get_or, replicate}
-use lib.Ieee.{Float, nan, add, sub, sum, neg, mul, div, round, size, span, climb, units, odd, lt, of_int, of_bits, of_fields}
+use Rattle.std.proofs.Common.{◌≡◌, refl, sym, ap, ◌∙◌, List, [], ◌∷◌, ℕ, ◌<◌, lit<, get_or, replicate, Float, Ok}
+use lib.Ieee.{nan, add, sub, sum, neg, mul, div, round, size, span, climb, units, odd, lt, of_int, of_bits, of_fields}
 use lib.Count.{count_trailing_zeros}
-use Rattle.std.specs.Prelude.{Ok}
 use Rattle.laws.specs.Differences.{floor_div, limit, within}
 use Rattle.laws.specs.Lists.{table}
 use Rattle.laws.specs.Refusals.{first}

@@ -1,9 +1,6 @@
 -- "Guided with constant chroma returns that constant.": for every picture, at every ratio.
-use mathlib.Core.Path.{◌≡◌, refl, ap, ◌∙◌}
-use mathlib.Core.Bool.{Bool, true, false, cond}
-use Prim.Native.Nat.{ℕ, ◌/◌, ◌<◌}
-use lib.Dec.{T}
-use lib.Ieee.{Float, lt}
+use Rattle.std.proofs.Common.{◌≡◌, refl, ap, ◌∙◌, Bool, true, false, cond, ℕ, ◌/◌, ◌<◌, T, Float}
+use lib.Ieee.{lt}
 use Rattle.laws.specs.Floats.{f32}
 use Rattle.laws.proofs.Order.{lt_asym}
 use Rattle.image.specs.declared.chroma.Chroma.{Chroma}

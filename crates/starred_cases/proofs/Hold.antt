@@ -1,5 +1,5 @@
 -- The starred cases hold, each by computing its definition.
-use mathlib.Core.Path.{refl}
+use Rattle.std.proofs.Common.{refl}
 use lib.Ieee.{add, sub, sum, neg, mul, div, round, size, span, climb, units, odd, lt, of_int, of_bits, of_fields}
 use lib.Count.{count_trailing_zeros}
 use Rattle.laws.specs.Lists.{table}

@@ -1,12 +1,8 @@
 -- Laws of `spot_of` for either siting and any num and den: its part is below 1, its cells are there, in order, and beside the output's own cell.
 -- Each goes by the cases of the definition (`by_spot`, `by_place`). The hard one is `spot_around`, of centred outputs, where the floor of u and the output's
 -- own cell o / r are held against each other by the remainders of both divisions.
-use mathlib.Core.Path.{◌≡◌, subst}
-use mathlib.Core.Bool.{Bool, true, false, not}
-use Prim.Native.Nat.{ℕ, suc, ◌+◌, ◌-◌, ◌*◌, ◌/◌, ◌%◌, ◌≤◌, ◌<◌, min, zero-le}
-use native.Mathlib.Nat.{le_refl, not-le_of_lt, le_of_suc-le-suc, le_of_mul-le-mul_right, div-one, le_trans, mod-lt, mul-le-mul_right, div-lt_iff_lt-mul, div-add-mod'}
-use native.Mathlib.Omega.{arith}
-use lib.Dec.{T, ltb, leb, eqb, ltb→lt, nltb→le, leb→le, nleb→lt, eqb→eq, lit≤}
+use Rattle.std.proofs.Common.{◌≡◌, subst, Bool, true, false, not, ℕ, suc, ◌+◌, ◌-◌, ◌*◌, ◌/◌, ◌%◌, ◌≤◌, ◌<◌, min, zero-le, le_refl, not-le_of_lt, le_of_suc-le-suc, le_of_mul-le-mul_right, div-one, le_trans, mod-lt, mul-le-mul_right, div-lt_iff_lt-mul, div-add-mod', arith, T, ltb, leb, eqb, ltb→lt, nltb→le, leb→le, eqb→eq, lit≤}
+use lib.Dec.{nleb→lt}
 use lib.Ieee.Nearest.{div_mono}
 use Rattle.taps.specs.Taps.{Spot, pick_spot, on_cell, spot_at, sited_at, spot_of, tap_by}
 use Rattle.taps.specs.Inner.Taps.{TapGiven}

@@ -1,5 +1,5 @@
 -- The ten phase fractions are what specs/TenFractions says of them, each by computing it.
-use mathlib.Core.Path.{refl}
+use Rattle.std.proofs.Common.{refl}
 use lib.Ieee.{div, of_int, of_bits, of_fields}
 use Rattle.taps.specs.Taps.{phase_of}
 use Rattle.taps.specs.TenFractions.{PhaseClaims, Unrounded, Each, ten_fractions}

@@ -1,7 +1,6 @@
 -- `spot_of` by hand: centred where 2 cells go to 3 outputs, whose cells and fractions are those of the original's `taps`; and co-sited, over which the
 -- original has nothing.
-use mathlib.Core.Path.{◌≡◌, refl}
-use Prim.Native.Nat.{ℕ}
+use Rattle.std.proofs.Common.{◌≡◌, refl, ℕ}
 use Rattle.laws.specs.declared.axes.Siting.TheVariants.{Centred, CoSited}
 use Rattle.taps.specs.Taps.{Spot, spot_at, sited_at, spot_of}
 

@@ -1,10 +1,5 @@
 -- What is written stands in out.
-use mathlib.Core.List.{List}
-use Prim.Native.Nat.{ℕ, ◌≤◌}
-use native.Mathlib.Omega.{arith}
-use lib.ListN.{length}
-use lib.Ieee.{Float}
-use Rattle.std.specs.Prelude.{Ok, Err}
+use Rattle.std.proofs.Common.{List, ℕ, ◌≤◌, arith, length, Float, Ok, Err}
 use Rattle.picture.specs.Picture.{Outcome, PictureGiven}
 use Rattle.picture.proofs.Rooms.{written_fits}
 use Rattle.ycbcrtoppm.specs.Inner.Lengths.{written_length}

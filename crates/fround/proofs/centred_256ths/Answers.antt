@@ -1,7 +1,6 @@
 -- c is v * 256 limited (`limited`), and of the two sums on the grid the larger is c rounded (`centred_is`).
-use mathlib.Core.Path.{sym, ap, ◌∙◌, subst}
-use native.Mathlib.Omega.{arith}
-use lib.Ieee.{Float, binary32, of_bits, of_int}
+use Rattle.std.proofs.Common.{sym, ap, ◌∙◌, subst, arith, Float}
+use lib.Ieee.{binary32, of_bits, of_int}
 use lib.Ieee.Fits.{mul-fits}
 use Rattle.laws.specs.Floats.{f32, ◌⊕◌, ◌⊖◌, ◌⊗◌}
 use Rattle.fround.specs.Rounding.{fmax}

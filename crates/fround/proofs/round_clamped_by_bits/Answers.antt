@@ -1,11 +1,7 @@
 -- c is x limited (`limited_by`), and its bits round it (`low_field`, `high_field`).
 -- That c lies below 2 ^ 24 bounds the exponent's field by 150 (`field_le`), by which the count of the shift is not below 0.
-use mathlib.Core.Path.{sym, subst}
-use mathlib.Core.Bool.{not}
-use Prim.Native.Nat.{min}
-use native.Mathlib.Omega.{arith}
-use lib.Dec.{T}
-use lib.Ieee.{Float, is_nan}
+use Rattle.std.proofs.Common.{sym, subst, not, min, arith, T, Float}
+use lib.Ieee.{is_nan}
 use Rattle.fround.proofs.Laws.{rounded}
 use Rattle.fround.proofs.Limits.{Limited, limited_by}
 use Rattle.fround.proofs.ByBits.{field_le, low_field, high_field}

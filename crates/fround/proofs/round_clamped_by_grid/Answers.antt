@@ -1,11 +1,6 @@
 -- c is x limited (`limited_by`), and the grid rounds c (`on_sum`).
-use mathlib.Core.Path.{◌≡◌, sym, ap, ◌∙◌, subst}
-use lib.Dec.{T}
-use mathlib.Core.Bool.{Bool, true, false, not, cond}
-use Prim.Native.Nat.{◌+◌, ◌%◌, min}
-use native.Mathlib.Nat.{add-zero}
-use native.Mathlib.Omega.{arith}
-use lib.Ieee.{Float, binary32, sub, eq, of_bits, to_bits, is_nan}
+use Rattle.std.proofs.Common.{◌≡◌, sym, ap, ◌∙◌, subst, T, Bool, true, false, not, cond, ◌+◌, ◌%◌, min, add-zero, arith, Float}
+use lib.Ieee.{binary32, sub, eq, of_bits, to_bits, is_nan}
 use Rattle.fround.specs.Rounding.{round_clamped}
 use Rattle.fround.proofs.Laws.{rounded}
 use Rattle.fround.proofs.Limits.{Limited, limited_by}

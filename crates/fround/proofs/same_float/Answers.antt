@@ -1,4 +1,4 @@
-use mathlib.Core.Path.{refl}
+use Rattle.std.proofs.Common.{refl}
 use Rattle.laws.proofs.Order.{self_equal, self_unequal, differs_self}
 use Rattle.fround.specs.Rounding.{is_same_float}
 use Rattle.fround.proofs.same_float.Goals as goal

@@ -12,6 +12,7 @@ use Rattle.guided.specs.Scratch.{result_at, Slope, num_down, read_across}
 use Rattle.guided_window.specs.Inner.Buffers.{window_of}
 use Rattle.guided_window.specs.declared.buffers.Window.{Window}
 use Rattle.guided_window.specs.declared.buffers.Buffer.TheVariants.{LumaSums, SquareSums, Cells, ProductSums}
+use Rattle.guided_down.specs.declared.neighbours.Neighbours.{Neighbours}
 use Rattle.guided_down.specs.declared.slopes.Stats.{Stats}
 
 -- "D = max(mean yy − my·my, 0) + eps. Slope a = (mean yc − my·mc)/D.", by the means
@@ -44,15 +45,15 @@ mean_inside s t i = (sum_inside s t.up i ⊕ sum_inside s t.at i ⊕ sum_inside 
 unfoldable pub slope_inside : List Float → Stats → Float → ℕ → Float
 slope_inside s t eps i = slope_with s t eps (mean_inside s t.c i) i
 
--- the same of a cell i whose neighbours across are l and r
-unfoldable pub sum_round : List Float → ℕ → ℕ → ℕ → ℕ → Float
-sum_round s src l i r = cell_at s src l ⊕ cell_at s src i ⊕ cell_at s src r
+-- the same of any cell, by its neighbours across
+unfoldable pub sum_round : List Float → ℕ → Neighbours → Float
+sum_round s src c = cell_at s src c.left ⊕ cell_at s src c.at ⊕ cell_at s src c.right
 
-unfoldable pub mean_round : List Float → Window → ℕ → ℕ → ℕ → Float
-mean_round s t l i r = (sum_round s t.up l i r ⊕ sum_round s t.at l i r ⊕ sum_round s t.down l i r) ⊗ (f32 1 ⊘ f32 9)
+unfoldable pub mean_round : List Float → Window → Neighbours → Float
+mean_round s t c = (sum_round s t.up c ⊕ sum_round s t.at c ⊕ sum_round s t.down c) ⊗ (f32 1 ⊘ f32 9)
 
-unfoldable pub slope_round : List Float → Stats → Float → ℕ → ℕ → ℕ → Float
-slope_round s t eps l i r = slope_with s t eps (mean_round s t.c l i r) i
+unfoldable pub slope_round : List Float → Stats → Float → Neighbours → Float
+slope_round s t eps c = slope_with s t eps (mean_round s t.c c) c.at
 
 -- the slopes at n cells, put at dst
 unfoldable pub slope_run : Stats → Float → ℕ → ℕ → List Float → List Float
@@ -94,13 +95,13 @@ pub record Clear (t : Stats) (dst n : ℕ) : Type 0 where
 -- ---- two components
 
 -- luma's rows are the same for both
-pub record Alike (t u : Stats) : Type 0 where
+pub record SameLuma (t u : Stats) : Type 0 where
   pub y : u.y ≡ t.y
   pub yy : u.yy ≡ t.yy
 
 -- what is known of two components' rows of n cells and of the places a and b of their slopes: all are within `len` values, in this order
 pub record PairLent (t u : Stats) (a b n len : ℕ) : Type 0 where
-  pub alike : Alike t u
+  pub alike : SameLuma t u
   pub first : AllInside t n len
   pub second : AllInside u n len
   pub first_clear : Clear t a n

@@ -1,10 +1,8 @@
 -- The laws of the detail and of a component's values, which the trait of their rows asks of each: they look only at what lies behind them. Proofs only.
-use mathlib.Core.Path.{◌≡◌, refl, sym, ap, ◌∙◌}
-use mathlib.Core.List.{List}
-use Prim.Native.Nat.{ℕ, ◌+◌, ◌-◌, ◌*◌, ◌/◌, ◌%◌, ◌≤◌, ◌<◌, min}
+use Rattle.std.specs.Prelude.{◌≡◌, refl, List, ℕ, ◌+◌, ◌-◌, ◌*◌, ◌/◌, ◌%◌, ◌≤◌, ◌<◌, min, get_or, Float}
+use mathlib.Core.Path.{sym, ap, ◌∙◌}
 use native.Mathlib.Omega.{arith}
-use lib.ListN.{get_or}
-use lib.Ieee.{Float, nan}
+use lib.Ieee.{nan}
 use Rattle.laws.specs.Floats.{f32, ◌⊖◌}
 use Rattle.image.specs.declared.layout.Layout.{Layout}
 use Rattle.image.specs.Inner.Tests.{Sound}
@@ -44,8 +42,8 @@ value_same l o t xs ys len x b h e =
       e (detail_at l + x) (omega (arith, (detail_place l).0)),
     ) refl
 
-further : (low at : ℕ) (xs ys : List Float) → Alike low xs ys → low ≤ at → Alike at xs ys
-further low at xs ys e h = record { reads = λ q k. e.reads q (omega arith) }
+alike_from : (low at : ℕ) (xs ys : List Float) → Alike low xs ys → low ≤ at → Alike at xs ys
+alike_from low at xs ys e h = record { reads = λ q k. e.reads q (omega arith) }
 
 pub detail_keeps : (l : Layout) → Sound l → (p : Plane) (y src : ℕ) → Keeps (λ s x. detail_in l p y s src x) src l.w
 unfolding detail_of
@@ -66,8 +64,8 @@ value_keeps l o t len b = record { keeps = λ xs ys e x h. value_same l o t xs y
 pub cell_keeps : (l : Layout) → Sound l → (t : ValueInputs) (len : ℕ) (xs ys : List Float) (i : ℕ) (c : ValueCell) → InputsInside t (3 * l.w) l.cw len → i * l.rh + l.rh ≤ l.w → Alike (2 * l.w) xs ys
     → CellGiven l t xs i c → CellGiven l t ys i c
 cell_keeps l o t len xs ys i c b h e p = record {
-  cells = across_keeps l o t.cells xs ys i c.cells h (further _ _ xs ys e (omega (arith, b.cells.behind))) p.cells;
-  slopes = across_keeps l o t.slopes xs ys i c.slopes h (further _ _ xs ys e (omega (arith, b.slopes.behind))) p.slopes;
+  cells = across_keeps l o t.cells xs ys i c.cells h (alike_from _ _ xs ys e (omega (arith, b.cells.behind))) p.cells;
+  slopes = across_keeps l o t.slopes xs ys i c.slopes h (alike_from _ _ xs ys e (omega (arith, b.slopes.behind))) p.slopes;
   least = p.least ∙ sym (e.reads (t.least + i) (omega (arith, b.least.behind)));
   greatest = p.greatest ∙ sym (e.reads (t.greatest + i) (omega (arith, b.greatest.behind)));
 }

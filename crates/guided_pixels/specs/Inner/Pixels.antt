@@ -1,5 +1,5 @@
 -- The pixels of a picture row over lent scratch, as the inner functions' contracts say them. Definitions only.
-use Rattle.std.specs.Prelude.{List, ℕ, ◌+◌, Float}
+use Rattle.std.specs.Prelude.{List, ℕ, Float}
 use Rattle.laws.specs.Floats.{f32}
 use Rattle.laws.specs.Lists.{put}
 use Rattle.image.specs.declared.layout.Layout.{Layout}

@@ -34,7 +34,7 @@ row_at l (Least k) r = result_at l (first_down k + 1) r
 row_at l (Greatest k) r = result_at l (first_down k + 2) r
 
 -- what `row_at` promises: that place, and that the row ends within scratch
-pub record RowGiven (l : Layout) (b : Buffer) (r at : ℕ) : Type 0 where
+pub record RowAt (l : Layout) (b : Buffer) (r at : ℕ) : Type 0 where
   pub is : at ≡ row_at l b r
   pub fits : at + l.cw ≤ scratch_need l
 

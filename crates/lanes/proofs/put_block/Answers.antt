@@ -1,9 +1,5 @@
 -- The part that is overwritten has N places, at + N - at as the range counts them.
-use mathlib.Core.Path.{◌≡◌}
-use Prim.Native.Nat.{◌+◌, ◌-◌}
-use native.Mathlib.Omega.{arith}
-use lib.ListN.{length}
-use Rattle.std.proofs.Common.{rules}
+use Rattle.std.proofs.Common.{◌≡◌, ◌+◌, ◌-◌, arith, length, rules}
 use lib.Ieee.{nan}
 use Rattle.lanes.proofs.Overwritten.{overwritten}
 use Rattle.lanes.proofs.put_block.Goals as goal

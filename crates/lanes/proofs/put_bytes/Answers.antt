@@ -1,8 +1,5 @@
-use mathlib.Core.Path.{◌≡◌, ◌∙◌}
-use Prim.Native.Nat.{ℕ}
-use lib.ListN.{get_or}
-use lib.Ieee.{Float, nan}
-use Rattle.std.proofs.Common.{rules}
+use Rattle.std.proofs.Common.{◌≡◌, ◌∙◌, ℕ, get_or, Float, rules}
+use lib.Ieee.{nan}
 use Rattle.laws.specs.Floats.{f32}
 use Rattle.laws.proofs.Lists.{put_same}
 use Rattle.lanes.proofs.Made.{made}

@@ -1,9 +1,6 @@
 -- Planes of one-byte samples lie in the input as they are (`input_turned`), others in the copy (`turn_planes`): either way they make the
 -- input's picture (`turned_picture`), and what `written` promises of that picture is promised of the input (`input_given`).
-use mathlib.Core.Path.{◌≡◌}
-use native.Mathlib.Omega.{arith}
-use lib.ListN.{length}
-use borrow.Author.Rules.{rules}
+use Rattle.std.proofs.Common.{◌≡◌, arith, length, rules}
 use Rattle.netpbm.proofs.Acceptance.{taken, read_accepted}
 use Rattle.picture.proofs.Readings.{layout_sound, taken_longer, input_given}
 use Rattle.picture.proofs.Reversals.{turned_picture, input_turned}

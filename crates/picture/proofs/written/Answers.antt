@@ -1,18 +1,12 @@
 -- There are four ways out, each with its law of Readings for the outcome: `sample_above` for 17, `scratch_short` for 9, `out_short` for 10,
 -- `both_long` for the picture. On refusal nothing has been written, so that the slices are as they were by `refl`; otherwise they are what
 -- `put_ppm` promises. No product wraps, since what was read has 49,152 pixels at most (`pixels_most`).
-use mathlib.Core.Path.{◌≡◌, refl, sym, ◌∙◌, ap}
-use mathlib.Core.Bool.{false}
-use Prim.Native.Nat.{◌≤◌}
-use native.Mathlib.Omega.{arith}
-use lib.ListN.{length}
-use borrow.Author.Tests.{ltb-true, ltb-false}
+use Rattle.std.proofs.Common.{◌≡◌, refl, sym, ◌∙◌, ap, false, ◌≤◌, arith, length, ltb-true, ltb-false, Ok}
 use Rattle.image.specs.Picture.{Picture}
 use Rattle.image.specs.Limits.{exceeds}
 use Rattle.image.specs.Scratch.{scratch_need}
 use Rattle.netpbm.specs.Lines.{ppm_header}
 use Rattle.netpbm.proofs.Digits.{header_most}
-use Rattle.std.specs.Prelude.{Ok}
 use Rattle.picture.specs.Inner.Planes.{picture_from}
 use Rattle.picture.proofs.Fronts.{line_length, ppm_length_is, picture_layout}
 use Rattle.picture.proofs.Readings.{layout_sound, pixels_most, sample_above, scratch_short, both_long, out_short}

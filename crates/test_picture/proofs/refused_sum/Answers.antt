@@ -1,6 +1,4 @@
-use mathlib.Core.Path.{sym}
-use native.Mathlib.Omega.{arith}
-use lib.Seq.{length-take-le}
+use Rattle.std.proofs.Common.{sym, arith, length-take-le}
 use Rattle.picture.proofs.Rooms.{refusal_fits}
 use Rattle.test_picture.proofs.refused_sum.Goals as goal
 

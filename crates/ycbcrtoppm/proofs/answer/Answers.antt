@@ -1,6 +1,6 @@
 -- All but one need is found by search, since `picture` asks for nothing of what it is lent.
 -- The one is that `write_outcome` finds the whole picture in out: `outcome_fits`, which follows from what `picture` promises.
-use native.Mathlib.Omega.{arith}
+use Rattle.std.proofs.Common.{arith}
 use Rattle.ycbcrtoppm.proofs.Fits.{outcome_fits}
 use Rattle.ycbcrtoppm.proofs.answer.Goals as goal
 

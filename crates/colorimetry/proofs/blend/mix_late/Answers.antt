@@ -1,5 +1,5 @@
 -- The late row call can't be refused, since it passes with out for its output and the room is as long as a row of the greatest width.
-use Rattle.std.proofs.Common.{◌≡◌, ◌∙◌, ◌*◌, ◌≤◌, ℕ, List, Ok, length, arith}
+use Rattle.std.proofs.Common.{◌≡◌, ◌*◌, ◌≤◌, ℕ, List, Ok, length, arith}
 use Rattle.laws.specs.Refusals.{first}
 use Rattle.laws.proofs.Refusals.{accepted_failed, not_refused}
 use Rattle.guided.specs.Calls.{reader_layout}

@@ -1,7 +1,4 @@
-use mathlib.Core.Path.{ap, ◌∙◌}
-use Prim.Native.Nat.{ℕ}
-use native.Mathlib.Omega.{arith}
-use lib.ListN.{get_or}
+use Rattle.std.proofs.Common.{ap, ◌∙◌, ℕ, arith, get_or}
 use Rattle.laws.proofs.Lists.{run_none, front_more, run_after, run_end}
 use Rattle.colorimetry.specs.Mixes.{mix_of}
 use Rattle.colorimetry.proofs.mix.mix_bytes.Goals as goal

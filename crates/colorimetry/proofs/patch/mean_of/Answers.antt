@@ -1,6 +1,5 @@
-use native.Mathlib.Omega.{arith}
+use Rattle.std.proofs.Common.{arith, rules}
 use lib.Ieee.{binary64}
-use borrow.Author.Rules.{rules}
 use Rattle.laws.proofs.Values.{in_format}
 use Rattle.colorimetry.specs.Patches.{mean_of}
 use Rattle.colorimetry.proofs.patch.mean_of.Goals as goal

@@ -1,4 +1,4 @@
-use native.Mathlib.Omega.{arith}
+use Rattle.std.proofs.Common.{arith}
 use Rattle.colorimetry.proofs.Means.{whole_small}
 use Rattle.colorimetry.proofs.patch.whole_mean.Goals as goal
 

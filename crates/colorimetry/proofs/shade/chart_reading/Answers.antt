@@ -1,5 +1,5 @@
 -- Each return is a law of Readings; the bounds of the chart are `chart_shades`.
-use Rattle.std.proofs.Common.{◌≡◌, ◌∙◌, ◌<◌, false, sym, refl, arith}
+use Rattle.std.proofs.Common.{◌∙◌, ◌<◌, sym, refl, arith}
 use Rattle.std.proofs.lemmas.Result.{err_from_is_err_and}
 use Rattle.colorimetry.specs.Charts.{chart_call}
 use Rattle.colorimetry.proofs.Readings.{chart_shades, chart_refused, chart_nothing, chart_given}

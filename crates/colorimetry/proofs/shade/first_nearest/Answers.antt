@@ -1,6 +1,4 @@
-use mathlib.Core.Path.{◌≡◌, sym}
-use Prim.Native.Nat.{ℕ, ◌+◌, ◌≤◌, ◌<◌}
-use native.Mathlib.Omega.{arith}
+use Rattle.std.proofs.Common.{◌≡◌, sym, ℕ, ◌+◌, ◌≤◌, ◌<◌, arith}
 use Rattle.colorimetry.specs.Inner.Search.{Least}
 use Rattle.colorimetry.proofs.Least.{least_new, least_old}
 use Rattle.colorimetry.proofs.shade.first_nearest.Goals as goal

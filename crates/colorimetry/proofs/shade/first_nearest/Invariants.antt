@@ -1,5 +1,4 @@
-use mathlib.Core.Path.{◌≡◌}
-use Prim.Native.Nat.{ℕ, ◌<◌}
+use Rattle.std.proofs.Common.{◌≡◌, ℕ, ◌<◌}
 use Rattle.colorimetry.specs.Inner.Search.{Least}
 use Rattle.colorimetry.proofs.shade.first_nearest.Given as goal
 

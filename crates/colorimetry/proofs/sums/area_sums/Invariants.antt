@@ -1,5 +1,5 @@
 -- The promise, as far as the loop has come, and a linear bound beside it, by which nothing overflows: 2,088,960 is 255 * 8,192.
-use Prim.Native.Nat.{◌*◌}
+use Rattle.std.proofs.Common.{◌*◌}
 use Rattle.colorimetry.specs.Inner.Sums.{area_sum, SumsMost, Totals}
 use Rattle.colorimetry.proofs.sums.area_sums.Given as goal
 

@@ -1,5 +1,5 @@
 -- The promise, as far as the loop has come.
-use Prim.Native.Nat.{◌*◌}
+use Rattle.std.proofs.Common.{◌*◌}
 use Rattle.colorimetry.specs.Inner.Sums.{row_sum, Totals}
 use Rattle.colorimetry.proofs.sums.row_sums.Given as goal
 

@@ -1,4 +1,4 @@
-use mathlib.Core.Path.{subst}
+use Rattle.std.proofs.Common.{subst}
 use Rattle.image.specs.declared.rectangle.Rectangle.{Rectangle}
 use Rattle.colorimetry.specs.Charts.{chart_call, chart_reply, ChartGiven}
 use Rattle.ffi.proofs.charts.chroma_chart_reading.Goals as goal

@@ -1,6 +1,6 @@
 -- Two cases by `no_such_way`: a switch or siting that stands for none is answered with nothing changed; else the promise is that of `fill`, once each
 -- translated argument is replaced by what C's stands for.
-use mathlib.Core.Path.{refl, sym, ◌∙◌}
+use Rattle.std.proofs.Common.{refl, sym, ◌∙◌}
 use Rattle.ffi.proofs.Strange.{numbered_strange, numbered_plain}
 use Rattle.ffi.proofs.filling.chroma_fill.Goals as goal
 

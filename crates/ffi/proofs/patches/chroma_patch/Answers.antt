@@ -1,4 +1,4 @@
-use mathlib.Core.Path.{subst}
+use Rattle.std.proofs.Common.{subst}
 use Rattle.image.specs.declared.rectangle.Rectangle.{Rectangle}
 use Rattle.colorimetry.specs.Patches.{patch_call, patch_reply, PatchGiven}
 use Rattle.ffi.proofs.patches.chroma_patch.Goals as goal

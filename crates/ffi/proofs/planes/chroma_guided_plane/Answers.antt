@@ -1,4 +1,4 @@
-use mathlib.Core.Path.{refl, sym, ◌∙◌}
+use Rattle.std.proofs.Common.{refl, sym, ◌∙◌}
 use Rattle.ffi.proofs.Strange.{numbered_strange, numbered_plain}
 use Rattle.ffi.proofs.planes.chroma_guided_plane.Goals as goal
 

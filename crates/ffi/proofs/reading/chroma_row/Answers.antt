@@ -1,4 +1,4 @@
-use mathlib.Core.Path.{refl, sym, ◌∙◌}
+use Rattle.std.proofs.Common.{refl, sym, ◌∙◌}
 use Rattle.ffi.proofs.Strange.{checked_strange, checked_plain}
 use Rattle.guided.specs.Calls.{reply}
 use Rattle.ffi.proofs.reading.chroma_row.Goals as goal

@@ -1,6 +1,6 @@
 -- Two cases by `no_such_way`, as in chroma_fill: a switch or siting that stands for none is answered with nothing changed; else the promise is that of
 -- `refill`, once each translated argument is replaced by what C's stands for.
-use mathlib.Core.Path.{refl, sym, ◌∙◌}
+use Rattle.std.proofs.Common.{refl, sym, ◌∙◌}
 use Rattle.ffi.proofs.Strange.{numbered_strange, numbered_plain}
 use Rattle.ffi.proofs.refilling.chroma_refill.Goals as goal
 

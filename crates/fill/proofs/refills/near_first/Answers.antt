@@ -1,5 +1,4 @@
-use Rattle.std.proofs.Common.{◌+◌, ◌-◌, ◌*◌, ◌≤◌, ◌∙◌, sym, arith}
-use native.Mathlib.Nat.{mul-le-mul_right}
+use Rattle.std.proofs.Common.{◌+◌, ◌-◌, ◌*◌, ◌≤◌, ◌∙◌, sym, arith, mul-le-mul_right}
 use Rattle.fill.proofs.Near.{top_most}
 use Rattle.fill.proofs.refills.near_first.Goals as goal
 

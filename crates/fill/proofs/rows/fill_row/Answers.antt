@@ -1,11 +1,6 @@
 -- The contract is the two calls' contracts, one after the other. The hard steps are the products: a row's bytes and its beginning are within
 -- bounds by the limits of a layout (`row_bytes_is`, `row_begins`), and the row fits out (`row_room`).
-use mathlib.Core.Path.{ap, ◌∙◌}
-use mathlib.Core.List.{List}
-use Prim.Native.Nat.{◌+◌, ◌*◌}
-use native.Mathlib.Omega.{arith}
-use lib.Ieee.{Float}
-use lib.ListN.{length}
+use Rattle.std.proofs.Common.{ap, ◌∙◌, List, ◌+◌, ◌*◌, arith, Float, length}
 use Rattle.guided.proofs.Places.{front_fits}
 use Rattle.colour_rows.specs.Inner.Colours.{ranged_row}
 use Rattle.fill.proofs.Chroma.{length_fill}

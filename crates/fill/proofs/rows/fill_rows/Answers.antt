@@ -1,6 +1,4 @@
-use mathlib.Core.Path.{◌∙◌}
-use Prim.Native.Nat.{◌+◌, ◌*◌}
-use native.Mathlib.Omega.{arith}
+use Rattle.std.proofs.Common.{◌∙◌, ◌+◌, ◌*◌, arith}
 use Rattle.fill.proofs.Chroma.{scratched_none, scratched_more, scratched_end}
 use Rattle.fill.proofs.Painted.{painted_none, painted_more, painted_end, row_is}
 use Rattle.image.specs.Picture.{planes_seen}

@@ -1,6 +1,5 @@
 -- The loop's invariant is that out is `pixel_rows` so far (`Painted`) and scratch is `fill_scratch` so far (`Scratched`). `loop-again` carries a
 -- turn: by `row_is` the colour row that was made from scratch is the picture's.
-use Prim.Native.Nat.{◌-◌, ◌≤◌}
 use Rattle.image.specs.Picture.{picture_of, planes_seen}
 use Rattle.fill.specs.Fill.{fill_colour}
 use Rattle.fill.proofs.Chroma.{Scratched}

@@ -1,6 +1,4 @@
-use mathlib.Core.Path.{ap, ◌∙◌}
-use native.Mathlib.Omega.{arith}
-use lib.ListN.{length}
+use Rattle.std.proofs.Common.{ap, ◌∙◌, arith, length}
 use Rattle.linear.specs.Linear.{linear_row}
 use Rattle.linear.proofs.LinearRows.{length_row}
 use Rattle.image.specs.Samples.{seen}

@@ -4,8 +4,7 @@ use Rattle.guided_across.proofs.ReadBack.{chroma_steps}
 use Rattle.guided.proofs.Places.{first_few, slot_order}
 use Rattle.guided.specs.Scratch.{first_of}
 use Rattle.guided_across.specs.Inner.Sums.{products_at, three_row}
-use Rattle.std.proofs.Common.{◌+◌, ◌≤◌, refl, ap, ◌∙◌, arith}
-use native.Mathlib.Nat.{le_trans}
+use Rattle.std.proofs.Common.{◌+◌, refl, ap, ◌∙◌, arith, le_trans}
 use Rattle.guided_across.proofs.Areas.{row_within}
 use Rattle.image.specs.Samples.{seen}
 use Rattle.guided_across.proofs.across.chroma_part.Goals as goal

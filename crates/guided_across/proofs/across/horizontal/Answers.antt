@@ -8,8 +8,7 @@ use Rattle.image.specs.declared.chroma.Chroma.TheVariants.{Cb, Cr}
 use Rattle.image.specs.Picture.{picture_of, planes_seen}
 use Rattle.image.specs.Samples.{sample_at}
 use Rattle.image.specs.declared.chroma.Components.{Components}
-use mathlib.Core.Path.{sym, ap, ◌∙◌}
-use native.Mathlib.Omega.{arith}
+use Rattle.std.proofs.Common.{sym, ap, ◌∙◌, arith}
 use Rattle.guided_across.proofs.across.horizontal.Goals as goal
 
 pub luma_part-requires : goal.luma_part-requires

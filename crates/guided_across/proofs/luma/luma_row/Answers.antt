@@ -1,8 +1,7 @@
 use Rattle.guided_across.proofs.Areas.{luma_parts}
 use Rattle.guided_across.specs.Inner.Luma.{luma_run}
 use Rattle.image.specs.Samples.{Plane, seen}
-use mathlib.Core.Path.{ap, ◌∙◌}
-use Prim.Native.Nat.{◌-◌}
+use Rattle.std.proofs.Common.{ap, ◌∙◌, ◌-◌}
 use Rattle.guided_across.proofs.luma.luma_row.Goals as goal
 
 pub returns : goal.returns

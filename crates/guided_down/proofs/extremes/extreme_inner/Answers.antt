@@ -1,6 +1,6 @@
 -- Two returns, for samples of one byte and of two: `inner_are` takes the callee's run of nines to `extreme_run`, cells being one or two bytes apart.
 -- The work is in the bounds: the rows above, at and below j end within the plane (`three_rows`), and there is no third width (`two`).
-use Rattle.std.proofs.Common.{◌≡◌, ℕ, ◌+◌, ◌-◌, ◌*◌, ◌≤◌, ◌<◌, refl, ap, ◌∙◌, arith}
+use Rattle.std.proofs.Common.{◌≡◌, ℕ, ◌*◌, refl, ap, ◌∙◌, arith}
 use Rattle.guided_down.proofs.Wholes.{inner_are, three_rows}
 use Rattle.image.specs.Samples.{seen}
 use Rattle.guided_down.proofs.extremes.extreme_inner.Goals as goal

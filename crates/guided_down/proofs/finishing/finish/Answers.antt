@@ -1,4 +1,4 @@
-use native.Mathlib.Omega.{arith}
+use Rattle.std.proofs.Common.{arith}
 use Rattle.image.specs.Samples.{seen}
 use Rattle.image.specs.Picture.{Planes}
 use Rattle.guided_down.proofs.DownSteps.{finish_cb, finish_both}

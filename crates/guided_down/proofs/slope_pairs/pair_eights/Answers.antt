@@ -1,6 +1,5 @@
-use Rattle.std.proofs.Common.{◌+◌, ◌*◌, ap, ◌∙◌, List, [], get_or, arith}
+use Rattle.std.proofs.Common.{◌+◌, ◌*◌, ap, ◌∙◌, List, [], get_or, arith, Float}
 use Rattle.std.specs.Float.{nan}
-use lib.Ieee.{Float}
 use Rattle.laws.specs.Lists.{put}
 use Rattle.guided_down.proofs.Pairs.{pair_none, pair_end}
 use Rattle.guided_down.proofs.Statistics.{pair_eights_more}

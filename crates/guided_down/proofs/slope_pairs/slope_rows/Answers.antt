@@ -1,4 +1,4 @@
-use mathlib.Core.Path.{refl, ◌∙◌}
+use Rattle.std.proofs.Common.{refl, ◌∙◌}
 use lib.Ieee.{of_bits, of_int}
 use Rattle.guided_down.proofs.Statistics.{pair_ready, pair_slopes, epsilon_is}
 use Rattle.guided_down.proofs.slope_pairs.slope_rows.Goals as goal

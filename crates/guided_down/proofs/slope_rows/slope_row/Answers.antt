@@ -1,6 +1,5 @@
-use mathlib.Core.Path.{refl, ◌∙◌}
+use Rattle.std.proofs.Common.{refl, ◌∙◌, arith}
 use lib.Ieee.{of_bits, of_int}
-use native.Mathlib.Omega.{arith}
 use Rattle.guided_down.proofs.Statistics.{row_ready, row_slopes, epsilon_is}
 use Rattle.guided_down.proofs.slope_rows.slope_row.Goals as goal
 

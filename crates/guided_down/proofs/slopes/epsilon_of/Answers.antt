@@ -1,7 +1,6 @@
 use Rattle.laws.proofs.Values.{in_float_is}
-use mathlib.Core.Path.{refl}
+use Rattle.std.proofs.Common.{refl, arith}
 use lib.Ieee.{of_bits, of_int}
-use native.Mathlib.Omega.{arith}
 use Rattle.guided_down.proofs.slopes.epsilon_of.Goals as goal
 
 pub int_to_float-s : goal.int_to_float-s

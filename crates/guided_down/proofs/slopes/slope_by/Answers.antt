@@ -1,6 +1,6 @@
 use Rattle.guided_down.specs.Inner.Slopes.{slope_by}
-use mathlib.Core.Path.{ap}
-use lib.Ieee.{Float, of_bits, of_int}
+use Rattle.std.proofs.Common.{ap, Float}
+use lib.Ieee.{of_bits, of_int}
 use Rattle.laws.specs.Floats.{◌⊕◌, ◌⊖◌, ◌⊗◌, ◌⊘◌}
 use Rattle.guided_down.proofs.slopes.slope_by.Goals as goal
 

@@ -1,5 +1,4 @@
-use mathlib.Core.Path.{◌∙◌}
-use native.Mathlib.Omega.{arith}
+use Rattle.std.proofs.Common.{◌∙◌, arith}
 use Rattle.image.specs.Scratch.{cell_at}
 use Rattle.guided_pixels.proofs.Phases.{phase_between}
 use Rattle.guided_pixels.proofs.pairs.between.Goals as goal

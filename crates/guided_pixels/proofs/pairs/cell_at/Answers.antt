@@ -1,4 +1,4 @@
-use native.Mathlib.Omega.{arith}
+use Rattle.std.proofs.Common.{arith}
 use Rattle.image.specs.Scratch.{cell_at}
 use Rattle.guided_pixels.proofs.Phases.{pixels_are}
 use Rattle.guided_pixels.proofs.pairs.cell_at.Goals as goal

@@ -1,4 +1,4 @@
-use native.Mathlib.Omega.{arith}
+use Rattle.std.proofs.Common.{arith}
 use Rattle.image.specs.Picture.{Planes}
 use Rattle.guided_pixels.proofs.RowSteps.{row_cb, row_both}
 use Rattle.image.specs.Samples.{seen}

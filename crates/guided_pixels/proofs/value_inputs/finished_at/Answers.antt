@@ -1,5 +1,5 @@
 use Rattle.guided.specs.Scratch.{finished_at}
-use mathlib.Core.Path.{refl}
+use Rattle.std.proofs.Common.{refl}
 use Rattle.guided_pixels.proofs.value_inputs.finished_at.Goals as goal
 
 pub returns-in-Cb : goal.returns-in-Cb

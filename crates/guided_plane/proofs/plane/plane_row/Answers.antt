@@ -1,12 +1,6 @@
 -- The contract is the two calls' contracts, one after the other. The hard step is room: row·w + w lies within w·h (`row_fits`), which is what
 -- out holds, and the finished row lies at the front of scratch (`front_fits`).
-use mathlib.Core.Path.{ap, ◌∙◌}
-use mathlib.Core.List.{List, [], ◌∷◌}
-use Prim.Native.Nat.{◌+◌, ◌*◌, ◌≤◌}
-use native.Mathlib.Nat.{mul_comm}
-use native.Mathlib.Omega.{arith}
-use lib.ListN.{length}
-use lib.Ieee.{Float}
+use Rattle.std.proofs.Common.{ap, ◌∙◌, List, [], ◌∷◌, ◌+◌, ◌*◌, ◌≤◌, mul_comm, arith, length, Float}
 use Rattle.laws.proofs.Rows.{row_fits}
 use Rattle.image.specs.declared.chroma.Chroma.TheVariants.{Cb}
 use Rattle.image.specs.Picture.{picture_of}

@@ -1,6 +1,4 @@
-use mathlib.Core.Path.{◌∙◌}
-use Prim.Native.Nat.{◌*◌}
-use native.Mathlib.Omega.{arith}
+use Rattle.std.proofs.Common.{◌∙◌, ◌*◌, arith}
 use Rattle.laws.proofs.Lists.{rows_none, rows_more, rows_end}
 use Rattle.image.specs.Picture.{picture_of}
 use Rattle.guided_plane.specs.Plane.{planes_with, guided_plane}

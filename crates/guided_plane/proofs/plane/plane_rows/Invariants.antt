@@ -1,6 +1,6 @@
 -- The loop's invariant is that out has the guided samples in its first rows (`Rows`) and scratch is that after these rows (`Advanced`). `loop-
 -- again` carries a turn: by `stored_is` the row that was stored from scratch is the row of the definition.
-use mathlib.Core.List.{[], ◌∷◌}
+use Rattle.std.proofs.Common.{[], ◌∷◌}
 use Rattle.laws.proofs.Lists.{Rows}
 use Rattle.image.specs.declared.chroma.Chroma.TheVariants.{Cb}
 use Rattle.image.specs.Picture.{picture_of}

@@ -1,6 +1,4 @@
-use mathlib.Core.Path.{◌≡◌}
-use Prim.Native.Nat.{ℕ, zero, suc, ◌+◌, ◌-◌}
-use native.Mathlib.Omega.{arith}
+use Rattle.std.proofs.Common.{◌≡◌, ℕ, zero, suc, ◌+◌, ◌-◌, arith}
 use Rattle.image.specs.declared.layout.Layout.{Layout}
 use Rattle.guided.specs.Calls.{fresh_h, fresh_f, done_h, done_f}
 use Rattle.reader_state.specs.declared.state.Counters.{Counters}

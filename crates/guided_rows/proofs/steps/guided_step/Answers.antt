@@ -1,4 +1,4 @@
-use mathlib.Core.Path.{sym}
+use Rattle.std.proofs.Common.{sym}
 use Rattle.image.specs.Picture.{picture_of}
 use Rattle.guided_rows.specs.CatchingUp.{guided_step}
 use Rattle.guided_rows.proofs.steps.guided_step.Goals as goal

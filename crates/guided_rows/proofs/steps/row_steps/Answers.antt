@@ -3,9 +3,7 @@ use Rattle.guided_window.specs.Inner.Lent.{components_of}
 use Rattle.guided.specs.Scratch.{catch_up, row_steps}
 use Rattle.guided_pixels.specs.Inner.Row.{window_row}
 use Rattle.guided.proofs.Taken.{taken}
-use mathlib.Core.Path.{ap, ◌∙◌}
-use Prim.Native.Nat.{ℕ, ◌-◌, ◌≤◌}
-use native.Mathlib.Omega.{arith}
+use Rattle.std.proofs.Common.{ap, ◌∙◌, ℕ, ◌-◌, arith}
 use Rattle.guided_rows.proofs.steps.row_steps.Goals as goal
 
 pub catch_up-requires-clause-to_le_ch : goal.catch_up-requires-clause-to_le_ch

@@ -1,5 +1,5 @@
 -- Neither product passes the plane's length, which fits a word: both are parts of where the sample ends.
-use native.Mathlib.Omega.{arith}
+use Rattle.std.proofs.Common.{arith}
 use Rattle.guided_window.proofs.Windows.{whole_inside}
 use Rattle.guided_window.proofs.samples.whole_at.Goals as goal
 

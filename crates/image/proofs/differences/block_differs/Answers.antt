@@ -1,5 +1,4 @@
-use mathlib.Core.Path.{refl, sym, ◌∙◌}
-use native.Mathlib.Omega.{arith}
+use Rattle.std.proofs.Common.{refl, sym, ◌∙◌, arith}
 use Rattle.image.specs.Limits.{any_of}
 use Rattle.image.proofs.Blocks.{block_found, block_none, block_more}
 use Rattle.image.specs.Samples.{seen}

@@ -1,4 +1,4 @@
-use mathlib.Core.Path.{◌∙◌}
+use Rattle.std.proofs.Common.{◌∙◌}
 use Rattle.image.proofs.Blocks.{whole_reaches, whole_is}
 use Rattle.image.specs.Samples.{seen}
 use Rattle.image.proofs.differences.luma_differs.Goals as goal

@@ -1,4 +1,3 @@
-use Rattle.std.proofs.Common.{◌∙◌}
 use Rattle.image.specs.Samples.{seen}
 use Rattle.image.proofs.Blocks.{row_is}
 use Rattle.image.proofs.differences.row_differs.Goals as goal

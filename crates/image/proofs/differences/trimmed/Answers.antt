@@ -1,4 +1,4 @@
-use mathlib.Core.Path.{refl, sym}
+use Rattle.std.proofs.Common.{refl, sym}
 use Rattle.image.specs.Inner.Differences.{trimmed_of}
 use Rattle.image.proofs.differences.trimmed.Goals as goal
 

@@ -1,6 +1,4 @@
-use mathlib.Core.Path.{◌≡◌}
-use Prim.Native.Nat.{ℕ, ◌+◌}
-use lib.ListN.{get_or}
+use Rattle.std.proofs.Common.{◌≡◌, ℕ, ◌+◌, get_or}
 use Rattle.image.specs.Inner.Limits.{greatest}
 use Rattle.image.proofs.limits.most_byte.Given as goal
 

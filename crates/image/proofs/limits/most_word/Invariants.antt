@@ -1,5 +1,4 @@
-use mathlib.Core.Path.{◌≡◌}
-use Prim.Native.Nat.{ℕ, ◌+◌, ◌*◌}
+use Rattle.std.proofs.Common.{◌≡◌, ℕ, ◌+◌, ◌*◌}
 use Rattle.image.specs.Inner.Limits.{greatest}
 use Rattle.image.specs.Samples.{sample_of}
 use Rattle.image.proofs.limits.most_word.Given as goal

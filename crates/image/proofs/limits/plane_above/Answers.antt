@@ -1,7 +1,4 @@
-use mathlib.Core.Path.{refl, sym, ◌∙◌}
-use Prim.Native.Nat.{◌+◌, ◌*◌, ◌≤◌}
-use native.Mathlib.Omega.{arith}
-use lib.ListN.{length}
+use Rattle.std.proofs.Common.{refl, sym, ◌∙◌, ◌+◌, ◌*◌, ◌≤◌, arith, length}
 use Rattle.image.specs.Samples.{seen}
 use Rattle.image.specs.Limits.{any_of}
 use Rattle.image.proofs.Holding.{short_holds, row_inside}

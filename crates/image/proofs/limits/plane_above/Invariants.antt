@@ -1,5 +1,4 @@
-use mathlib.Core.Path.{◌≡◌}
-use mathlib.Core.Bool.{false}
+use Rattle.std.proofs.Common.{◌≡◌, false}
 use Rattle.image.specs.Limits.{any_of}
 use Rattle.image.proofs.Any.{row_above}
 use Rattle.image.specs.Samples.{seen}

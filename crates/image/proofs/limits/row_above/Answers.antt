@@ -1,5 +1,4 @@
-use native.Mathlib.Omega.{arith}
-use mathlib.Core.Path.{◌≡◌}
+use Rattle.std.proofs.Common.{arith, ◌≡◌}
 use Rattle.image.proofs.Any.{bytes_fit, words_fit, row_bytes_is, row_words}
 use Rattle.image.proofs.limits.row_above.Goals as goal
 

@@ -1,8 +1,4 @@
-use mathlib.Core.Path.{sym, ap, ◌∙◌}
-use Prim.Native.Nat.{ℕ, ◌-◌, ◌*◌}
-use native.Mathlib.Omega.{arith}
-use lib.Dec.{ltb}
-use borrow.Author.Tests.{ltb-false}
+use Rattle.std.proofs.Common.{sym, ap, ◌∙◌, ℕ, ◌-◌, ◌*◌, arith, ltb, ltb-false}
 use Rattle.image.proofs.Holding.{stride_below, first_short, last_short}
 use Rattle.image.proofs.samples.bad_plane.Goals as goal
 

@@ -1,5 +1,5 @@
 -- A test that applies is the answer of what is left of the list, one that doesn't is passed over.
-use Rattle.std.proofs.Common.{◌∙◌, ◌<◌, true, false, sym, ap, arith}
+use Rattle.std.proofs.Common.{◌∙◌, false, sym, ap, arith}
 use Rattle.std.proofs.lemmas.List.{at_drop_more, drop_all}
 use Rattle.laws.specs.Refusals.{first}
 use Rattle.laws.specs.declared.refusal.Refusal.TheVariants.{BadState}

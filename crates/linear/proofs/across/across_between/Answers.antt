@@ -1,11 +1,7 @@
-use mathlib.Core.Path.{◌≡◌, sym, ap, ◌∙◌}
-use Prim.Native.Nat.{ℕ, ◌≤◌, ◌<◌}
+use Rattle.std.proofs.Common.{◌≡◌, sym, ap, ◌∙◌, ℕ, ◌≤◌, ◌<◌, List, Float, arith}
 use Rattle.linear.specs.Inner.AcrossRows.{part_of, parts_in, between_run}
 use Rattle.linear.proofs.AcrossRuns.{parts_run}
-use mathlib.Core.List.{List}
-use lib.Ieee.{Float}
 use Rattle.laws.specs.declared.axes.Siting.{Siting}
-use native.Mathlib.Omega.{arith}
 use Rattle.linear.proofs.across.across_between.Goals as goal
 
 four : (r : ℕ) → (r ≡ 2 → ⊥) → (r ≡ 3 → ⊥) → 1 < r → r ≤ 4 → r ≡ 4

@@ -1,7 +1,4 @@
-use mathlib.Core.Path.{◌≡◌, refl, ap, ◌∙◌}
-use Prim.Native.Nat.{ℕ, ◌+◌, ◌*◌, ◌≤◌, ◌<◌}
-use native.Mathlib.Omega.{arith}
-use native.Mathlib.Nat.{mul-le-mul_right}
+use Rattle.std.proofs.Common.{◌≡◌, refl, ap, ◌∙◌, ℕ, ◌+◌, ◌*◌, ◌≤◌, ◌<◌, arith, mul-le-mul_right}
 use lib.Ieee.{nan}
 use Rattle.laws.proofs.Lists.{run_none, run_at, run_run, run_end, run_after, put_same}
 use Rattle.linear.specs.Inner.AcrossRows.{parts_in, between_run}

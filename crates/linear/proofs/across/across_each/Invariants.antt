@@ -1,4 +1,4 @@
-use Prim.Native.Nat.{◌*◌}
+use Rattle.std.proofs.Common.{◌*◌}
 use Rattle.laws.proofs.Lists.{Run}
 use Rattle.linear.specs.Inner.AcrossRows.{parts_in, between_at}
 use Rattle.linear.proofs.across.across_each.Given as goal

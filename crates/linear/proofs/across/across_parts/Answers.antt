@@ -1,9 +1,6 @@
 -- Head, pairs and rest are one run by `across_parts`, since each part leaves the cells, which lie behind the row, as they were.
 -- The pairs' loop is no loop over taps; `between_taps` says that its outputs are those of the taps from the head on.
-use mathlib.Core.Path.{◌≡◌, sym, ap, ◌∙◌}
-use mathlib.Core.List.{List}
-use Prim.Native.Nat.{ℕ, ◌+◌, ◌-◌, ◌*◌}
-use lib.Ieee.{Float}
+use Rattle.std.proofs.Common.{◌≡◌, sym, ap, ◌∙◌, List, ℕ, ◌+◌, ◌-◌, ◌*◌, Float}
 use Rattle.linear.specs.Inner.AcrossRows.{part_of, across_run, between_run}
 use Rattle.linear.proofs.AcrossRuns.{between_taps, across_parts}
 use Rattle.linear.proofs.across.across_parts.Goals as goal

@@ -1,4 +1,4 @@
-use native.Mathlib.Omega.{arith}
+use Rattle.std.proofs.Common.{arith}
 use Rattle.linear.proofs.Turns.{turns_fit}
 use Rattle.linear.proofs.across.across_ratio.Goals as goal
 

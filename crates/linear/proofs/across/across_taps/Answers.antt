@@ -1,8 +1,6 @@
-use mathlib.Core.Path.{refl, ◌∙◌}
-use Prim.Native.Nat.{◌+◌}
+use Rattle.std.proofs.Common.{refl, ◌∙◌, ◌+◌, arith}
 use lib.Ieee.{nan}
 use Rattle.laws.proofs.Lists.{run_more, run_after}
-use native.Mathlib.Omega.{arith}
 use Rattle.linear.proofs.across.across_taps.Goals as goal
 
 pub loop-i-preserved : goal.loop-i-preserved

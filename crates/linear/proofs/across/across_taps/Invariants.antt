@@ -1,6 +1,6 @@
 -- A loop that writes a run (`Run` of laws), a value a turn, by the tap of its own position. The cells of the tap lie behind all that is
 -- written, so that by `run_after` the lerp reads what the call was handed; that they are cells of the row is the tap's own contract.
-use Prim.Native.Nat.{◌+◌}
+use Rattle.std.proofs.Common.{◌+◌}
 use Rattle.taps.specs.Taps.{tap_by}
 use Rattle.linear.specs.Linear.{across_by}
 use Rattle.image.specs.Scratch.{cell_at}

@@ -1,8 +1,5 @@
 -- Outputs below the first cell, turns and rest are one run by `across_parts`, as head, pairs and rest are.
-use mathlib.Core.Path.{ap, ◌∙◌}
-use mathlib.Core.List.{List}
-use Prim.Native.Nat.{ℕ, ◌+◌, ◌-◌, ◌*◌}
-use lib.Ieee.{Float}
+use Rattle.std.proofs.Common.{ap, ◌∙◌, List, ℕ, ◌+◌, ◌-◌, ◌*◌, Float}
 use Rattle.linear.specs.Inner.AcrossRows.{across_run}
 use Rattle.linear.proofs.AcrossRuns.{across_parts}
 use Rattle.linear.proofs.across.across_turns.Goals as goal

@@ -1,5 +1,5 @@
 use lib.Ieee.{nan}
-use lib.ListN.{get_or}
+use Rattle.std.proofs.Common.{get_or}
 use Rattle.laws.proofs.Lists.{Run}
 use Rattle.taps.specs.Taps.{lerp_of}
 use Rattle.linear.proofs.across.put_between.Given as goal

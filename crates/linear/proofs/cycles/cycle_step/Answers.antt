@@ -1,8 +1,5 @@
-use mathlib.Core.Path.{refl, ◌∙◌}
-use Prim.Native.Nat.{◌+◌}
-use native.Mathlib.Omega.{arith}
+use Rattle.std.proofs.Common.{refl, ◌∙◌, ◌+◌, arith, get_or}
 use lib.Ieee.{nan}
-use lib.ListN.{get_or}
 use Rattle.laws.proofs.Lists.{run_more, run_after}
 use Rattle.linear.proofs.cycles.cycle_step.Goals as goal
 

@@ -1,6 +1,6 @@
 -- A loop that writes r values a turn: `turn_is` says that a turn's are those of the taps, which `turned` has num cells further for each turn before.
 -- Products with r and num grow with the turn, and `next` bounds them for omega.
-use Prim.Native.Nat.{◌+◌, ◌*◌}
+use Rattle.std.proofs.Common.{◌+◌, ◌*◌}
 use Rattle.laws.proofs.Lists.{Run}
 use Rattle.image.specs.Scratch.{cell_at}
 use Rattle.taps.specs.Taps.{tap_by}

@@ -1,10 +1,9 @@
 -- The row is down and then across, as LinearRows has them: `down_is` turns the first call's run into the definition's cells, `row_is` the second's
 -- into `linear_row`. Both rows of the tap end within the plane by `tap_rows`, cells and row within scratch by `cells_room`.
-use mathlib.Core.Path.{ap, ◌∙◌}
+use Rattle.std.proofs.Common.{ap, ◌∙◌, arith}
 use Rattle.image.specs.Samples.{Plane, seen}
 use Rattle.linear.specs.Inner.AcrossRows.{across_run}
 use Rattle.linear.proofs.LinearRows.{tap_rows, cells_room, row_fits, down_is, row_is, row_of}
-use native.Mathlib.Omega.{arith}
 use Rattle.linear.proofs.plane.linear_row.Goals as goal
 
 pub overflow_mul-a : goal.overflow_mul-a

@@ -1,15 +1,9 @@
-use mathlib.Core.Path.{ap, ◌∙◌}
-use Prim.Native.Nat.{◌*◌}
-use lib.Ieee.{Float}
-use mathlib.Core.List.{List}
-use native.Mathlib.Nat.{mul_comm}
+use Rattle.std.proofs.Common.{ap, ◌∙◌, ◌*◌, Float, List, mul_comm, arith, length}
 use Rattle.laws.proofs.Lists.{rows_more}
 use Rattle.image.specs.Samples.{Plane, seen}
 use Rattle.linear.specs.Inner.Stores.{store_run}
 use Rattle.linear.proofs.LinearRows.{ready_on, front_room, scratch_more, length_row, stored_is}
 use Rattle.laws.proofs.Rows.{row_fits}
-use native.Mathlib.Omega.{arith}
-use lib.ListN.{length}
 use Rattle.linear.proofs.plane.linear_rows.Goals as goal
 
 pub store_row-requires : goal.store_row-requires

@@ -1,9 +1,7 @@
-use mathlib.Core.Path.{◌≡◌, ap, ◌∙◌}
-use Prim.Native.Nat.{ℕ, min}
+use Rattle.std.proofs.Common.{◌≡◌, ap, ◌∙◌, ℕ, min, arith}
 use Rattle.fround.specs.Rounding.{round_clamped}
 use Rattle.image.specs.Scratch.{cell_at}
 use Rattle.laws.proofs.Lists.{run_more}
-use native.Mathlib.Omega.{arith}
 use Rattle.linear.proofs.rounded.store_row.Goals as goal
 
 pub loop-i-preserved : goal.loop-i-preserved

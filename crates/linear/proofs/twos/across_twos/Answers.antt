@@ -1,6 +1,4 @@
-use mathlib.Core.Path.{◌∙◌}
-use Prim.Native.Nat.{◌+◌, ◌*◌, ◌≤◌, ◌<◌, min}
-use native.Mathlib.Omega.{arith}
+use Rattle.std.proofs.Common.{◌∙◌, ◌+◌, ◌*◌, ◌≤◌, ◌<◌, min, arith}
 use lib.Ieee.{nan}
 use Rattle.laws.proofs.Lists.{put_same, run_none, run_at, run_after, run_over}
 use Rattle.linear.specs.Inner.AcrossRows.{parts_in}

@@ -1,7 +1,4 @@
-use mathlib.Core.Path.{refl}
-use Prim.Native.Nat.{◌+◌, ◌*◌}
-use native.Mathlib.Omega.{arith}
-use lib.ListN.{get_or}
+use Rattle.std.proofs.Common.{refl, ◌+◌, ◌*◌, arith, get_or}
 use lib.Ieee.{nan}
 use Rattle.laws.proofs.Lists.{run_at, front_more}
 use Rattle.linear.specs.Inner.AcrossRows.{parts_in}

@@ -1,6 +1,6 @@
 -- The block is filled from the front, two values a turn (`front_more`), each by `between_is`: outputs 0 and 1 of pair i + k are outputs
 -- 2i + 2k and 2i + 2k + 1. The slice isn't written, so that the cells are the call's without a law.
-use Prim.Native.Nat.{◌+◌, ◌*◌}
+use Rattle.std.proofs.Common.{◌+◌, ◌*◌}
 use Rattle.laws.proofs.Lists.{Run}
 use Rattle.linear.specs.Inner.AcrossRows.{parts_in, between_at}
 use Rattle.linear.proofs.twos.twos_block.Given as goal

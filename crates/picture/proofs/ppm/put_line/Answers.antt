@@ -1,7 +1,4 @@
-use mathlib.Core.Path.{◌≡◌}
-use native.Mathlib.Omega.{arith}
-use borrow.Author.Rules.{rules}
-use lib.ListN.{length}
+use Rattle.std.proofs.Common.{◌≡◌, arith, rules, length}
 use Rattle.laws.proofs.Copies.{copied_front}
 use Rattle.picture.proofs.ppm.put_line.Goals as goal
 

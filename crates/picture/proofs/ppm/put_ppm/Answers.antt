@@ -1,10 +1,7 @@
 -- `ppm_is` of Fronts carries it: the line at the front and what `put_pixels` left in the part behind it are `ppm_over` together.
 -- The needs before it are sums of lengths: the header has 16 bytes at most (`header_most`), and out room for it and the pixels (`ppm_covers`).
-use mathlib.Core.Path.{◌≡◌, ap, ◌∙◌}
+use Rattle.std.proofs.Common.{◌≡◌, ap, ◌∙◌, ℕ, ◌+◌, ◌*◌, ◌≤◌, arith, length-drop, length}
 use Rattle.image.specs.declared.layout.Layout.{Layout}
-use Prim.Native.Nat.{ℕ, ◌+◌, ◌*◌, ◌≤◌}
-use native.Mathlib.Omega.{arith}
-use lib.ListN.{length-drop, length}
 use Rattle.laws.proofs.Lists.{length_put}
 use Rattle.netpbm.specs.Lines.{ppm_header}
 use Rattle.netpbm.proofs.Digits.{header_most}

@@ -1,6 +1,4 @@
-use mathlib.Core.Path.{refl}
-use native.Mathlib.Nat.{mul-le-mul_right}
-use native.Mathlib.Omega.{arith}
+use Rattle.std.proofs.Common.{refl, mul-le-mul_right, arith}
 use Rattle.picture.proofs.Reversals.{turned_more}
 use Rattle.picture.proofs.turned.turn.Goals as goal
 

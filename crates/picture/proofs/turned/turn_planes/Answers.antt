@@ -1,4 +1,4 @@
-use native.Mathlib.Omega.{arith}
+use Rattle.std.proofs.Common.{arith}
 use Rattle.picture.proofs.Readings.{pixels_most, cells_most}
 use Rattle.picture.proofs.Reversals.{reversed_kept}
 use Rattle.picture.proofs.turned.turn_planes.Goals as goal

@@ -1,4 +1,4 @@
-use mathlib.Core.Path.{refl}
+use Rattle.std.proofs.Common.{refl}
 use Rattle.laws.proofs.Lists.{run_none, run_more}
 use Rattle.picture.proofs.turned.turn_sample.Goals as goal
 

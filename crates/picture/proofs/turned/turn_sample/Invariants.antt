@@ -1,5 +1,4 @@
-use Prim.Native.Nat.{◌+◌, ◌-◌}
-use lib.ListN.{get_or}
+use Rattle.std.proofs.Common.{◌+◌, ◌-◌, get_or}
 use Rattle.laws.proofs.Lists.{Run}
 use Rattle.picture.proofs.turned.turn_sample.Given as goal
 

@@ -1,6 +1,4 @@
-use mathlib.Core.Path.{◌≡◌}
-use Prim.Native.Nat.{◌-◌, ◌*◌}
-use native.Mathlib.Omega.{arith}
+use Rattle.std.proofs.Common.{◌≡◌, ◌-◌, ◌*◌, arith}
 use Rattle.std.specs.Float.{nan}
 use Rattle.laws.proofs.Copies.{copied}
 use Rattle.reader.proofs.copies.copy_rows.Goals as goal

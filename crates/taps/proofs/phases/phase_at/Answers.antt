@@ -1,6 +1,7 @@
 use Rattle.taps.specs.Taps.{phase_at}
 use lib.Ieee.{of_bits, of_int}
-use borrow.Author.Tests.{le-leb, lt-leb}
+use Rattle.std.proofs.Common.{le-leb}
+use borrow.Author.Tests.{lt-leb}
 use Rattle.taps.proofs.phases.phase_at.Goals as goal
 
 pub returns-then-r-k : goal.returns-then-r-k

@@ -1,6 +1,5 @@
 -- Each arm has its ratio and its pixel, and there the definition computes to the literal.
-use mathlib.Core.Path.{◌≡◌}
-use native.Mathlib.Omega.{arith}
+use Rattle.std.proofs.Common.{◌≡◌, arith}
 use lib.Ieee.{of_bits, div, of_int}
 use Rattle.taps.specs.Taps.{phase_of}
 use Rattle.taps.proofs.phases.phase_of.Goals as goal

@@ -1,5 +1,5 @@
 use Rattle.taps.specs.Taps.{phases_of}
-use mathlib.Core.Path.{refl}
+use Rattle.std.proofs.Common.{refl}
 use Rattle.taps.proofs.phases.phases_of.Goals as goal
 
 pub returns : goal.returns

@@ -1,5 +1,5 @@
 use lib.Ieee.{of_bits, div, of_int}
-use mathlib.Core.Path.{refl}
+use Rattle.std.proofs.Common.{refl}
 use Rattle.taps.proofs.positions.on_cell.Goals as goal
 
 pub returns : goal.returns

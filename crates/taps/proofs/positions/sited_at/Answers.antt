@@ -1,9 +1,6 @@
 -- The three returns are the cases of `sited_at`: the siting that was matched, then the test that was taken. The products fit by mul-le-mul.
-use Prim.Native.Nat.{ℕ, ◌+◌, ◌*◌, ◌^◌, ◌≤◌, ◌<◌}
-use native.Mathlib.Nat.{mul-le-mul}
-use borrow.Author.Tests.{le-ltb, lt-ltb}
+use Rattle.std.proofs.Common.{ℕ, ◌+◌, ◌*◌, ◌^◌, ◌≤◌, ◌<◌, mul-le-mul, le-ltb, lt-ltb, arith}
 use Rattle.taps.specs.Taps.{sited_at}
-use native.Mathlib.Omega.{arith}
 use Rattle.taps.proofs.positions.sited_at.Goals as goal
 
 fits_one : (o num : ℕ) → o ≤ 8192 → num ≤ 4 → o * num < 2 ^ 64

@@ -1,7 +1,6 @@
 use Rattle.taps.specs.Taps.{spot_at}
-use borrow.Author.Tests.{le-leb, lt-leb}
-use Prim.Native.Nat.{◌/◌, ◌-◌}
-use mathlib.Core.Path.{refl}
+use Rattle.std.proofs.Common.{le-leb, ◌/◌, ◌-◌, refl}
+use borrow.Author.Tests.{lt-leb}
 use Rattle.taps.proofs.positions.spot_at.Goals as goal
 
 pub returns-then-len-cell : goal.returns-then-len-cell

@@ -1,7 +1,6 @@
 -- The two returns are the cases of `spot_of`: as many cells as outputs, and else as the axis is sited. `tap_given` adds that the tap's cells are
 -- among len.
-use native.Mathlib.Omega.{arith}
-use borrow.Author.Tests.{eq-eqb, ne_eqb}
+use Rattle.std.proofs.Common.{arith, eq-eqb, ne_eqb}
 use Rattle.taps.specs.Taps.{tap_by, spot_of}
 use Rattle.taps.proofs.Spots.{tap_given}
 use Rattle.taps.proofs.positions.tap_at.Goals as goal

@@ -1,6 +1,5 @@
 -- The first two tests passed, and what their failing says bounds the products of the last.
-use mathlib.Core.Path.{sym, ◌∙◌}
-use native.Mathlib.Nat.{le_trans}
+use Rattle.std.proofs.Common.{sym, ◌∙◌, le_trans}
 use Rattle.image.proofs.Layouts as P
 use Rattle.laws.proofs.Refusals.{accepted_failed}
 use Rattle.image.proofs.layout.Layout.answer_for.Goals as goal
