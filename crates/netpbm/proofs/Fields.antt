@@ -2,15 +2,8 @@
 -- (`image_inside`), and one that is given is what stands there (`given`).
 -- The tests agree one by one (`held_tests_is`). The hard one is the last, for missing rows: sides that are held have another product, and
 -- `held_product` of Products says that it compares with what is left of the input as the real one does.
-use mathlib.Core.Path.{◌≡◌, refl, sym, ap, ◌∙◌}
-use mathlib.Core.Bool.{not}
-use mathlib.Core.List.{List}
-use Prim.Native.Nat.{ℕ, ◌+◌, ◌-◌, ◌*◌, max, ◌≤◌, ◌<◌}
-use native.Mathlib.Omega.{arith}
-use lib.Dec.{eqb}
-use lib.ListN.{length}
-use borrow.Author.Tests.{ltb-false, not-false, eqb-true}
-use Rattle.std.specs.Prelude.{Ok, Err}
+use Rattle.std.proofs.Common.{◌≡◌, refl, sym, ap, ◌∙◌, not, List, ℕ, ◌+◌, ◌-◌, ◌*◌, max, ◌≤◌, ◌<◌, arith, eqb, length, ltb-false, eqb-true, Ok, Err}
+use borrow.Author.Tests.{not-false}
 use Rattle.laws.specs.declared.refusal.Refusal.{Refusal}
 use Rattle.laws.specs.Refusals.{Answer, first}
 use Rattle.laws.specs.Numbers.{outside_of}

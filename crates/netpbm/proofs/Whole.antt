@@ -1,16 +1,9 @@
 -- Three images one behind another: the reason that turns one down is the whole's, and what is held of images that are given is what the
 -- definitions say. `in_turn` carries the first. The hard step of the second is that ratios as they are held are the real ones only where 2
 -- doesn't apply (`sides`), so the tests can't be compared one by one: `tests_same` looks at 5 only past 2.
-use mathlib.Core.Path.{◌≡◌, refl, ap, ◌∙◌}
-use mathlib.Core.Bool.{Bool, true, false}
-use mathlib.Core.List.{List, [], ◌∷◌}
-use Prim.Native.Nat.{ℕ, ◌≤◌, ◌<◌}
-use native.Mathlib.Omega.{arith}
-use lib.Dec.{ltb, eqb}
-use lib.ListN.{length}
-use borrow.Author.Tests.{le-ltb, lt-ltb, eqb-false}
+use Rattle.std.proofs.Common.{◌≡◌, refl, ap, ◌∙◌, Bool, true, false, List, [], ◌∷◌, ℕ, ◌≤◌, ◌<◌, arith, ltb, eqb, length, le-ltb, lt-ltb, Result, Ok, Err}
+use borrow.Author.Tests.{eqb-false}
 use Rattle.laws.specs.Refusals.{Answer, first}
-use Rattle.std.specs.Prelude.{Result, Ok, Err}
 use Rattle.laws.specs.Inner.Refusals.{further}
 use Rattle.laws.proofs.Refusals.{accepted_failed, refused_here, passed_over, first_further}
 use Rattle.image.specs.declared.layout.Layout.{Layout}
