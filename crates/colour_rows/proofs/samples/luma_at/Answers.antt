@@ -1,4 +1,3 @@
-use mathlib.Core.Path.{◌∙◌}
 use native.Mathlib.Omega.{arith}
 use Rattle.image.specs.Samples.{sample_at}
 use Rattle.colour_rows.proofs.RowSamples.{sample_room}
@@ -17,4 +16,4 @@ sample-requires c =
 pub returns : goal.returns
 unfolding sample_at
 returns c =
-    (c.wide.ensures.0 ∙ c.sample.ensures, c.wide.ensures.1)
+    c.sample.ensures
