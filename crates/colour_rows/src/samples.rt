@@ -14,6 +14,7 @@ use kernel_blocks::Block;
 use std::array::from_fn;
 
 // Inner: luma of column x of a row.
+#[tactic(auto, unfolding(image::specs::Samples::sample_at))]
 pub fn luma_at(layout: Layout, plane: Plane<'_>, row: usize, x: usize) -> u16
     requires { LumaRow layout (seen plane) row × (x < layout.w) }
     ensures { result ≡ sample_at layout.sample_bytes (seen plane.entry) row x }
