@@ -1,4 +1,4 @@
-use mathlib.Core.Path.{refl, ◌∙◌}
+use Rattle.std.proofs.Common.{refl, ◌∙◌}
 use Rattle.kernel_blocks.proofs.Blocks.{block_pixel_is}
 use Rattle.colour_rows.proofs.Colouring.{exact_by}
 use Rattle.colour_rows.proofs.exact_blocks.exact_pixels.Goals as goal

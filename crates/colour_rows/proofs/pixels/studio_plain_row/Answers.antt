@@ -1,5 +1,4 @@
-use mathlib.Core.Path.{◌∙◌}
-use native.Mathlib.Omega.{arith}
+use Rattle.std.proofs.Common.{◌∙◌, arith}
 use Rattle.colour_rows.specs.Inner.Colours.{studio_row}
 use Rattle.kernel_blocks.proofs.Stored.{stored_none, stored_more, stored_end}
 use Rattle.colour_rows.proofs.Colouring.{in_studio_read}

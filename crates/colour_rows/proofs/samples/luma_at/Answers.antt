@@ -1,4 +1,4 @@
-use native.Mathlib.Omega.{arith}
+use Rattle.std.proofs.Common.{arith}
 use Rattle.colour_rows.proofs.RowSamples.{sample_room}
 use Rattle.colour_rows.proofs.samples.luma_at.Goals as goal
 

@@ -1,4 +1,4 @@
-use mathlib.Core.Path.{refl, ◌∙◌}
+use Rattle.std.proofs.Common.{refl, ◌∙◌}
 use Rattle.kernel_blocks.proofs.StudioBlocks.{studio_pixel}
 use Rattle.colour_rows.proofs.Colouring.{studio_by_is}
 use Rattle.colour_rows.proofs.studio_blocks.studio_pixels.Goals as goal

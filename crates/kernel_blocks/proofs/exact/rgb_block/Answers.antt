@@ -1,6 +1,5 @@
-use Prim.Native.Nat.{ℕ, ◌<◌}
+use Rattle.std.proofs.Common.{ℕ, ◌<◌, get_or}
 use lib.IntN.{pos}
-use lib.ListN.{get_or}
 use lib.Ieee.{of_bits, neg}
 use Rattle.kernels.specs.Kernels.{red_offset, blue_offset, exact255}
 use Rattle.kernels.specs.Inner.Forms.{chroma_offset, plus_chroma}

@@ -1,6 +1,5 @@
 use Rattle.kernel_blocks.proofs.Lumas.{lowered_held}
-use mathlib.Core.Path.{◌∙◌}
-use native.Mathlib.Omega.{arith}
+use Rattle.std.proofs.Common.{◌∙◌, arith}
 use Rattle.kernel_blocks.proofs.Shades.{tone_byte, tone_small, parted_less}
 use Rattle.kernel_blocks.proofs.studio.tone_by.Goals as goal
 

@@ -1,7 +1,4 @@
-use mathlib.Core.Path.{ap, ◌∙◌}
-use Prim.Native.Nat.{ℕ, ◌<◌}
-use native.Mathlib.Omega.{arith}
-use lib.ListN.{get_or}
+use Rattle.std.proofs.Common.{ap, ◌∙◌, ℕ, ◌<◌, arith, get_or}
 use lib.Ieee.{of_bits, nan}
 use Rattle.kernels.specs.T871.{t871_spans, studio255}
 use Rattle.kernels.specs.Inner.Forms.{studio_chroma}

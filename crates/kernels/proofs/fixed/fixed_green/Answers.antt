@@ -1,5 +1,4 @@
-use mathlib.Core.Path.{refl, sym, ◌∙◌}
-use native.Mathlib.Omega.{arith}
+use Rattle.std.proofs.Common.{refl, sym, ◌∙◌, arith}
 use Rattle.kernels.proofs.FixedPoint.{green_cb_diff, green_cr_diff, green_parts}
 use Rattle.kernels.proofs.fixed.fixed_green.Goals as goal
 

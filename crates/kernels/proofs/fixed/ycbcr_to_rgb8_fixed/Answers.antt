@@ -1,5 +1,4 @@
-use mathlib.Core.Path.{sym, ◌∙◌}
-use lib.Dec.{lit<}
+use Rattle.std.proofs.Common.{sym, ◌∙◌, lit<}
 use Rattle.kernels.proofs.Colours.{colour_fixed}
 use Rattle.kernels.proofs.FixedPoint.{plus_fixed_is}
 use Rattle.kernels.proofs.fixed.ycbcr_to_rgb8_fixed.Goals as goal

@@ -1,4 +1,4 @@
-use mathlib.Core.Path.{◌∙◌}
+use Rattle.std.proofs.Common.{◌∙◌}
 use Rattle.kernels.proofs.Studios.{colour_studio}
 use Rattle.kernels.proofs.studio.ycbcr_frac_to_rgb8_studio.Goals as goal
 

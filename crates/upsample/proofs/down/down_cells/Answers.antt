@@ -1,4 +1,4 @@
-use mathlib.Core.Path.{sym}
+use Rattle.std.proofs.Common.{sym}
 use Rattle.laws.proofs.Lists.{run_more}
 use Rattle.upsample.specs.Inner.Pairs.{down_row}
 use Rattle.upsample.proofs.down.down_cells.Goals as goal
