@@ -1,14 +1,10 @@
 use Rattle.std.proofs.Common.{arith}
-use Rattle.image.specs.Samples.{seen}
-use Rattle.image.specs.Picture.{Planes}
 use Rattle.guided_down.proofs.DownSteps.{finish_cb, finish_both}
 use Rattle.guided_down.proofs.finishing.finish.Goals as goal
 
 pub returns-in_default : goal.returns-in_default
 returns-in_default c =
-    λ y. let a = c.args in
-    let ps : Planes = record { y = y; cb = seen a.cb; cr = seen a.cr } in
-    rw c.in_default.is (finish_cb a.layout ps a.j a.s.now _ _ (omega arith) c.slope_row.ensures c.extreme_rows.ensures)
+    λ y. rw c.in_default.is (finish_cb _ _ _ _ _ _ (omega arith) c.slope_row.ensures c.extreme_rows.ensures)
 
 pub extreme_rows-requires-3 : goal.extreme_rows-requires-3
 extreme_rows-requires-3 c =
@@ -16,6 +12,4 @@ extreme_rows-requires-3 c =
 
 pub returns : goal.returns
 returns c =
-    λ y. let a = c.args in
-    let ps : Planes = record { y = y; cb = seen a.cb; cr = seen a.cr } in
-    rw c.in-Both.is (finish_both a.layout ps a.j a.s.now _ _ _ (omega arith) c.slope_rows.ensures c.extreme_rows-2.ensures c.extreme_rows-3.ensures)
+    λ y. rw c.in-Both.is (finish_both _ _ _ _ _ _ _ (omega arith) c.slope_rows.ensures c.extreme_rows-2.ensures c.extreme_rows-3.ensures)
