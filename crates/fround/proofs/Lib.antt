@@ -4,3 +4,4 @@ mod Limits
 mod OnGrid
 mod Centring
 mod ByBits
+mod Picked

@@ -10,7 +10,10 @@ ghost use Rattle.std.specs.Float.{nan};
 ghost use Rattle.laws.specs.Floats.{f32};
 ghost use Rattle.laws.specs.Lists.{put};
 
+mod vectors;
+
 use std::array::from_fn;
+pub use vectors::load;
 
 // How much a block has.
 #[derive(Clone, Copy)]
