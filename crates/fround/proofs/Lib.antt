@@ -5,3 +5,4 @@ mod OnGrid
 mod Centring
 mod ByBits
 mod Picked
+mod WholeBits

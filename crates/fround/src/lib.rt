@@ -6,6 +6,7 @@
 #![tactic(auto)]
 
 mod vectors;
+mod from_bits;
 
 ghost use Rattle.std.specs.Prelude.{◌≡◌, ◌≤◌, min};
 ghost use Rattle.std.specs.Float.Ieee.{add};
@@ -15,6 +16,7 @@ ghost use Rattle.fround.specs.Rounding.{fmin, fmax, round_clamped, is_same_float
 ghost use Rattle.fround.specs.Inner.Rounding.{clamped, Rounded};
 
 pub use vectors::{fmax_lanes, fmin_lanes};
+pub use from_bits::whole;
 
 // The constants of the roundings.
 #[derive(Clone, Copy)]
