@@ -5,8 +5,8 @@
 // callers ask of it.
 #![tactic(auto)]
 
-mod vectors;
 mod from_bits;
+mod vectors;
 
 ghost use Rattle.std.specs.Prelude.{◌≡◌, ◌≤◌, min};
 ghost use Rattle.std.specs.Float.Ieee.{add};
@@ -15,8 +15,8 @@ ghost use Rattle.laws.specs.Floats.{f32, ◌⊖◌, ◌⊗◌};
 ghost use Rattle.fround.specs.Rounding.{fmin, fmax, round_clamped, is_same_float};
 ghost use Rattle.fround.specs.Inner.Rounding.{clamped, Rounded};
 
-pub use vectors::{fmax_lanes, fmin_lanes};
 pub use from_bits::whole;
+pub use vectors::{fmax_lanes, fmin_lanes};
 
 // The constants of the roundings.
 #[derive(Clone, Copy)]
