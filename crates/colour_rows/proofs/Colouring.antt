@@ -1,14 +1,6 @@
 -- The colour of a pixel, as the kernels are handed its samples.
-use mathlib.Core.Path.{◌≡◌, refl, sym, ap}
-use mathlib.Core.Logic.{◌≢◌}
-use mathlib.Core.Bool.{false}
-use mathlib.Core.List.{List}
-use Prim.Native.Nat.{ℕ}
-use native.Mathlib.Nat.{zero-add}
-use lib.Dec.{eqb}
-use lib.ListN.{get_or}
-use lib.Ieee.{Float, nan}
-use borrow.Author.Tests.{ne_eqb}
+use Rattle.std.proofs.Common.{◌≡◌, refl, sym, ap, ◌≢◌, false, List, ℕ, zero-add, eqb, get_or, Float, ne_eqb}
+use lib.Ieee.{nan}
 use Rattle.laws.specs.Floats.{f32, ◌⊗◌}
 use Rattle.image.specs.declared.layout.Layout.{Layout}
 use Rattle.image.specs.declared.layout.Range.{Range}

@@ -1,9 +1,5 @@
 -- Samples by their columns, and that they lie in a row of luma.
-use mathlib.Core.Path.{◌≡◌, ap}
-use mathlib.Core.Logic.{◌≢◌}
-use Prim.Native.Nat.{ℕ, ◌+◌, ◌*◌, ◌≤◌, ◌<◌}
-use native.Mathlib.Omega.{arith}
-use lib.ListN.{length}
+use Rattle.std.proofs.Common.{◌≡◌, ap, ◌≢◌, ℕ, ◌+◌, ◌*◌, ◌≤◌, ◌<◌, arith, length}
 use Rattle.image.specs.declared.layout.Layout.{Layout}
 use Rattle.image.specs.Samples.{Plane, place, sample_of, sample_at}
 use Rattle.image.proofs.Holding.{short_holds, row_inside, sample_inside}

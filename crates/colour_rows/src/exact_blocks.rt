@@ -10,7 +10,7 @@ ghost use Rattle.kernels.specs.declared.kernel.YcbcrKernel.TheVariants.{Exact};
 ghost use Rattle.image.specs.Samples.{seen};
 
 use crate::blocks::row_by_blocks;
-use crate::samples::{chroma_block, luma_block, wide_block};
+use crate::samples::{chroma_block, luma_block};
 use image::{Layout, Plane};
 use kernel_blocks::Block;
 
@@ -22,7 +22,7 @@ fn exact_pixels(y: [u16; Block::LEN], s: &[f32], w: usize, x: usize) -> [[u8; Bl
 {
     let cb = chroma_block(s, 0, x);
     let cr = chroma_block(s, w, x);
-    kernel_blocks::rgb_block(wide_block(y), cb, cr)
+    kernel_blocks::rgb_block(y, cb, cr)
 }
 
 // The sixteen pixels of a row from column x on.

@@ -15,16 +15,14 @@ use image::{Layout, Plane};
 use kernels::{Rgb, YcbcrKernel};
 
 // A pixel by the exact kernel at maxval 255.
-fn exact_pixel(y: u32, cb: f32, cr: f32) -> Rgb
-    requires { y ≤ 65535 }
+fn exact_pixel(y: u16, cb: f32, cr: f32) -> Rgb
     ensures { colour_of result ≡ colour_by Exact 255 y cb cr }
 {
     kernels::ycbcr_frac_to_rgb8_8bit(y, chroma_256ths(cb), chroma_256ths(cr))
 }
 
 // A pixel by the exact kernel in studio range.
-fn studio_pixel(y: u32, cb: f32, cr: f32) -> Rgb
-    requires { y ≤ 65535 }
+fn studio_pixel(y: u16, cb: f32, cr: f32) -> Rgb
     ensures { colour_of result ≡ studio_by y cb cr }
 {
     kernels::ycbcr_frac_to_rgb8_studio(y, chroma_256ths(cb), chroma_256ths(cr))
@@ -39,24 +37,23 @@ fn scaled_chroma(v: f32) -> u32
 }
 
 // A pixel by the exact kernel at a maxval other than 255.
-fn scaled_pixel(y: u32, cb: f32, cr: f32, maxval: u32) -> Rgb
-    requires { (y ≤ 65535) × (1 ≤ maxval) × (maxval ≤ 65535) × (maxval ≢ 255) }
+fn scaled_pixel(y: u16, cb: f32, cr: f32, maxval: u32) -> Rgb
+    requires { (1 ≤ maxval) × (maxval ≤ 65535) × (maxval ≢ 255) }
     ensures { colour_of result ≡ colour_by Exact maxval y cb cr }
 {
     kernels::ycbcr_frac_to_rgb8_at(y, scaled_chroma(cb), scaled_chroma(cr), maxval)
 }
 
 // A pixel by the fixed kernel, for which chroma is first rounded to a whole number. It doesn't look at maxval, d in the contract.
-fn fixed_pixel(y: u32, cb: f32, cr: f32) -> Rgb
-    requires { y ≤ 65535 }
+fn fixed_pixel(y: u16, cb: f32, cr: f32) -> Rgb
     ensures { (d : ℕ) → colour_of result ≡ colour_by FixedPoint16 d y cb cr }
 {
-    kernels::ycbcr_to_rgb8_fixed(y, u32::from(whole_chroma(cb)), u32::from(whole_chroma(cr)))
+    kernels::ycbcr_to_rgb8_fixed(y, u16::from(whole_chroma(cb)), u16::from(whole_chroma(cr)))
 }
 
 // A pixel by either kernel at any maxval, in full range.
-fn plain_pixel(kernel: YcbcrKernel, y: u32, cb: f32, cr: f32, maxval: u32) -> Rgb
-    requires { (y ≤ 65535) × (1 ≤ maxval) × (maxval ≤ 65535) }
+fn plain_pixel(kernel: YcbcrKernel, y: u16, cb: f32, cr: f32, maxval: u32) -> Rgb
+    requires { (1 ≤ maxval) × (maxval ≤ 65535) }
     ensures { colour_of result ≡ colour_by kernel maxval y cb cr }
 {
     match kernel {

@@ -13,20 +13,14 @@ use image::{Layout, Plane};
 use kernel_blocks::Block;
 use std::array::from_fn;
 
-// A sample as a number of 32 bits. Its contract keeps the bound that the kernels ask for.
-fn wide(x: u16) -> u32
-    ensures { (result ≡ x) × (result ≤ 65535) }
-{
-    u32::from(x)
-}
-
 // Inner: luma of column x of a row.
-pub fn luma_at(layout: Layout, plane: Plane<'_>, row: usize, x: usize) -> u32
+#[tactic(auto, unfolding(image::specs::Samples::sample_at))]
+pub fn luma_at(layout: Layout, plane: Plane<'_>, row: usize, x: usize) -> u16
     requires { LumaRow layout (seen plane) row × (x < layout.w) }
-    ensures { (result ≡ sample_at layout.sample_bytes (seen plane.entry) row x) × (result ≤ 65535) }
+    ensures { result ≡ sample_at layout.sample_bytes (seen plane.entry) row x }
 {
     let bytes = layout.sample_bytes;
-    wide(image::sample(plane.bytes, bytes, row * plane.stride + x * bytes))
+    image::sample(plane.bytes, bytes, row * plane.stride + x * bytes)
 }
 
 // Inner: chroma in 256ths at maxval 255, limited to 65,536 = 256 * 256, since the kernel takes at most 32,768 to either side of 128 * 256.
@@ -65,13 +59,6 @@ pub fn luma_block(layout: Layout, plane: Plane<'_>, row: usize, x: usize) -> [u1
         return sample_block::<1>(plane.bytes, row * plane.stride + x);
     }
     sample_block::<2>(plane.bytes, row * plane.stride + x * 2)
-}
-
-// Inner: sixteen samples of luma as numbers of 32 bits, which the exact kernel computes with.
-pub fn wide_block(y: [u16; Block::LEN]) -> [u32; Block::LEN]
-    ensures { ((k : ℕ) → k < Block.LEN → (get_or result k 0 ≡ get_or y k 0) × (get_or result k 0 ≤ 65535)) }
-{
-    from_fn(|k| wide(y[k]))
 }
 
 // Inner: chroma of the sixteen columns from x on of the finished row at src, in 256ths less 32,768 = 128 * 256, as floats for the exact

@@ -9,7 +9,7 @@ ghost use Rattle.colour_rows.specs.Inner.Lent.{RowLent};
 ghost use Rattle.image.specs.Samples.{seen};
 
 use crate::blocks::row_by_blocks;
-use crate::samples::{chroma_block, luma_block, wide_block};
+use crate::samples::{chroma_block, luma_block};
 use image::{Layout, Plane};
 use kernel_blocks::Block;
 
@@ -21,7 +21,7 @@ fn studio_pixels(y: [u16; Block::LEN], s: &[f32], w: usize, x: usize) -> [[u8; B
 {
     let cb = chroma_block(s, 0, x);
     let cr = chroma_block(s, w, x);
-    kernel_blocks::studio_block(wide_block(y), cb, cr)
+    kernel_blocks::studio_block(y, cb, cr)
 }
 
 // The sixteen pixels of a row from column x on.

@@ -1,9 +1,6 @@
 -- A block's pixels.
-use mathlib.Core.Path.{◌≡◌, refl}
-use mathlib.Core.List.{List}
-use Prim.Native.Nat.{ℕ, ◌<◌}
-use lib.ListN.{get_or}
-use lib.Ieee.{Float, nan}
+use Rattle.std.proofs.Common.{◌≡◌, refl, List, ℕ, ◌<◌, get_or, Float}
+use lib.Ieee.{nan}
 use Rattle.kernels.specs.declared.bytes.Rgb.{Rgb}
 use Rattle.kernels.specs.Kernels.{exact255}
 use Rattle.kernel_blocks.specs.Inner.Floating.{Centred}

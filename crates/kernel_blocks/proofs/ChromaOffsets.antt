@@ -1,8 +1,6 @@
 -- The offset that the float gives is the exact one, for red's multiplier and for blue's: the laws of RedAndBlue at its two records of numbers.
-use Prim.Native.Nat.{ℕ}
-use mathlib.Core.Bool.{not}
-use lib.Dec.{T}
-use lib.Ieee.{Float, binary32, is_nan, to_bits}
+use Rattle.std.proofs.Common.{ℕ, not, T, Float}
+use lib.Ieee.{binary32, is_nan, to_bits}
 use Rattle.laws.specs.Floats.{◌⊕◌, ◌⊗◌}
 use Rattle.kernels.specs.Kernels.{centred}
 use Rattle.kernels.specs.Inner.Forms.{chroma_offset}

@@ -1,14 +1,9 @@
 -- A chroma's float is a whole number, c - 32768: its products, and its bits on the grid of whole numbers.
 -- `centred_value` carries it, by whether c lies below the centre. A product is then one rounding (`scaled`), and the sum with 2 ^ 23 and the
 -- centre is exact, so that laws' `grid_bits` reads c off its bits.
-use mathlib.Core.Path.{◌≡◌, refl, sym, ap, ◌∙◌, subst}
-use mathlib.Core.Bool.{Bool, true, false, not}
-use Prim.Native.Nat.{ℕ, ◌+◌, ◌-◌, ◌*◌, ◌≤◌, ◌<◌}
-use native.Mathlib.Nat.{zero-lt-suc, mul-one, mul-pos, mul-le-mul_left}
-use native.Mathlib.Omega.{arith}
+use Rattle.std.proofs.Common.{◌≡◌, refl, sym, ap, ◌∙◌, subst, Bool, true, false, not, ℕ, ◌+◌, ◌-◌, ◌*◌, ◌≤◌, ◌<◌, zero-lt-suc, mul-one, mul-pos, mul-le-mul_left, arith, T, ltb, ltb→lt, nltb→le, Float}
 use lib.IntN.{pos}
-use lib.Dec.{T, ltb, ltb→lt, nltb→le}
-use lib.Ieee.{Float, fin, binary32, round, is_nan, to_bits}
+use lib.Ieee.{fin, binary32, round, is_nan, to_bits}
 use lib.Ieee.Back.{round_whole}
 use lib.Ieee.Exact.{HasValue}
 use Rattle.laws.specs.Floats.{f32, ◌⊕◌, ◌⊗◌, over, under}

@@ -1,9 +1,6 @@
 -- The fixed kernel over numbers with a sign, as an i32 holds them: sums that fit, the shift as a floor, and the tables' entries, none of which
 -- passes 25 bits. The bounds go by differences (`Diff`), which `omega` reads.
-use mathlib.Core.Path.{◌≡◌, refl}
-use mathlib.Core.List.{List}
-use Prim.Native.Nat.{ℕ, suc, ◌+◌, ◌<◌, ◌≤◌}
-use native.Mathlib.Omega.{arith}
+use Rattle.std.proofs.Common.{◌≡◌, refl, ℕ, suc, ◌+◌, ◌<◌, ◌≤◌, arith}
 use lib.IntN.{ℤ, pos, negsuc, ◌+ℤ◌}
 use lib.Signed.{mag, shr_z}
 use mir.Syntax.{w32}

@@ -1,7 +1,5 @@
 -- The whole-number form of green's offset is the plain quotient.
-use mathlib.Core.Path.{◌≡◌}
-use Prim.Native.Nat.{ℕ, ◌+◌, ◌*◌, ◌-◌, ◌/◌, ◌<◌, ◌≤◌}
-use native.Mathlib.Omega.{arith}
+use Rattle.std.proofs.Common.{◌≡◌, ℕ, ◌+◌, ◌*◌, ◌-◌, ◌/◌, ◌<◌, ◌≤◌, arith}
 
 -- a sum x in 2^41ths that is near enough to t of 75,136,000: its whole part is t's quotient
 scaled_down : (b r t x : ℕ) → b ≤ 65536 → r ≤ 65536 → 73375 * x + (14717 * b + 17652 * r) ≡ 2147483648 * t + 2132473540 → x / 2199023255552 ≡ t / 75136000

@@ -1,13 +1,9 @@
 -- Green: where the offsets with a margin added and taken away round alike, that is the exact offset.
 -- The float sum with its margin is within 6 / 256 of the exact one, and the margin is 8 / 256. So the two bounds of GridBits, one from each side,
 -- leave one whole number, the exact quotient: that is `settled`, the one hard step, and linear.
-use mathlib.Core.Path.{◌≡◌, refl, sym, subst}
-use mathlib.Core.Bool.{true, false, not}
-use Prim.Native.Nat.{ℕ, ◌+◌, ◌-◌, ◌*◌, ◌/◌, ◌≤◌}
-use native.Mathlib.Omega.{arith}
+use Rattle.std.proofs.Common.{◌≡◌, refl, sym, subst, true, false, not, ℕ, ◌+◌, ◌-◌, ◌*◌, ◌/◌, ◌≤◌, arith, T, lit<, Float}
 use lib.IntN.{negsuc}
-use lib.Dec.{T, lit<}
-use lib.Ieee.{Float, fin, is_nan}
+use lib.Ieee.{fin, is_nan}
 use Rattle.laws.specs.Floats.{◌⊕◌, ◌⊖◌, ◌⊗◌}
 use Rattle.laws.specs.Inner.Floats.{NearFraction}
 use Rattle.laws.proofs.Nearness.{mild_step, near_chain, value_near, add_near}

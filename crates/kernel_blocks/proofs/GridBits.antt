@@ -1,14 +1,9 @@
 -- The bits of a sum with 1.5 * 2 ^ 31 count the multiple of 256 nearest to the other number.
 -- The sum is one rounding of a fraction (`summed`), and laws' `on_grid` and `grid_bits` at j = 8 say to which multiple and with what bits.
 -- The hard step is `counted`, where the rounding's half of 256 and the slack of the other number add up.
-use mathlib.Core.Path.{◌≡◌, refl, sym, ap, subst}
-use mathlib.Core.Bool.{Bool, true, false, not}
-use Prim.Native.Nat.{ℕ, ◌+◌, ◌-◌, ◌*◌, ◌≤◌, ◌<◌}
-use native.Mathlib.Nat.{zero-lt-suc, mul-one, mul-pos, mul-le-mul_right, le_of_mul-le-mul_right}
-use native.Mathlib.Omega.{arith}
+use Rattle.std.proofs.Common.{◌≡◌, refl, sym, ap, subst, Bool, true, false, not, ℕ, ◌+◌, ◌-◌, ◌*◌, ◌≤◌, ◌<◌, zero-lt-suc, mul-one, mul-pos, mul-le-mul_right, le_of_mul-le-mul_right, arith, T, lit<, lit≤, Float}
 use lib.IntN.{ℤ}
-use lib.Dec.{T, lit<, lit≤}
-use lib.Ieee.{Float, nan, inf, fin, binary32, up, down, round, neg, sub, is_nan, to_bits}
+use lib.Ieee.{nan, inf, fin, binary32, up, down, round, neg, sub, is_nan, to_bits}
 use lib.Ieee.Fits.{down_pos}
 use lib.Ieee.Exact.{HasValue}
 use lib.Ieee.Nearest.{closest, closest_mono}

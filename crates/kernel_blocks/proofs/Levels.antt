@@ -1,12 +1,7 @@
 -- The near forms of studio range count the level that their exact value is nearest to, but for a margin.
-use mathlib.Core.Path.{refl, sym, subst}
-use mathlib.Core.Bool.{false}
-use Prim.Native.Nat.{ℕ, ◌+◌, ◌*◌, ◌≤◌}
-use native.Mathlib.Nat.{zero-lt-suc}
-use native.Mathlib.Omega.{arith}
+use Rattle.std.proofs.Common.{refl, sym, subst, false, ℕ, ◌+◌, ◌*◌, ◌≤◌, zero-lt-suc, arith, lit<, Float}
 use lib.IntN.{negsuc}
-use lib.Dec.{lit<}
-use lib.Ieee.{Float, fin, binary32}
+use lib.Ieee.{fin, binary32}
 use Rattle.laws.specs.Floats.{f32, ◌⊕◌, ◌⊖◌, ◌⊗◌}
 use Rattle.laws.specs.Inner.Floats.{NearFraction}
 use Rattle.laws.proofs.Values.{whole_value}

@@ -1,10 +1,6 @@
 -- Laws of pixels stored as words.
-use mathlib.Core.Path.{◌≡◌, refl, sym, ◌∙◌}
-use mathlib.Core.List.{List}
-use Prim.Native.Nat.{ℕ, ◌+◌, ◌-◌, ◌*◌, ◌/◌, ◌%◌, ◌≤◌, ◌<◌}
-use native.Mathlib.Omega.{arith}
+use Rattle.std.proofs.Common.{◌≡◌, refl, sym, ◌∙◌, List, ℕ, ◌+◌, ◌-◌, ◌*◌, ◌/◌, ◌%◌, ◌≤◌, ◌<◌, arith, get_or, set}
 use lib.Bits.{bit_and, and_mask}
-use lib.ListN.{get_or, set}
 use lib.Seq.{set-get_or}
 use Rattle.kernels.specs.Kernels.{Colour}
 use Rattle.kernels.specs.Inner.Kernels.{rgb}

@@ -1,18 +1,11 @@
 -- Chroma as a float times a multiplier is near enough to the exact offset, but for a few chromas close to a half, each of which is computed.
 -- Off those edges the float's slack of 3 / 256 can't reach the next step (`steady`). At an edge lies at most one chroma for each step (`edge_at`),
 -- so that 360 steps of red and 455 of blue, computed in `checked`, are all of them.
-use mathlib.Core.Path.{◌≡◌, refl, sym, ap, ◌∙◌, subst}
-use mathlib.Core.Bool.{Bool, true, false, ◌&&◌}
-use mathlib.Core.Logic.{◌⊎◌, inl, inr}
-use Prim.Native.Nat.{ℕ, zero, suc, ◌+◌, ◌-◌, ◌*◌, ◌/◌, ◌%◌, ◌≤◌, ◌<◌}
-use native.Mathlib.Nat.{mul-le-mul_left, eq-or-lt_of_le, le_of_suc-le-suc, div-lt_iff_lt-mul}
-use native.Mathlib.Omega.{arith}
+use Rattle.std.proofs.Common.{◌≡◌, refl, sym, ap, ◌∙◌, subst, Bool, true, false, ◌&&◌, ◌⊎◌, inl, inr, ℕ, zero, suc, ◌+◌, ◌-◌, ◌*◌, ◌/◌, ◌%◌, ◌≤◌, ◌<◌, mul-le-mul_left, eq-or-lt_of_le, le_of_suc-le-suc, div-lt_iff_lt-mul, arith, T, ltb, eqb, ltb→lt, eqb→eq, lit<, Float, ltb-false}
 use lib.Arith.{digits_div}
-use lib.Dec.{T, ltb, eqb, ltb→lt, eqb→eq, lit<}
-use lib.Ieee.{Float, binary32, add, sub, mul, of_int, to_bits}
+use lib.Ieee.{binary32, add, sub, mul, of_int, to_bits}
 use lib.Ieee.Exact.{HasValue}
 use lib.Ieee.Fits.{and_l, and_r}
-use borrow.Author.Tests.{ltb-false}
 use Rattle.laws.specs.Floats.{f32, ◌⊕◌, ◌⊖◌, ◌⊗◌}
 use Rattle.laws.specs.Inner.Floats.{Close, NearFraction}
 use Rattle.laws.proofs.Nearness.{mild_step, near_chain, value_near, add_near}

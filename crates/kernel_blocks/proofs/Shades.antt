@@ -1,11 +1,7 @@
 -- Where both shifts give the same bits, luma with them is the exact byte of studio range.
-use mathlib.Core.Path.{◌≡◌, sym, subst, ◌∙◌}
-use mathlib.Core.Bool.{not}
-use Prim.Native.Nat.{ℕ, ◌+◌, ◌-◌, ◌*◌, ◌/◌, ◌≤◌, min}
-use native.Mathlib.Omega.{arith}
+use Rattle.std.proofs.Common.{◌≡◌, sym, subst, ◌∙◌, not, ℕ, ◌+◌, ◌-◌, ◌*◌, ◌/◌, ◌≤◌, min, arith, T, Float}
 use lib.IntN.{ℤ, pos, ◌+ℤ◌}
-use lib.Dec.{T}
-use lib.Ieee.{Float, is_nan}
+use lib.Ieee.{is_nan}
 use Rattle.laws.specs.Floats.{◌⊕◌, ◌⊖◌, ◌⊗◌}
 use Rattle.laws.specs.Differences.{limit}
 use Rattle.laws.proofs.Differences.{of_pos, plus, limited}

@@ -1,12 +1,7 @@
 -- A loop that stores pixels: its invariant is `Stored`, and its steps are `stored_none`, `stored_more`, `stored_over` and `stored_end`.
 -- The hard one is `stored_over`, a last block that overlaps what is stored: it is split where that ends (`pixels_over`), its first part
 -- changes nothing (`pixels_again`), and the rest chains on (`pixels_add`).
-use mathlib.Core.Path.{◌≡◌, refl, sym, ap, ◌∙◌}
-use mathlib.Core.List.{List}
-use Prim.Native.Nat.{ℕ, zero, suc, ◌+◌, ◌-◌, ◌*◌, ◌≤◌, ◌<◌, min}
-use native.Mathlib.Nat.{mul-le-mul_right, le_of_lt}
-use native.Mathlib.Omega.{arith}
-use lib.ListN.{length, get_or}
+use Rattle.std.proofs.Common.{◌≡◌, refl, sym, ap, ◌∙◌, List, ℕ, zero, suc, ◌+◌, ◌-◌, ◌*◌, ◌≤◌, ◌<◌, min, mul-le-mul_right, le_of_lt, arith, length, get_or}
 use lib.Seq.{set-get_or}
 use Rattle.kernels.specs.Kernels.{Colour}
 use Rattle.kernel_blocks.specs.Stores.{pixel, pixels}

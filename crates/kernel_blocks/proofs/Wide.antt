@@ -1,8 +1,5 @@
 -- A rounding adds 1 / 256 for numbers up to 131,070 too: `Mild` of the laws stops at 65,536, which blue passes in studio range.
-use mathlib.Core.Bool.{Bool, true, false}
-use Prim.Native.Nat.{ℕ, ◌+◌, ◌*◌, ◌≤◌, ◌<◌}
-use native.Mathlib.Nat.{mul-le-mul_right, le_of_mul-le-mul_right}
-use native.Mathlib.Omega.{arith}
+use Rattle.std.proofs.Common.{Bool, true, false, ℕ, ◌+◌, ◌*◌, ◌≤◌, ◌<◌, mul-le-mul_right, le_of_mul-le-mul_right, arith}
 use lib.Ieee.{binary32, round}
 use Rattle.laws.specs.Floats.{over, under}
 use Rattle.laws.specs.Inner.Floats.{Close}

@@ -1,5 +1,5 @@
 // Sixteen pixels of the exact kernel at maxval 255, a colour row after the other, so that each loop becomes wide instructions.
-ghost use Rattle.std.specs.Prelude.{◌≡◌, ℕ, ◌<◌, ◌≤◌, pos, get_or};
+ghost use Rattle.std.specs.Prelude.{◌≡◌, ℕ, ◌<◌, pos, get_or};
 ghost use Rattle.std.specs.Float.{nan};
 ghost use Rattle.kernels.specs.Inner.Forms.{plus_chroma};
 ghost use Rattle.kernel_blocks.specs.Inner.Floating.{Centred, Chroma, Multiplier, IsMultiplier, Lowered, Luma, Sure};
@@ -26,16 +26,14 @@ impl Multipliers {
 }
 
 // Inner: luma less the grid's bits, which an offset carries: their sum is then luma and the offset.
-pub fn lower(y: u32) -> i32
-    requires { y ≤ 65535 }
+pub fn lower(y: u16) -> i32
     ensures { Lowered result y }
 {
-    y as i32 - Grid::BITS as i32
+    i32::from(y) - Grid::BITS as i32
 }
 
 // The luma of a block less the grid's bits, once for all three rows.
-fn lowered(y: [u32; Block::LEN]) -> [i32; Block::LEN]
-    requires { ((k : ℕ) → k < Block.LEN → get_or y k 0 ≤ 65535) }
+fn lowered(y: [u16; Block::LEN]) -> [i32; Block::LEN]
     ensures { ((k : ℕ) → k < Block.LEN → Lowered (get_or result k (pos 0)) (get_or y k 0)) }
 {
     from_fn(|i| lower(y[i]))
@@ -88,11 +86,11 @@ fn green_row(y: [i32; Block::LEN], cb: [f32; Block::LEN], cr: [f32; Block::LEN])
 
 // Inner: the red, the green and the blue row of sixteen pixels; chroma in 256ths, less its centre.
 pub fn rgb_block(
-    y: [u32; Block::LEN],
+    y: [u16; Block::LEN],
     cb: [f32; Block::LEN],
     cr: [f32; Block::LEN],
 ) -> [[u8; Block::LEN]; 3]
-    requires { InLimits Block.LEN y cb cr }
+    requires { InLimits Block.LEN cb cr }
     ensures { BlockOf Block.LEN result y cb cr }
 {
     let low = lowered(y);

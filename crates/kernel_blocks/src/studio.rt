@@ -17,7 +17,7 @@ pub struct Studio;
 
 impl Studio {
     // The luma from which every colour is 255, whatever its chroma.
-    pub const TOP: u32 = 511;
+    pub const TOP: u16 = 511;
 
     // 256 * 36 / 219, what luma adds to itself.
     pub const LUMA: f32 = 42.082_191_5;
@@ -36,18 +36,18 @@ impl Studio {
 }
 
 // Inner: luma limited to 511, so that its part is a small number.
-pub fn limit_luma(y: u32) -> u32
+pub fn limit_luma(y: u16) -> u16
     ensures { result ≡ min y 511 }
 {
     if y <= Studio::TOP { y } else { Studio::TOP }
 }
 
 // Inner: what luma adds to itself, by one of the two shifts.
-pub fn luma_part(l: u32, shift: f32) -> f32
+pub fn luma_part(l: u16, shift: f32) -> f32
     requires { l ≤ 511 }
     ensures { result ≡ luma_part shift l }
 {
-    Studio::LUMA * f32::from(l as u16) - shift
+    Studio::LUMA * f32::from(l) - shift
 }
 
 // What red or blue adds to luma, rounded to a whole level and plus the grid's bits. `part` is luma's, and k * x is chroma's.
@@ -68,14 +68,14 @@ pub fn tone_doubt(k: f32, less: f32, more: f32, x: f32) -> u32
 
 // Inner: red or blue of a pixel of luma l, by the float where there is no doubt and else by the plain form. The doubt is that of a row of
 // sixteen, so that one form serves all of it. m is the multiplier k's thousandths in full range.
-pub fn tone_by(k: f32, m: u32, l: u32, less: f32, x: f32, doubt: u32) -> u8
+pub fn tone_by(k: f32, m: u32, l: u16, less: f32, x: f32, doubt: u32) -> u8
     requires { Tone k m × Part less_shift less l × Chroma x × (doubt ≡ 0 → ToneSure k x l) }
     ensures { ToneByte m l x result }
 {
     if doubt == 0 {
         return limit_sum(lower(l), tone_near(k, less, x));
     }
-    studio_chroma(u64::from(m), u64::from(l), u64::from(in_256ths(x)))
+    studio_chroma(u64::from(m), l, u64::from(in_256ths(x)))
 }
 
 // What green adds to luma, rounded to a whole level and plus the grid's bits.
@@ -97,16 +97,12 @@ pub fn fall_doubt(less: f32, more: f32, cb: f32, cr: f32) -> u32
 }
 
 // Inner: green of a pixel, by the float where its row is not in doubt.
-pub fn fall_by(l: u32, less: f32, cb: f32, cr: f32, doubt: u32) -> u8
+pub fn fall_by(l: u16, less: f32, cb: f32, cr: f32, doubt: u32) -> u8
     requires { Part less_shift less l × Chroma cb × Chroma cr × (doubt ≡ 0 → FallSure cb cr l) }
     ensures { FallByte l cb cr result }
 {
     if doubt == 0 {
         return limit_sum(lower(l), fall_near(less, cb, cr));
     }
-    studio_green(
-        u64::from(l),
-        u64::from(in_256ths(cb)),
-        u64::from(in_256ths(cr)),
-    )
+    studio_green(l, u64::from(in_256ths(cb)), u64::from(in_256ths(cr)))
 }

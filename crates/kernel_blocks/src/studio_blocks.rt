@@ -14,14 +14,14 @@ use kernels::Multiplier;
 use std::array::from_fn;
 
 // The luma of a block, limited to 511.
-fn limited(y: [u32; Block::LEN]) -> [u32; Block::LEN]
+fn limited(y: [u16; Block::LEN]) -> [u16; Block::LEN]
     ensures { ((k : ℕ) → k < Block.LEN → get_or result k 0 ≡ min (get_or y k 0) 511) }
 {
     from_fn(|i| limit_luma(y[i]))
 }
 
 // What each luma of a block adds to itself by one of the two shifts. All three rows use it.
-fn parts(l: [u32; Block::LEN], shift: f32) -> [f32; Block::LEN]
+fn parts(l: [u16; Block::LEN], shift: f32) -> [f32; Block::LEN]
     requires { ((k : ℕ) → k < Block.LEN → get_or l k 0 ≤ 511) }
     ensures { ((k : ℕ) → k < Block.LEN → get_or result k nan ≡ luma_part shift (get_or l k 0)) }
 {
@@ -45,7 +45,7 @@ fn tone_doubts(
 fn tone_row(
     k: f32,
     m: u32,
-    l: [u32; Block::LEN],
+    l: [u16; Block::LEN],
     less: [f32; Block::LEN],
     more: [f32; Block::LEN],
     x: [f32; Block::LEN],
@@ -72,7 +72,7 @@ fn fall_doubts(
 
 // The green row of a block, whose doubt decides the form of all sixteen.
 fn fall_row(
-    l: [u32; Block::LEN],
+    l: [u16; Block::LEN],
     less: [f32; Block::LEN],
     more: [f32; Block::LEN],
     cb: [f32; Block::LEN],
@@ -87,11 +87,11 @@ fn fall_row(
 
 // Inner: the red, the green and the blue row of sixteen pixels in studio range; chroma in 256ths, less its centre.
 pub fn studio_block(
-    y: [u32; Block::LEN],
+    y: [u16; Block::LEN],
     cb: [f32; Block::LEN],
     cr: [f32; Block::LEN],
 ) -> [[u8; Block::LEN]; 3]
-    requires { InLimits Block.LEN y cb cr }
+    requires { InLimits Block.LEN cb cr }
     ensures { StudioBlock Block.LEN result y cb cr }
 {
     let l = limited(y);

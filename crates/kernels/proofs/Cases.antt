@@ -1,12 +1,10 @@
 -- Worked cases of the kernels, computed from the definitions.
-use mathlib.Core.Path.{◌≡◌, refl}
-use Prim.Native.Nat.{◌*◌}
+use Rattle.std.proofs.Common.{◌≡◌, refl, ◌*◌, Err}
 use lib.IntN.{pos, negsuc}
 use Rattle.laws.specs.Differences.{floor_div, limit, within}
 use Rattle.laws.specs.Refusals.{first}
 use Rattle.image.specs.declared.layout.Range.TheVariants.{Full, Studio}
 use Rattle.image.specs.Tests.{bad_range}
-use Rattle.std.specs.Prelude.{Err}
 use Rattle.kernels.specs.HalvesUp.{rnd}
 use Rattle.kernels.specs.Kernels.{centred, red_offset, green_offset, blue_offset, exact255, off_centre, exact_at, fixed_red, fixed_green_cb, fixed_green_cr, fixed_blue, fixed255}
 use Rattle.kernels.specs.T871.{t871_spans, studio255}

@@ -1,11 +1,7 @@
 -- Each channel of the exact kernel over natural numbers, as the code computes it; red and blue once, over their multiplier.
 -- A formula below zero too is built as a difference of natural numbers by the laws of Differences, in the formula's own order. The hard step
 -- is `rounded`: the bias goes into the numerator as a multiple of the divisor, so that the floor is a plain quotient.
-use mathlib.Core.Path.{◌≡◌, refl, ◌∙◌}
-use Prim.Native.Nat.{ℕ, ◌+◌, ◌*◌, ◌-◌, ◌/◌, ◌<◌, ◌≤◌, min}
-use native.Mathlib.Nat.{mul-le-mul_left, mul-le-mul_right}
-use native.Mathlib.Omega.{arith}
-use lib.Dec.{lit<}
+use Rattle.std.proofs.Common.{◌≡◌, refl, ◌∙◌, ℕ, ◌+◌, ◌*◌, ◌-◌, ◌/◌, ◌<◌, ◌≤◌, min, mul-le-mul_left, arith, lit<}
 use lib.IntN.{ℤ, pos, ◌+ℤ◌}
 use Rattle.laws.specs.Differences.{limit}
 use Rattle.laws.specs.Inner.Differences.{Diff}

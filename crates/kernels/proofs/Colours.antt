@@ -1,13 +1,7 @@
 -- A colour from its three channels, and what the tests of the single-pixel calls leave.
 -- Equal channels make equal colours, and chroma may be limited first since `centred` limits it anyway (`centred_limited`). That both forms
 -- agree at maxval 255 (`same_255`) is by their quotients of natural numbers, in which 255 cancels.
-use mathlib.Core.Path.{◌≡◌, refl}
-use mathlib.Core.Bool.{◌||◌}
-use Prim.Native.Nat.{ℕ, ◌≤◌, min}
-use native.Mathlib.Omega.{arith}
-use lib.Dec.{ltb}
-use borrow.Author.Tests.{ltb-false}
-use Rattle.std.specs.Prelude.{Ok}
+use Rattle.std.proofs.Common.{◌≡◌, refl, ◌||◌, ℕ, ◌≤◌, min, arith, ltb, ltb-false, Ok}
 use Rattle.laws.specs.Refusals.{first}
 use Rattle.laws.proofs.Refusals.{accepted_failed}
 use Rattle.image.specs.declared.layout.Range.{Range}

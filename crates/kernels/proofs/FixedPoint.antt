@@ -1,8 +1,5 @@
 -- The channels of the fixed kernel over natural numbers, as the code computes them; red and blue once, over their multiplier.
-use mathlib.Core.Path.{◌≡◌, refl, ◌∙◌}
-use Prim.Native.Nat.{ℕ, ◌+◌, ◌*◌, ◌-◌, ◌/◌, ◌<◌, ◌≤◌, min}
-use native.Mathlib.Omega.{arith}
-use lib.Dec.{lit<}
+use Rattle.std.proofs.Common.{◌≡◌, refl, ◌∙◌, ℕ, ◌+◌, ◌*◌, ◌-◌, ◌/◌, ◌<◌, ◌≤◌, min, arith, lit<}
 use Rattle.laws.specs.Inner.Differences.{Diff}
 use Rattle.laws.proofs.Differences.{of_pos, move, plus, neg, minus, times, floored, limited}
 use Rattle.kernels.specs.Kernels.{less128, fixed_green_cb, fixed_green_cr, fixed255}

@@ -1,9 +1,6 @@
 -- "The lowest number that applies is given, and only then", of the single-pixel calls: 13 is given exactly if its test applies and 18 does not.
-use mathlib.Core.Path.{◌≡◌, refl, ap, ◌∙◌}
-use Prim.Native.Nat.{ℕ}
-use native.Mathlib.Omega.{arith}
+use Rattle.std.proofs.Common.{◌≡◌, refl, ap, ◌∙◌, ℕ, arith, Ok, Err}
 use Rattle.laws.specs.Refusals.{Answer, first, place_of, Ascending, Lowest}
-use Rattle.std.specs.Prelude.{Ok, Err}
 use Rattle.laws.proofs.Refusals.{given_lowest}
 use Rattle.image.specs.declared.layout.Range.{Range}
 use Rattle.kernels.specs.Kernels.{Colour, fixed255}

@@ -36,8 +36,8 @@ fn fixed_answer(y: u32, cb: u32, cr: u32) -> Result<(), Refusal>
 
 // The exact kernel's colour in full range.
 #[tactic(auto, unfolding(crate::specs::Pixels::exact_colour))]
-fn full_colour(y: u32, cb256: u32, cr256: u32, maxval: u32) -> Rgb
-    requires { (y ≤ 65535) × (cb256 ≤ 16776960) × (cr256 ≤ 16776960) × (1 ≤ maxval) × (maxval ≤ 65535) }
+fn full_colour(y: u16, cb256: u32, cr256: u32, maxval: u32) -> Rgb
+    requires { (cb256 ≤ 16776960) × (cr256 ≤ 16776960) × (1 ≤ maxval) × (maxval ≤ 65535) }
     ensures { colour_of result ≡ exact_colour maxval y cb256 cr256 }
 {
     if maxval == 255 {
@@ -59,9 +59,10 @@ pub fn ycbcr_frac_to_rgb8(
     ensures { result ≡ exact_pixel range maxval y cb256 cr256 }
 {
     exact_answer(y, cb256, cr256, maxval, range)?;
+    let luma = y as u16;
     Ok(match range {
-        Range::Full => full_colour(y, cb256, cr256, maxval),
-        Range::Studio => ycbcr_frac_to_rgb8_studio(y, cb256, cr256),
+        Range::Full => full_colour(luma, cb256, cr256, maxval),
+        Range::Studio => ycbcr_frac_to_rgb8_studio(luma, cb256, cr256),
     })
 }
 
@@ -71,5 +72,5 @@ pub fn ycbcr_to_rgb8_fixed16(y: u32, cb: u32, cr: u32) -> Result<Rgb, Refusal>
     ensures { result ≡ fixed_pixel y cb cr }
 {
     fixed_answer(y, cb, cr)?;
-    Ok(ycbcr_to_rgb8_fixed(y, cb, cr))
+    Ok(ycbcr_to_rgb8_fixed(y as u16, cb as u16, cr as u16))
 }

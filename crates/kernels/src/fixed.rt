@@ -24,8 +24,8 @@ impl Fixed {
 }
 
 // Red's or blue's offset by its multiplier k, worked out and raised by its bias; 32,768 is the half and 128 the centre of chroma.
-fn raised_offset(k: u64, bias: u32, c: u32) -> u32
-    requires { (k ≤ 116130) × (bias ≤ 227) × (128 * k < 65536 * bias + 32768) × (c ≤ 65535) }
+fn raised_offset(k: u64, bias: u32, c: u16) -> u32
+    requires { (k ≤ 116130) × (bias ≤ 227) × (128 * k < 65536 * bias + 32768) }
     ensures { result ≡ raised_fixed k bias c }
 {
     let n = k * u64::from(c) + (65_536 * u64::from(bias) + 32_768 - 128 * k);
@@ -33,75 +33,69 @@ fn raised_offset(k: u64, bias: u32, c: u32) -> u32
 }
 
 // Whether the tables have an entry for a sample of chroma: they end with 255.
-fn in_tables(c: u32) -> bool
+fn in_tables(c: u16) -> bool
     ensures { result ≡ true → c < 256 }
 {
     c <= 255
 }
 
 // Red's offset by Cr, raised by `Bias::RED`: read from its table where Cr is a byte, worked out above.
-fn red_offset(cr: u32) -> u32
-    requires { cr ≤ 65535 }
+fn red_offset(cr: u16) -> u32
     ensures { result ≡ raised_fixed 91881 180 cr }
 {
     if in_tables(cr) {
-        return red_raised(cr as usize);
+        return red_raised(usize::from(cr));
     }
     raised_offset(Fixed::CR_TO_R, Bias::RED, cr)
 }
 
 // Blue's offset by Cb, raised by `Bias::BLUE`: read from its table where Cb is a byte, worked out above.
-fn blue_offset(cb: u32) -> u32
-    requires { cb ≤ 65535 }
+fn blue_offset(cb: u16) -> u32
     ensures { result ≡ raised_fixed 116130 227 cb }
 {
     if in_tables(cb) {
-        return blue_raised(cb as usize);
+        return blue_raised(usize::from(cb));
     }
     raised_offset(Fixed::CB_TO_B, Bias::BLUE, cb)
 }
 
 // Green's part by Cb, raised by 65,536 * 22,511, so that no chroma of sixteen bits takes it below 0: read where Cb is a byte, worked out
 // above. An entry comes raised by 44 of the 22,511, so that 65,536 * 22,467 are missing; 1,478,167,808 has the centre 128 * 22,554 in it.
-fn green_cb_part(cb: u32) -> u64
-    requires { cb ≤ 65535 }
+fn green_cb_part(cb: u16) -> u64
     ensures { result ≡ 1478167808 - 22554 * cb }
 {
     if in_tables(cb) {
-        return u64::from(green_cb_raised(cb as usize)) + 1_472_397_312;
+        return u64::from(green_cb_raised(usize::from(cb))) + 1_472_397_312;
     }
     1_478_167_808 - Fixed::CB_TO_G * u64::from(cb)
 }
 
 // Green's part by Cr, raised by 65,536 * 46,845: read where Cr is a byte, worked out above. An entry comes raised by 91 of the 46,845, so
 // that 65,536 * 46,754 are missing; 3,076,057,344 has the half and the centre 128 * 46,802 in it.
-fn green_cr_part(cr: u32) -> u64
-    requires { cr ≤ 65535 }
+fn green_cr_part(cr: u16) -> u64
     ensures { result ≡ 3076057344 - 46802 * cr }
 {
     if in_tables(cr) {
-        return u64::from(green_cr_raised(cr as usize)) + 3_064_070_144;
+        return u64::from(green_cr_raised(usize::from(cr))) + 3_064_070_144;
     }
     3_076_057_344 - Fixed::CR_TO_G * u64::from(cr)
 }
 
 // Green, whose two parts are summed before the shift. Their biases make 65,536 * 69,356.
-fn fixed_green(y: u32, cb: u32, cr: u32) -> u8
-    requires { (y ≤ 65535) × (cb ≤ 65535) × (cr ≤ 65535) }
+fn fixed_green(y: u16, cb: u16, cr: u16) -> u8
     ensures { result ≡ (fixed255 y cb cr).green }
 {
     let n = green_cb_part(cb) + green_cr_part(cr);
-    limit8(y + (n >> 16) as u32, 69_356)
+    limit8(u32::from(y) + (n >> 16) as u32, 69_356)
 }
 
 // Inner: the fixed kernel, which is for maxval 255, on whole chroma.
-pub fn ycbcr_to_rgb8_fixed(y: u32, cb: u32, cr: u32) -> Rgb
-    requires { (y ≤ 65535) × (cb ≤ 65535) × (cr ≤ 65535) }
+pub fn ycbcr_to_rgb8_fixed(y: u16, cb: u16, cr: u16) -> Rgb
     ensures { colour_of result ≡ fixed255 y cb cr }
 {
     Rgb {
-        r: limit8(y + red_offset(cr), Bias::RED),
+        r: limit8(u32::from(y) + red_offset(cr), Bias::RED),
         g: fixed_green(y, cb, cr),
-        b: limit8(y + blue_offset(cb), Bias::BLUE),
+        b: limit8(u32::from(y) + blue_offset(cb), Bias::BLUE),
     }
 }

@@ -1,17 +1,9 @@
 -- What an input that is read has: a layout that passes refusals 2 to 5, and three planes whose rows lie inside the input (`Taken`).
 -- None of the reading's tests applied, so each image lies inside (`image_inside`) and each ratio fits (`ratio_fits`). The step that is
 -- in no test is that Cr's rows end inside by Cb's sides: both chroma images fit the same ratio (`same_sides`) and have the same maxval.
-use mathlib.Core.Path.{ap, ◌≡◌, refl, sym, ◌∙◌}
-use mathlib.Core.Bool.{Bool, true, false, ◌&&◌, ◌||◌, not, cond}
-use mathlib.Core.List.{List, ◌++◌}
-use Prim.Native.Nat.{ℕ, ◌+◌, ◌*◌, ◌≤◌}
-use native.Mathlib.Nat.{mul-one}
-use native.Mathlib.Omega.{arith}
-use lib.Dec.{ltb, eqb}
-use lib.ListN.{length}
-use borrow.Author.Tests.{ltb-false, le-ltb, eq-eqb, eqb-false}
+use Rattle.std.proofs.Common.{ap, ◌≡◌, refl, sym, ◌∙◌, Bool, true, false, ◌&&◌, ◌||◌, not, cond, List, ◌++◌, ℕ, ◌+◌, ◌*◌, ◌≤◌, mul-one, arith, ltb, eqb, length, ltb-false, le-ltb, eq-eqb, Ok, Err, Result}
+use borrow.Author.Tests.{eqb-false}
 use Rattle.laws.specs.Refusals.{Answer, first}
-use Rattle.std.specs.Prelude.{Ok, Err, Result}
 use Rattle.laws.specs.Numbers.{outside_of}
 use Rattle.laws.proofs.Refusals.{Failed, accepted_failed, failed_accepted, failed_both}
 use Rattle.image.specs.declared.layout.Layout.{Layout}

@@ -2,13 +2,9 @@
 -- A number depends on the bytes from where it is looked for on, so three cases are enough: it ends in front of the run (`front_field`),
 -- the run is in its whitespace (`here_field`), or it stands behind (`behind_field`). The hard one is the first, since digits and whitespace
 -- end at the run only because both inputs have whitespace there (`spaces_front`, `leading_front` of Comments).
-use mathlib.Core.Path.{◌≡◌, refl, sym, ap, ◌∙◌}
-use mathlib.Core.Bool.{Bool, true, false, ◌&&◌}
-use mathlib.Core.List.{List, [], ◌∷◌, ◌++◌, append_assoc}
-use Prim.Native.Nat.{ℕ, ◌+◌, ◌≤◌, ◌<◌}
-use native.Mathlib.Omega.{arith}
-use lib.ListN.{length, get_or, take, drop, length-append, length-drop, get_or-append}
-use lib.Seq.{take-append-le, drop-append-le, drop-append-add, get_or-append-add, get_or-drop, drop-drop}
+use Rattle.std.proofs.Common.{◌≡◌, refl, sym, ap, ◌∙◌, Bool, true, false, ◌&&◌, List, [], ◌∷◌, ◌++◌, append_assoc, ℕ, ◌+◌, ◌≤◌, ◌<◌, arith, length, get_or, take, drop, length-append, length-drop, get_or-append-add, get_or-drop, drop-drop}
+use lib.ListN.{get_or-append}
+use lib.Seq.{take-append-le, drop-append-le, drop-append-add}
 use Rattle.netpbm.specs.Ascii.{is_digit}
 use Rattle.netpbm.specs.Bytes.{leading, is_space, spaces, decimal_of, has_space, has_digit, digits_at, past_spaces, past_digits, number_at}
 use Rattle.netpbm.specs.Images.{has_number, field_of, field_end}

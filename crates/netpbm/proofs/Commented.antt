@@ -2,16 +2,7 @@
 -- Image by image: one that ends in front of the place is read from the same bytes (`image_front`), one that holds it has the same numbers
 -- and is followed by the same bytes (`image_here`), and one behind it is read from the same bytes at another place (`image_behind_is`). The
 -- step that is no computation is the first one's test for missing rows: what is left of the two inputs differs, and is enough in both.
-use mathlib.Core.Path.{◌≡◌, refl, sym, ap, subst, ◌∙◌}
-use mathlib.Core.Logic.{inl, inr}
-use mathlib.Core.Bool.{Bool, true, false}
-use mathlib.Core.List.{List, [], ◌∷◌, ◌++◌, append_assoc}
-use Prim.Native.Nat.{ℕ, suc, ◌+◌, ◌-◌, ◌≤◌, ◌<◌}
-use native.Mathlib.Omega.{arith}
-use lib.Dec.{ltb}
-use lib.ListN.{length, get_or, drop, length-append, length-drop}
-use lib.Seq.{get_or-drop, drop-drop}
-use borrow.Author.Tests.{ltb-true, ltb-false, lt-ltb, le-ltb}
+use Rattle.std.proofs.Common.{◌≡◌, refl, sym, ap, subst, ◌∙◌, inl, inr, Bool, true, false, List, [], ◌∷◌, ◌++◌, append_assoc, ℕ, suc, ◌+◌, ◌-◌, ◌≤◌, ◌<◌, arith, ltb, length, get_or, drop, length-append, length-drop, get_or-drop, drop-drop, ltb-true, ltb-false, lt-ltb, le-ltb}
 use Rattle.laws.specs.Refusals.{first}
 use Rattle.netpbm.specs.Ascii.{is_blank}
 use Rattle.netpbm.specs.Bytes.{has_blank}

@@ -1,13 +1,7 @@
 -- Laws of whitespace with comments. A run is whitespace to its end and leaves no comment open (`all_space`): then what stands behind it is
 -- counted on as if it stood alone (`spaces_append`). That a comment is such a run goes by induction on its text (`text_all`).
-use mathlib.Core.Path.{◌≡◌, refl, ap}
-use mathlib.Core.Bool.{Bool, true, false, ◌||◌, not, cond}
-use mathlib.Core.List.{List, [], ◌∷◌, ◌++◌}
-use Prim.Native.Nat.{ℕ, zero, suc, ◌+◌, ◌≤◌}
-use native.Mathlib.Omega.{arith}
-use lib.Dec.{eqb}
-use lib.ListN.{length, get_or, length-append}
-use borrow.Author.Tests.{not-true, eqb-true, ne_eqb, lt-leb}
+use Rattle.std.proofs.Common.{◌≡◌, refl, ap, Bool, true, false, ◌||◌, not, cond, List, [], ◌∷◌, ◌++◌, ℕ, zero, suc, ◌+◌, ◌≤◌, arith, eqb, length, get_or, length-append, eqb-true, ne_eqb}
+use borrow.Author.Tests.{not-true, lt-leb}
 use Rattle.netpbm.specs.Ascii.{is_blank, is_mark, ends_comment, is_digit}
 use Rattle.netpbm.specs.Bytes.{leading, in_comment, is_space, spaces}
 use Rattle.netpbm.specs.Comments.{all_space}

@@ -1,15 +1,7 @@
 -- The digits of a number by how many there are, and that they are the number's.
 -- Spelled out they follow by unfolding up to four times. Read back they are the number by induction on how many there are: a digit more
 -- at the end is ten times the number and the digit (`decimal_last`), and the number's tenth has one digit less (`shorter`).
-use mathlib.Core.Path.{◌≡◌, refl}
-use mathlib.Core.Bool.{Bool, true, false, cond}
-use mathlib.Core.List.{List, [], ◌∷◌, ◌++◌}
-use Prim.Native.Nat.{ℕ, zero, suc, ◌+◌, ◌-◌, ◌*◌, ◌/◌, ◌%◌, ◌^◌, ◌≤◌, ◌<◌}
-use native.Mathlib.Nat.{div-lt_iff_lt-mul, pow-suc}
-use native.Mathlib.Omega.{arith}
-use lib.Dec.{ltb}
-use lib.ListN.{length, get_or, length-append}
-use borrow.Author.Tests.{ltb-true, ltb-false, lt-ltb, le-ltb}
+use Rattle.std.proofs.Common.{◌≡◌, refl, Bool, true, false, cond, List, [], ◌∷◌, ◌++◌, ℕ, zero, suc, ◌+◌, ◌-◌, ◌*◌, ◌/◌, ◌%◌, ◌^◌, ◌≤◌, ◌<◌, div-lt_iff_lt-mul, pow-suc, arith, ltb, length, get_or, length-append, ltb-true, ltb-false, lt-ltb, le-ltb}
 use Rattle.netpbm.specs.Bytes.{decimal_of}
 use Rattle.netpbm.specs.Lines.{digits, digits_of, ppm_header, refusal_line}
 

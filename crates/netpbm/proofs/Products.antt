@@ -1,14 +1,8 @@
 -- Why sides may be held as 65,536 at most: no product within the input's limit changes, and none past it comes back.
 -- A factor is no more than the product unless the other is 0 (`factor`), so within 49,152 both factors are held as they are (`kept`).
 -- Past it, a factor that is held as 65,536, times one that is not 0, is still past it (`passes`).
-use mathlib.Core.Path.{◌≡◌, refl, sym, ap, ◌∙◌}
-use mathlib.Core.Logic.{inl, inr}
-use mathlib.Core.Bool.{Bool, true, false, cond}
-use Prim.Native.Nat.{ℕ, ◌*◌, ◌≤◌, ◌<◌}
-use native.Mathlib.Nat.{eq-zero-or-pos, mul-zero, zero-mul, mul-le-mul_left, mul-le-mul_right}
-use native.Mathlib.Omega.{arith}
-use lib.Dec.{leb, ltb, eqb}
-use borrow.Author.Tests.{leb-true, leb-false, ltb-true, ltb-false, lt-ltb, le-ltb, eq-eqb, ne_eqb, eqb-true, eqb-false}
+use Rattle.std.proofs.Common.{◌≡◌, refl, sym, ap, ◌∙◌, inl, inr, Bool, true, false, cond, ℕ, ◌*◌, ◌≤◌, ◌<◌, eq-zero-or-pos, mul-zero, zero-mul, mul-le-mul_left, mul-le-mul_right, arith, leb, ltb, eqb, leb-true, leb-false, ltb-true, ltb-false, lt-ltb, le-ltb, eq-eqb, ne_eqb, eqb-true}
+use borrow.Author.Tests.{eqb-false}
 use Rattle.netpbm.specs.Images.{sample_bytes}
 use Rattle.netpbm.specs.Inner.Held.{held, other_maxval}
 

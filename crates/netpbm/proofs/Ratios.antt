@@ -1,13 +1,7 @@
 -- The smallest ratio that fits: what the loop has tried, what a ratio that was found says, and why held sides find the same one.
 -- The loop unfolds `smallest` once a turn (`try_one`). Sides as they are held find the same ratio because no cell count of a side of
 -- 8,192 pixels comes near 65,536, where numbers stop being held as they are (`fits_held`).
-use mathlib.Core.Path.{◌≡◌, refl, sym, ap, ◌∙◌}
-use mathlib.Core.Bool.{Bool, true, false, ◌&&◌, cond}
-use Prim.Native.Nat.{ℕ, zero, suc, ◌+◌, ◌-◌, ◌≤◌, ◌<◌}
-use native.Mathlib.Numerals.{add-one}
-use native.Mathlib.Omega.{arith}
-use lib.Dec.{eqb}
-use borrow.Author.Tests.{eqb-true}
+use Rattle.std.proofs.Common.{◌≡◌, refl, sym, ap, ◌∙◌, Bool, true, false, ◌&&◌, cond, ℕ, zero, suc, ◌+◌, ◌-◌, ◌≤◌, ◌<◌, add-one, arith, eqb, eqb-true}
 use Rattle.image.specs.Tests.{div_ceil}
 use Rattle.image.proofs.Quotients.{ceil_most}
 use Rattle.netpbm.specs.Reading.{fits_both, smallest, ratio_for}

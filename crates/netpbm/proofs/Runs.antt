@@ -1,19 +1,12 @@
 -- Laws of the entries at the front that pass a test: one more, none, and how many there can be.
 -- They are proved once for every test that 0 doesn't pass, since `get_or` gives 0 past the end: so what passes stands inside, and a run
 -- ends inside too. Whitespace, digits and the magic are their uses. Whitespace with its comments has the same laws by a state more.
-use mathlib.Core.Path.{◌≡◌, refl, sym, ap, ◌∙◌}
-use mathlib.Core.Bool.{Bool, true, false, ◌&&◌, cond}
-use mathlib.Core.List.{List, [], ◌∷◌}
-use Prim.Native.Nat.{ℕ, suc, ◌+◌, ◌-◌, max, ◌≤◌, ◌<◌}
-use native.Mathlib.Numerals.{add-one}
-use native.Mathlib.Omega.{arith}
-use lib.Dec.{leb, ltb, eqb}
-use lib.ListN.{length, get_or, take, drop, length-drop, drop_of_length-le, get_or-eq_default}
+use Rattle.std.proofs.Common.{◌≡◌, refl, sym, ap, ◌∙◌, Bool, true, false, ◌&&◌, cond, List, [], ◌∷◌, ℕ, suc, ◌+◌, ◌-◌, max, ◌≤◌, ◌<◌, add-one, arith, leb, ltb, eqb, length, get_or, take, drop, length-drop, drop_of_length-le, drop-cons, ltb-true, ltb-false, leb-true, lt-ltb, le-ltb}
+use lib.ListN.{get_or-eq_default}
 use lib.Pointwise.{pointwise}
-use lib.Seq.{drop-cons, take-length}
+use lib.Seq.{take-length}
 use Rattle.std.proofs.lemmas.Bool.Decides.{nat_tests}
 use Rattle.std.proofs.lemmas.List.{get_or-drop}
-use borrow.Author.Tests.{ltb-true, ltb-false, leb-true, lt-ltb, le-ltb}
 use Rattle.netpbm.specs.Ascii.{is_blank, is_digit}
 use Rattle.netpbm.specs.Bytes.{leading, in_comment, is_space, spaces, has_blank, has_space, has_digit, digits_at, past_spaces, past_digits}
 use Rattle.netpbm.specs.Images.{has_magic}

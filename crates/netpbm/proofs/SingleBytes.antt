@@ -1,13 +1,7 @@
 -- An input of maxval 255 is read as it was before there were other maxvals: a sample is the byte that stands there, the rows have as many bytes
 -- as samples, and another maxval behind it is 14. The definitions compute, but for the test, which is looked at in both ways.
-use mathlib.Core.Path.{◌≡◌, refl, ap, ◌∙◌}
-use mathlib.Core.Bool.{Bool, true, false, ◌||◌, not}
-use mathlib.Core.List.{List}
-use Prim.Native.Nat.{ℕ, ◌+◌, ◌*◌}
-use native.Mathlib.Omega.{arith}
-use lib.Dec.{eqb}
-use lib.ListN.{get_or}
-use borrow.Author.Tests.{eqb-true, eqb-false, ne_eqb}
+use Rattle.std.proofs.Common.{◌≡◌, refl, ap, ◌∙◌, Bool, true, false, ◌||◌, not, List, ℕ, ◌+◌, ◌*◌, arith, eqb, get_or, eqb-true, ne_eqb}
+use borrow.Author.Tests.{eqb-false}
 use Rattle.laws.specs.Numbers.{outside_of}
 use Rattle.netpbm.specs.Bytes.{big_of}
 use Rattle.netpbm.specs.Images.{width_of, height_of, maxval_of, rows_at, sample_bytes, row_bytes, image_sample, bad_maxval}

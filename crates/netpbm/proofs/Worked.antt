@@ -1,10 +1,6 @@
 -- Worked examples of the definitions: document 01's picture, the table's examples of 14 and 15, headers with comments, two-byte samples and their
 -- maxvals, and the lines that are written.
-use mathlib.Core.Path.{◌≡◌, refl}
-use mathlib.Core.Logic.{inl, inr}
-use mathlib.Core.List.{List, [], ◌∷◌, ◌++◌}
-use Prim.Native.Nat.{ℕ}
-use native.Mathlib.Omega.{arith}
+use Rattle.std.proofs.Common.{◌≡◌, refl, inl, inr, List, [], ◌∷◌, ◌++◌, ℕ, arith, Err}
 use Rattle.image.specs.declared.layout.Range.TheVariants.{Full}
 use Rattle.laws.specs.Axes.{plain}
 use Rattle.laws.specs.Refusals.{first}
@@ -16,7 +12,6 @@ use Rattle.netpbm.specs.Comments.{all_space, BeforeNumber, InHeader, Commented}
 use Rattle.netpbm.specs.Inner.Reading.{read_as, reading_of}
 use Rattle.netpbm.specs.Lines.{digits, digits_of, ppm_header, refusal_line}
 use Rattle.laws.specs.declared.refusal.Refusal.TheVariants.{BadHeader, TooLarge}
-use Rattle.std.specs.Prelude.{Err}
 
 -- `P5 1 1 255`, newline
 abbrev header : List ℕ

@@ -1,13 +1,8 @@
 -- Lines: texts put one behind the other.
 -- `line_written` carries every line: texts written one behind the other from the empty line on are held as one. The one step is `push_line`,
 -- where the byte that is set at the end takes the place of the first of the zeros that fill up the array.
-use mathlib.Core.Path.{◌≡◌, refl, sym, ap, ◌∙◌}
-use mathlib.Core.List.{List, [], ◌∷◌, ◌++◌, append_assoc, append-nil}
-use Prim.Native.Nat.{ℕ, suc, ◌+◌, ◌-◌, ◌≤◌, ◌<◌}
-use native.Mathlib.Numerals.{add-one}
-use native.Mathlib.Omega.{arith}
-use lib.ListN.{length, get_or, set, drop, replicate, length-append, drop_of_length-le}
-use lib.Seq.{drop-cons, set-append_seam}
+use Rattle.std.proofs.Common.{◌≡◌, refl, sym, ap, ◌∙◌, List, [], ◌∷◌, ◌++◌, append_assoc, append-nil, ℕ, suc, ◌+◌, ◌-◌, ◌≤◌, ◌<◌, add-one, arith, length, get_or, set, drop, replicate, length-append, drop_of_length-le, drop-cons}
+use lib.Seq.{set-append_seam}
 use Rattle.netpbm.specs.declared.lines.Line.{Line}
 use Rattle.netpbm.specs.Texts.{line_of}
 use Rattle.netpbm.specs.Inner.Texts.{pushed, written, Put}

@@ -1,8 +1,8 @@
 // One PGM image of the input: its header, the first thing that is wrong with it, and where its rows stand.
-ghost use Rattle.std.specs.Prelude.{◌≡◌, true, ◌-◌, ◌≤◌, ltb, length};
-ghost use Rattle.laws.specs.Refusals.{first, accepted};
+ghost use Rattle.std.specs.Prelude.{◌≡◌, ◌-◌, ◌≤◌, ltb, length};
+ghost use Rattle.laws.specs.Refusals.{first};
 ghost use Rattle.netpbm.specs.Images.{maxval_of, sample_bytes};
-ghost use Rattle.netpbm.specs.Inner.Held.{held, field_held, header_held, rows_held, other_maxval, held_tests, image_held, image_behind};
+ghost use Rattle.netpbm.specs.Inner.Held.{held, field_held, header_held, rows_held, other_maxval, held_tests, image_held};
 
 use crate::scan::{blank_at, digit_at, magic_at, number_at, skip_spaces, space_at};
 use laws::Refusal;
@@ -24,10 +24,9 @@ pub struct Header {
     pub maxval: Field,
 }
 
-// An image: the answer to it, its sides, its maxval, and where its rows begin and end. Where it was turned down, its numbers mean nothing.
+// An image that nothing is wrong with: its sides, its maxval, and where its rows begin and end.
 #[derive(Clone, Copy)]
 pub struct Image {
-    pub answer: Result<(), Refusal>,
     pub w: usize,
     pub h: usize,
     pub maxval: usize,
@@ -133,29 +132,30 @@ fn image_answer(input: &[u8], at: usize, header: Header, wanted: usize) -> Resul
     ])
 }
 
-// The image whose magic stands at `at` and whose header this is, with the answer to it. The maxval that is wanted is the first image's.
-fn image_with(input: &[u8], at: usize, header: Header, wanted: usize) -> Image
+// The image whose magic stands at `at` and whose header this is, or what is wrong with it. The maxval that is wanted is the first image's.
+#[tactic(auto, using(crate::proofs::Fields::limits, crate::proofs::Fields::image_of))]
+fn image_with(input: &[u8], at: usize, header: Header, wanted: usize) -> Result<Image, Refusal>
     requires input_len_bound { (length input.now ≤ 49152) × (at ≤ length input.now) }
     requires header_value { (header ≡ header_held input.now at) × (wanted ≡ held (maxval_of input.now 0)) }
     ensures { result ≡ image_held input.now at }
 {
+    image_answer(input, at, header, wanted)?;
     let width = header.width;
     let height = header.height;
     let maxval = header.maxval;
-    let answer = image_answer(input, at, header, wanted);
     let rows = maxval.end + 1;
-    Image {
-        answer,
+    Ok(Image {
         w: width.value,
         h: height.value,
         maxval: maxval.value,
         rows,
         end: rows + row_bytes(header),
-    }
+    })
 }
 
-// Inner: the input's first image, with the answer to it. Its maxval is the one that it is held to.
-pub fn first_image(input: &[u8]) -> Image
+// Inner: the input's first image, or what is wrong with it. Its maxval is the one that it is held to.
+#[tactic(auto, using(crate::proofs::Fields::maxval_held))]
+pub fn first_image(input: &[u8]) -> Result<Image, Refusal>
     requires { length input.now ≤ 49152 }
     ensures { result ≡ image_held input.now 0 }
 {
@@ -164,17 +164,12 @@ pub fn first_image(input: &[u8]) -> Image
     image_with(input, 0, header, maxval.value)
 }
 
-// Inner: the image that begins where another ends, held to that one's maxval. Where that other one was turned down it is given again, so that
-// the answer to the last of three images is the first refusal of all three.
-#[tactic(auto, unfolding(crate::specs::Inner::Held::image_behind))]
-pub fn image_after(input: &[u8], before: Image) -> Image
-    requires input_len_bound { length input.now ≤ 49152 }
-    requires end_in_bounds { accepted before.answer ≡ true → (before.end ≤ length input.now) × (before.maxval ≡ held (maxval_of input.now 0)) }
-    ensures { result ≡ image_behind input.now before }
+// Inner: the image that begins where another ends, or what is wrong with it. It is held to that one's maxval, which is the first image's.
+pub fn image_after(input: &[u8], before: Image) -> Result<Image, Refusal>
+    requires end_in_bounds { (length input.now ≤ 49152) × (before.end ≤ length input.now) }
+    requires maxval_value { before.maxval ≡ held (maxval_of input.now 0) }
+    ensures { result ≡ image_held input.now before.end }
 {
-    if before.answer.is_err() {
-        return before;
-    }
     let at = before.end;
     image_with(input, at, header_at(input, at), before.maxval)
 }

@@ -15,6 +15,7 @@ use laws::Refusal;
 use reconstruction::Rectangle;
 use std::io;
 use std::io::Print;
+use test_support::Shape;
 
 // A line's rectangle.
 fn rectangle(text: &[u8]) -> Rectangle {
@@ -183,11 +184,11 @@ fn bytes(text: &[u8], k: usize, spelling: &[u8]) -> [u8; 65_536]
     requires { k < 100 }
 {
     let len = test_support::word(text, k);
-    let shape = test_support::word(text, k + 2);
-    if shape == 3 {
-        return test_support::spelled_plane(len, spelling, 0);
+    let seed = test_support::word(text, k + 1);
+    match test_support::word(text, k + 2) {
+        3 => test_support::spelled_plane(len, spelling, 0),
+        shape => test_support::grown(len, seed, Shape::from(shape)),
     }
-    test_support::grown(len, test_support::word(text, k + 1), shape)
 }
 
 // Makes a line's call with the picture and the chart that the line speaks of.

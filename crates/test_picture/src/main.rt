@@ -9,6 +9,7 @@ ghost use Rattle.std.specs.Prelude.{◌≤◌, length, IfOk};
 use laws::Refusal;
 use std::io;
 use std::io::{Print, Read};
+use test_support::Shape;
 
 // Scratch before the first call, not-a-number throughout, as long as the program's own: `SCRATCH` of ycbcrtoppm, 32 · 128 + 8 · 128.
 fn scratch() -> [f32; 5_120] {
@@ -35,7 +36,7 @@ fn copied(source: &[u8], from: usize, to: usize, room: &mut [u8]) -> usize
 }
 
 // Puts `count` bytes by `test_support::grow` to the front of a room; gives how many there was room for.
-fn grown(count: usize, seed: usize, shape: usize, room: &mut [u8]) -> usize
+fn grown(count: usize, seed: usize, shape: Shape, room: &mut [u8]) -> usize
     ensures { result ≤ length room.new }
 {
     let n = count.min(room.len());
@@ -63,8 +64,8 @@ fn put_piece(text: &[u8], base: &[u8], room: &mut [u8]) -> usize
     let b = test_support::word(text, 1);
     match test_support::byte(text, 0) {
         b'b' => copied(base, a, b, room),
-        b'g' => grown(a, b, 0, room),
-        b'r' => grown(a, 0, 256 + b, room),
+        b'g' => grown(a, b, Shape::Wide, room),
+        b'r' => grown(a, 0, Shape::Flat((b % 256) as u8), room),
         _ => spelled(text, room),
     }
 }

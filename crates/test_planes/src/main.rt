@@ -13,6 +13,7 @@ use image::Plane;
 use laws::Refusal;
 use std::io;
 use std::io::Print;
+use test_support::Shape;
 
 // Scratch that holds one value throughout, so that the sum shows a call that writes where it may not.
 fn marked() -> [f32; 200_000] {
@@ -54,7 +55,12 @@ fn drawn(text: &[u8], n: usize, seed: usize) -> [u8; 65_536]
         let most = test_support::long(text, 7) as u32;
         return test_support::grown_held(n, seed, test_support::size(text, 6), most);
     }
-    test_support::grown(n, seed, if letter == b'e' { 5 } else { 0 })
+    let shape = if letter == b'e' {
+        Shape::Ends
+    } else {
+        Shape::Wide
+    };
+    test_support::grown(n, seed, shape)
 }
 
 // The answer to a guided plane. The plane that isn't the line's, luma but for kind `y`, is the same 20,000 bytes for all lines of its kind and

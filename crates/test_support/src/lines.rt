@@ -26,7 +26,8 @@ fn ratio(text: &[u8], k: usize) -> usize
     }
 }
 
-// Inner: the siting in word k of a line, as C has it: the first digit where the kind is a capital, and else 0.
+// Inner: the siting in word k of a line, as C has it: the first digit where the kind is a capital, and else 0. It is a number, since C's
+// calls are handed digits too that stand for no siting.
 pub fn siting(text: &[u8], k: usize) -> u32
     requires { k < 999 }
 {
@@ -48,16 +49,21 @@ pub fn numerator(text: &[u8], k: usize) -> usize
     }
 }
 
+// The siting that a number stands for: 1 is co-sited.
+fn siting_of(n: u32) -> Siting {
+    if n == 1 {
+        Siting::CoSited
+    } else {
+        Siting::Centred
+    }
+}
+
 // The axis whose siting and numerator are in word k of a line.
 fn axis(text: &[u8], k: usize) -> Axis
     requires { k < 999 }
 {
     Axis {
-        siting: if siting(text, k) == 1 {
-            Siting::CoSited
-        } else {
-            Siting::Centred
-        },
+        siting: siting_of(siting(text, k)),
         num: numerator(text, k),
     }
 }
@@ -71,7 +77,8 @@ fn sample_bytes(text: &[u8]) -> usize {
     }
 }
 
-// Inner: the range of a line's layout, as C has it: the first digit of the sample bytes' word where the kind is a capital, and else 0.
+// Inner: the range of a line's layout, as C has it: the first digit of the sample bytes' word where the kind is a capital, and else 0. It is
+// a number, since C's calls are handed digits too that stand for no range.
 pub fn range(text: &[u8]) -> u32 {
     if capital(text) {
         (word(text, 6) / 4_096) as u32

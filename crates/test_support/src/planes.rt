@@ -22,9 +22,9 @@ fn end_byte(state: u32, i: usize) -> u8 {
     }
 }
 
-// What bytes a plane has that is grown.
+// Inner: what bytes a plane has that is grown.
 #[derive(Clone, Copy)]
-enum Shape {
+pub enum Shape {
     // All values, from the state's upper eight bits.
     Wide,
     // The sixteen smallest values, from the state's upper four bits.
@@ -74,8 +74,7 @@ fn grow_by<F: Fn(u32, usize) -> u8>(plane: &mut [u8], seed: usize, byte: F)
 }
 
 // Inner: fills a plane with bytes of a shape, from the generator's states behind a seed.
-pub fn grow(plane: &mut [u8], seed: usize, shape: usize) {
-    let shape = Shape::from(shape);
+pub fn grow(plane: &mut [u8], seed: usize, shape: Shape) {
     grow_by(plane, seed, |state, i| shaped(state, shape, i));
 }
 
@@ -87,7 +86,7 @@ pub fn large_buffer() -> [u8; 65_536]
 }
 
 // Inner: a plane of n bytes at the front of a buffer of 65,536, which has room for as many as a word of four hex digits can say.
-pub fn grown(n: usize, seed: usize, shape: usize) -> [u8; 65_536]
+pub fn grown(n: usize, seed: usize, shape: Shape) -> [u8; 65_536]
     requires { n < 65536 }
 {
     let mut plane = large_buffer();
@@ -163,16 +162,12 @@ fn plane(text: &[u8], spelling: &[u8], k: usize) -> [u8; 65_536]
     requires { k < 3 }
 {
     let n = word(text, 12 + k);
-    let shape = word(text, 16 + k);
-    if shape == 3 {
-        return spelled_plane(n, spelling, start(text, k));
-    }
     let seed = word(text, 15) + k;
-    if shape == 6 {
-        let most = long(text, 7) as u32;
-        return grown_held(n, seed, size(text, 6), most);
+    match word(text, 16 + k) {
+        3 => spelled_plane(n, spelling, start(text, k)),
+        6 => grown_held(n, seed, size(text, 6), long(text, 7) as u32),
+        shape => grown(n, seed, Shape::from(shape)),
     }
-    grown(n, seed, shape)
 }
 
 // Inner: the plane whose n bytes stand at the front of a buffer.

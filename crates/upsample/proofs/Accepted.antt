@@ -1,13 +1,6 @@
 -- What a call that was accepted has been handed: sizes, the three kinds of ratios, and where its rows lie.
 -- The kinds are test 6 taken apart by cases over its comparisons: all but the wanted one compute to a contradiction. The rest is quotients.
-use mathlib.Core.Path.{◌≡◌, refl}
-use mathlib.Core.Bool.{Bool, true, false, ◌&&◌, ◌||◌, not}
-use Prim.Native.Nat.{ℕ, ◌+◌, ◌*◌, ◌/◌, ◌≤◌, ◌<◌}
-use native.Mathlib.Omega.{arith}
-use lib.Dec.{leb, eqb}
-use lib.ListN.{length}
-use borrow.Author.Tests.{ltb-false, leb-false, eqb-true, ne_eqb}
-use Rattle.std.specs.Prelude.{Ok}
+use Rattle.std.proofs.Common.{◌≡◌, refl, Bool, true, false, ◌&&◌, ◌||◌, not, ℕ, ◌+◌, ◌*◌, ◌/◌, ◌≤◌, ◌<◌, arith, leb, eqb, length, ltb-false, leb-false, eqb-true, ne_eqb, Ok}
 use Rattle.laws.specs.Refusals.{first}
 use Rattle.laws.proofs.Refusals.{accepted_failed, failed_both}
 use Rattle.laws.proofs.Rows.{row_fits}

@@ -1,9 +1,5 @@
 -- Laws of one axis of n cells c: what cell i, the one before it and the one after it give at outputs 2i and 2i + 1, edges repeated.
-use mathlib.Core.Path.{◌≡◌, refl}
-use mathlib.Core.Bool.{Bool, true, false, cond}
-use Prim.Native.Nat.{ℕ, ◌+◌, ◌-◌, ◌*◌, ◌/◌, ◌%◌, min}
-use native.Mathlib.Omega.{arith}
-use borrow.Author.Tests.{eq-eqb, ne_eqb}
+use Rattle.std.proofs.Common.{◌≡◌, refl, Bool, true, false, cond, ℕ, ◌+◌, ◌-◌, ◌*◌, ◌/◌, ◌%◌, min, arith, eq-eqb, ne_eqb}
 use Rattle.upsample.specs.Weights.{even, far, weighed, one_axis}
 use Rattle.upsample.specs.Inner.Pairs.{across_row}
 use Rattle.upsample.specs.declared.axes.Bias.{Bias}

@@ -1,8 +1,5 @@
 -- "The lowest number that applies is given, and only then": the list of `triangular_plane` stands in the table's order, so its answer is the lowest.
-use mathlib.Core.List.{List}
-use Prim.Native.Nat.{ℕ}
-use native.Mathlib.Omega.{arith}
-use lib.ListN.{length}
+use Rattle.std.proofs.Common.{List, ℕ, arith, length}
 use Rattle.laws.specs.Refusals.{Answer, place_of, Ascending, Lowest}
 use Rattle.laws.proofs.Refusals.{given_lowest}
 use Rattle.image.specs.declared.layout.Layout.{Layout}

@@ -1,8 +1,5 @@
 -- The three kinds of rows are the samples of `triangular_sample`.
-use mathlib.Core.Path.{◌≡◌, refl, ◌∙◌}
-use mathlib.Core.Bool.{cond}
-use Prim.Native.Nat.{ℕ, ◌+◌, ◌*◌, ◌/◌}
-use borrow.Author.Tests.{eq-eqb, ne_eqb}
+use Rattle.std.proofs.Common.{◌≡◌, refl, ◌∙◌, cond, ℕ, ◌+◌, ◌*◌, ◌/◌, eq-eqb, ne_eqb}
 use Rattle.image.specs.declared.layout.Layout.{Layout}
 use Rattle.image.specs.Samples.{Plane, sample_at}
 use Rattle.upsample.specs.Weights.{even, far, weighed, one_axis}

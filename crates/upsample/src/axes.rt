@@ -1,12 +1,12 @@
 // The weighing of a near and a far cell, and what is added where vertical sums are weighed, as the original's src/jpeg/upsample.rs has it.
 ghost use Rattle.std.specs.Prelude.{◌≡◌, ◌+◌, ◌*◌, ◌/◌, ◌≤◌};
 
-// Inner: three parts of the near cell and one of the far, divided by 4. Cells are at most 65,535, so that the quotient fits 16 bits.
-pub fn one_axis(near: u32, far: u32, bias: u32) -> u16
-    requires { (near ≤ 65535) × (far ≤ 65535) × (bias ≤ 2) }
+// Inner: three parts of the near cell and one of the far, divided by 4. Cells are of 16 bits, so that the quotient fits 16 too.
+pub fn one_axis(near: u16, far: u16, bias: u32) -> u16
+    requires { bias ≤ 2 }
     ensures { result ≡ (3 * near + far + bias) / 4 }
 {
-    ((3 * near + far + bias) >> 2) as u16
+    ((3 * u32::from(near) + u32::from(far) + bias) >> 2) as u16
 }
 
 // Inner: what is added to a weighed sum before it is divided by 16: at the left output of a cell, 2i, and at the right one, 2i + 1.

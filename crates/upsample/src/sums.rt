@@ -51,7 +51,7 @@ impl Sum for u32 {
     ghost number = { λ x. x };
 
     fn sum(rows: CellRows<'_>, i: usize) -> u32 {
-        3 * rows.near_cell(2, i) + rows.far_cell(2, i)
+        3 * u32::from(rows.near_cell(2, i)) + u32::from(rows.far_cell(2, i))
     }
 
     fn weigh(self, neighbour: u32, bias: u16) -> u16 {

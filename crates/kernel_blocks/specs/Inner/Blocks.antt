@@ -1,5 +1,5 @@
 -- "blocks of sixteen pixels, three colour rows each": what is said of a block of n pixels, where n is `Block::LEN` in the contracts. Definitions only.
-use Rattle.std.specs.Prelude.{◌≡◌, List, ℕ, ◌<◌, ◌≤◌, get_or, ℤ, pos, Float}
+use Rattle.std.specs.Prelude.{◌≡◌, List, ℕ, ◌<◌, get_or, ℤ, pos, Float}
 use Rattle.std.specs.Int.Signed.{mag}
 use Rattle.std.specs.Float.{nan}
 use Rattle.kernels.specs.Kernels.{exact255}
@@ -24,9 +24,9 @@ pub record BlockOf (n : ℕ) (rows : List (List ℕ)) (y : List ℕ) (cb cr : Li
   pub blue : (k : ℕ) → k < n → (b r : ℕ) → Centred (get_or cb k nan) b → Centred (get_or cr k nan) r
       → entry rows 2 k ≡ (exact255 (get_or y k 0) b r).blue
 
--- the samples of a block within the limits that rounding puts on them
-abbrev pub InLimits : ℕ → List ℕ → List Float → List Float → Type 0
-InLimits n y cb cr = (k : ℕ) → k < n → (get_or y k 0 ≤ 65535) × Chroma (get_or cb k nan) × Chroma (get_or cr k nan)
+-- the chroma of a block within the limits that rounding puts on it
+abbrev pub InLimits : ℕ → List Float → List Float → Type 0
+InLimits n cb cr = (k : ℕ) → k < n → Chroma (get_or cb k nan) × Chroma (get_or cr k nan)
 
 -- those samples of a block, its luma lowered below the bits of `middle`
 abbrev pub Pixels : ℕ → List ℤ → List Float → List Float → Type 0

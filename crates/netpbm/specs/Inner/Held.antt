@@ -1,7 +1,8 @@
 -- What the inner functions hold of one image: the definitions of Bytes and Images, with numbers past 65,536 held as 65,536, so that no
 -- product of two wraps. proofs/Products says why no test is changed by that. Definitions only.
-use Rattle.std.specs.Prelude.{Bool, true, false, ◌&&◌, ◌||◌, not, List, [], ◌∷◌, ℕ, ◌+◌, ◌-◌, ◌*◌, min, ltb, eqb, length, get_or}
-use Rattle.laws.specs.Refusals.{Test, first, accepted}
+use Rattle.std.specs.Prelude.{Bool, ◌&&◌, ◌||◌, not, List, [], ◌∷◌, ℕ, ◌+◌, ◌-◌, ◌*◌, min, ltb, eqb, length, get_or, Result, Ok, Err}
+use Rattle.laws.specs.declared.refusal.Refusal.{Refusal}
+use Rattle.laws.specs.Refusals.{Answer, Test, first}
 use Rattle.laws.specs.Numbers.{outside_of}
 use Rattle.netpbm.specs.declared.scan.Number.{Number}
 use Rattle.netpbm.specs.declared.pgm.Field.{Field}
@@ -52,22 +53,17 @@ held_tests s at h wanted =
     ∷ (ltb (length s - (h.maxval.end + 1)) (rows_held h), TooLarge)
     ∷ []
 
--- the image whose magic stands at `at`
-unfoldable pub image_held : List ℕ → ℕ → Image
-image_held s at = record {
-  answer = first (image_tests s at);
+-- the image where the answer is accepted, and otherwise the answer's reason
+abbrev pub answered : Answer → Image → Result Image Refusal
+answered (Ok _) i = Ok i
+answered (Err why) i = Err why
+
+-- the image whose magic stands at `at`, or the first thing that is wrong with it
+unfoldable pub image_held : List ℕ → ℕ → Result Image Refusal
+image_held s at = answered (first (image_tests s at)) (record {
   w = held (width_of s at);
   h = held (height_of s at);
   maxval = held (maxval_of s at);
   rows = rows_at s at;
   end = rows_at s at + rows_held (header_held s at);
-}
-
--- the first image where the test holds, and the second where it doesn't
-abbrev pub pick_image : Bool → Image → Image → Image
-pick_image true a b = a
-pick_image false a b = b
-
--- the image that begins where another ends; where that other one was turned down it is given again, with its answer
-unfoldable pub image_behind : List ℕ → Image → Image
-image_behind s b = pick_image (accepted b.answer) (image_held s b.end) b
+})

@@ -1,7 +1,5 @@
 -- Where a block lies, and what is stored with it, are laws over the pixel size (`block_place`, `block_stored`).
-use mathlib.Core.Path.{◌≡◌}
-use Prim.Native.Nat.{◌+◌, ◌*◌, ◌<◌, min}
-use native.Mathlib.Omega.{arith}
+use Rattle.std.proofs.Common.{◌≡◌, ◌+◌, ◌*◌, ◌<◌, min, arith}
 use Rattle.kernel_blocks.proofs.Stored.{stored_none, block_stored}
 use Rattle.colour_rows.proofs.blocks.by_words.Goals as goal
 

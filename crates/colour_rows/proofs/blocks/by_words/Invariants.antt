@@ -1,5 +1,5 @@
 -- What is stored are the pixels of the blocks so far, up to the row's end: whatever f they are of (`Stored` of kernel_blocks).
-use Prim.Native.Nat.{ℕ, ◌*◌, min}
+use Rattle.std.proofs.Common.{ℕ, ◌*◌, min}
 use Rattle.kernels.specs.Kernels.{Colour}
 use Rattle.kernel_blocks.proofs.Stored.{Stored}
 use Rattle.colour_rows.specs.Inner.Blocks.{BlocksOf}

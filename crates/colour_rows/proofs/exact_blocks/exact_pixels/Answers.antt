@@ -1,12 +1,12 @@
-use mathlib.Core.Path.{refl, ◌∙◌}
+use Rattle.std.proofs.Common.{refl, ◌∙◌}
 use Rattle.kernel_blocks.proofs.Blocks.{block_pixel_is}
 use Rattle.colour_rows.proofs.Colouring.{exact_by}
 use Rattle.colour_rows.proofs.exact_blocks.exact_pixels.Goals as goal
 
 pub rgb_block-requires : goal.rgb_block-requires
 rgb_block-requires c =
-    λ k h. ((c.wide_block.ensures k h).1, (_, c.chroma_block-cb.ensures k h), (_, c.chroma_block-cr.ensures k h))
+    λ k h. ((_, c.chroma_block-cb.ensures k h), (_, c.chroma_block-cr.ensures k h))
 
 pub returns : goal.returns
 returns c =
-    λ k h. rw (c.wide_block.ensures k h).0 at (block_pixel_is c.rgb_block.ensures k h (c.chroma_block-cb.ensures k h) (c.chroma_block-cr.ensures k h)) ∙ exact_by _ _ _ refl refl
+    λ k h. block_pixel_is c.rgb_block.ensures k h (c.chroma_block-cb.ensures k h) (c.chroma_block-cr.ensures k h) ∙ exact_by _ _ _ refl refl

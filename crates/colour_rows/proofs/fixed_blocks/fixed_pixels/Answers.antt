@@ -1,4 +1,4 @@
-use mathlib.Core.Path.{◌∙◌}
+use Rattle.std.proofs.Common.{◌∙◌}
 use Rattle.colour_rows.proofs.Colouring.{fixed_by}
 use Rattle.colour_rows.proofs.fixed_blocks.fixed_pixels.Goals as goal
 

@@ -1,4 +1,4 @@
-use mathlib.Core.Path.{◌∙◌}
+use Rattle.std.proofs.Common.{◌∙◌}
 use Rattle.colour_rows.proofs.Colouring.{exact_by}
 use Rattle.colour_rows.proofs.pixels.exact_pixel.Goals as goal
 

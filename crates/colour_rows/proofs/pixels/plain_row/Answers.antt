@@ -1,5 +1,4 @@
-use mathlib.Core.Path.{◌∙◌}
-use native.Mathlib.Omega.{arith}
+use Rattle.std.proofs.Common.{◌∙◌, arith}
 use Rattle.colour_rows.specs.Inner.Colours.{colour_row}
 use Rattle.kernel_blocks.proofs.Stored.{stored_none, stored_more, stored_end}
 use Rattle.colour_rows.proofs.Colouring.{in_row_read}
@@ -12,7 +11,7 @@ loop-x-init c =
 
 pub loop-x-preserved : goal.loop-x-preserved
 loop-x-preserved c =
-    let a = c.args in stored_more c.loop-x.invariant _ _ c.put_pixel.ensures (c.plain_pixel-p.ensures ∙ in_row_read a.kernel a.layout (seen a.plane) a.row a.s.now c.loop-x.x c.luma_at-y.ensures.0)
+    let a = c.args in stored_more c.loop-x.invariant _ _ c.put_pixel.ensures (c.plain_pixel-p.ensures ∙ in_row_read a.kernel a.layout (seen a.plane) a.row a.s.now c.loop-x.x c.luma_at-y.ensures)
 
 pub returns : goal.returns
 unfolding colour_row

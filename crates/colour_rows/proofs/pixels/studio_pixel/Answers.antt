@@ -1,4 +1,4 @@
-use mathlib.Core.Path.{◌∙◌}
+use Rattle.std.proofs.Common.{◌∙◌}
 use Rattle.colour_rows.proofs.Colouring.{studio_by_is}
 use Rattle.colour_rows.proofs.pixels.studio_pixel.Goals as goal
 

@@ -1,5 +1,5 @@
 -- Each branch knows the range, so that its callee's row is the row of the layout's range.
-use mathlib.Core.Path.{◌∙◌}
+use Rattle.std.proofs.Common.{◌∙◌}
 use Rattle.colour_rows.proofs.Colouring.{full_row, studio_row_is}
 use Rattle.colour_rows.proofs.rows.colour_row.Goals as goal
 

@@ -1,11 +1,9 @@
-use Prim.Native.Nat.{ℕ, ◌+◌}
-use mathlib.Core.Path.{◌≡◌}
-use lib.Ieee.{nan, Float}
+use Rattle.std.proofs.Common.{ℕ, ◌+◌, ◌≡◌, Float, rules}
+use lib.Ieee.{nan}
 use Rattle.laws.specs.Floats.{f32, ◌⊖◌, ◌⊗◌}
 use Rattle.fround.specs.Rounding.{round_clamped}
 use Rattle.fround.proofs.Laws.{round_within}
 use Rattle.image.specs.Scratch.{cell_at}
-use Rattle.std.proofs.Common.{rules}
 use Rattle.lanes.proofs.Made.{made}
 use Rattle.colour_rows.proofs.samples.chroma_block.Goals as goal
 

@@ -1,6 +1,4 @@
-use mathlib.Core.Path.{◌∙◌}
-use native.Mathlib.Omega.{arith}
-use Rattle.image.specs.Samples.{sample_at}
+use Rattle.std.proofs.Common.{arith}
 use Rattle.colour_rows.proofs.RowSamples.{sample_room}
 use Rattle.colour_rows.proofs.samples.luma_at.Goals as goal
 
@@ -13,8 +11,3 @@ overflow_add-row c = omega (arith, sample_room c.requires.0 c.args.x c.requires.
 pub sample-requires : goal.sample-requires
 sample-requires c =
     let s = c.requires.0.shaped in (s.bytes_some, s.bytes_most, sample_room c.requires.0 c.args.x c.requires.1)
-
-pub returns : goal.returns
-unfolding sample_at
-returns c =
-    (c.wide.ensures.0 ∙ c.sample.ensures, c.wide.ensures.1)

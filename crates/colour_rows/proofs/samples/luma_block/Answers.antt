@@ -1,7 +1,6 @@
 -- By the size of a sample: `gathered` of RowSamples says that the gathered bytes are those of columns x, .. x + 15.
 -- The hard step is room: row `row` of the plane ends within its bytes (`row_room`), and x + 16 <= w puts the block inside the row.
-use mathlib.Core.Path.{refl, ◌∙◌}
-use native.Mathlib.Omega.{arith}
+use Rattle.std.proofs.Common.{refl, ◌∙◌, arith}
 use Rattle.colour_rows.proofs.RowSamples.{row_room, two_of, gathered}
 use Rattle.image.specs.Samples.{seen}
 use Rattle.colour_rows.proofs.samples.luma_block.Goals as goal

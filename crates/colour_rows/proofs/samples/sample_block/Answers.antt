@@ -1,4 +1,4 @@
-use native.Mathlib.Omega.{arith}
+use Rattle.std.proofs.Common.{arith}
 use Rattle.laws.proofs.Lists.{run_none, front_more, front_at}
 use Rattle.colour_rows.proofs.samples.sample_block.Goals as goal
 

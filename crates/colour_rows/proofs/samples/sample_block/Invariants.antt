@@ -1,4 +1,4 @@
-use Prim.Native.Nat.{◌+◌, ◌*◌}
+use Rattle.std.proofs.Common.{◌+◌, ◌*◌}
 use Rattle.laws.proofs.Lists.{Run}
 use Rattle.image.specs.Samples.{sample_of}
 use Rattle.colour_rows.proofs.samples.sample_block.Given as goal

@@ -1,5 +1,4 @@
-use mathlib.Core.Path.{◌∙◌}
-use Prim.Native.Nat.{◌+◌}
+use Rattle.std.proofs.Common.{◌∙◌, ◌+◌}
 use Rattle.colour_rows.proofs.Colouring.{in_studio}
 use Rattle.image.specs.Samples.{seen}
 use Rattle.colour_rows.proofs.studio_blocks.studio_at.Goals as goal

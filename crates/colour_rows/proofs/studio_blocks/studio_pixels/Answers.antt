@@ -1,12 +1,12 @@
-use mathlib.Core.Path.{refl, ◌∙◌}
+use Rattle.std.proofs.Common.{refl, ◌∙◌}
 use Rattle.kernel_blocks.proofs.StudioBlocks.{studio_pixel}
 use Rattle.colour_rows.proofs.Colouring.{studio_by_is}
 use Rattle.colour_rows.proofs.studio_blocks.studio_pixels.Goals as goal
 
 pub studio_block-requires : goal.studio_block-requires
 studio_block-requires c =
-    λ k h. ((c.wide_block.ensures k h).1, (_, c.chroma_block-cb.ensures k h), (_, c.chroma_block-cr.ensures k h))
+    λ k h. ((_, c.chroma_block-cb.ensures k h), (_, c.chroma_block-cr.ensures k h))
 
 pub returns : goal.returns
 returns c =
-    λ k h. rw (c.wide_block.ensures k h).0 at (studio_pixel c.studio_block.ensures k h (c.chroma_block-cb.ensures k h) (c.chroma_block-cr.ensures k h)) ∙ studio_by_is _ _ _ refl refl
+    λ k h. studio_pixel c.studio_block.ensures k h (c.chroma_block-cb.ensures k h) (c.chroma_block-cr.ensures k h) ∙ studio_by_is _ _ _ refl refl

@@ -1,4 +1,4 @@
-use mathlib.Core.Path.{sym, subst}
+use Rattle.std.proofs.Common.{sym, subst}
 use lib.Ieee.{of_bits}
 use Rattle.kernels.specs.Kernels.{centred, green_offset}
 use Rattle.kernel_blocks.specs.Inner.Floating.{OnGrid, added}

@@ -1,6 +1,4 @@
-use mathlib.Core.Path.{◌≡◌, sym, ◌∙◌}
-use Prim.Native.Nat.{ℕ}
-use native.Mathlib.Omega.{arith}
+use Rattle.std.proofs.Common.{◌≡◌, sym, ◌∙◌, ℕ, arith}
 use lib.Bits.{bit_xor, xor_add_and, and_le_l, and_le_r}
 use lib.Ieee.{of_bits, neg}
 use Rattle.kernel_blocks.specs.Inner.Floating.{added, taken}

@@ -1,4 +1,4 @@
-use mathlib.Core.Path.{refl}
+use Rattle.std.proofs.Common.{refl}
 use lib.Ieee.{of_bits}
 use Rattle.kernel_blocks.specs.Inner.Floating.{green_bits}
 use Rattle.kernel_blocks.proofs.Greens.{green_number, green_most}

@@ -1,4 +1,4 @@
-use native.Mathlib.Omega.{arith}
+use Rattle.std.proofs.Common.{arith}
 use lib.Ieee.{of_bits}
 use Rattle.kernel_blocks.proofs.Chromas.{back_number, back_bits}
 use Rattle.kernel_blocks.proofs.chroma_offsets.in_256ths.Goals as goal

@@ -1,7 +1,5 @@
 -- An `|` is 0 only where both of its sides are, since each is at most the `|`.
-use mathlib.Core.Path.{◌≡◌}
-use native.Mathlib.Omega.{arith}
-use borrow.Author.Count.{below_more}
+use Rattle.std.proofs.Common.{◌≡◌, arith, below_more}
 use Rattle.std.proofs.lemmas.Nat.{le_or_l, le_or_r}
 use Rattle.kernel_blocks.proofs.doubts.any_doubt.Goals as goal
 

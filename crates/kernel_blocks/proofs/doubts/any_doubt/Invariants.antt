@@ -1,6 +1,5 @@
 -- If the doubts joined so far are 0, each of them was.
-use mathlib.Core.Path.{◌≡◌}
-use Prim.Native.Nat.{ℕ, ◌<◌}
+use Rattle.std.proofs.Common.{◌≡◌, ℕ, ◌<◌}
 use Rattle.kernel_blocks.proofs.doubts.any_doubt.Given as goal
 
 abbrev pub invariant-loop-i : goal.invariant-loop-i

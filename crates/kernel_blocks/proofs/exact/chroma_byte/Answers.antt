@@ -1,5 +1,5 @@
 -- By `byte_is` the grid's bits in the offset and in the lowered luma cancel.
-use native.Mathlib.Omega.{arith}
+use Rattle.std.proofs.Common.{arith}
 use Rattle.kernels.specs.Inner.Forms.{plus_chroma}
 use Rattle.kernel_blocks.proofs.Lumas.{lowered_held, luma_held, byte_is}
 use Rattle.kernel_blocks.proofs.exact.chroma_byte.Goals as goal

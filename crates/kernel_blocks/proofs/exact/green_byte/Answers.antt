@@ -1,5 +1,5 @@
 -- As `chroma_byte`: the grid's bits in the offset and in the lowered luma cancel.
-use native.Mathlib.Omega.{arith}
+use Rattle.std.proofs.Common.{arith}
 use Rattle.kernels.specs.Kernels.{exact255}
 use Rattle.kernel_blocks.proofs.Lumas.{lowered_held, luma_held, byte_is}
 use Rattle.kernel_blocks.proofs.exact.green_byte.Goals as goal

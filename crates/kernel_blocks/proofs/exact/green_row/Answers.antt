@@ -1,10 +1,6 @@
-use mathlib.Core.Path.{◌≡◌}
-use Prim.Native.Nat.{ℕ}
-use native.Mathlib.Omega.{arith}
+use Rattle.std.proofs.Common.{◌≡◌, ℕ, arith, get_or, rules}
 use lib.IntN.{pos}
-use lib.ListN.{get_or}
 use lib.Ieee.{nan}
-use Rattle.std.proofs.Common.{rules}
 use Rattle.lanes.proofs.Made.{made, at_places}
 use Rattle.kernel_blocks.specs.Inner.Blocks.{GreenByte}
 use Rattle.kernel_blocks.specs.Inner.Floating.{Sure}

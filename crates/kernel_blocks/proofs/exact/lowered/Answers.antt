@@ -1,7 +1,5 @@
 use lib.IntN.{ℤ, pos}
-use lib.ListN.{get_or}
-use Prim.Native.Nat.{ℕ}
-use Rattle.std.proofs.Common.{rules}
+use Rattle.std.proofs.Common.{get_or, ℕ, rules}
 use Rattle.lanes.proofs.Made.{made}
 use Rattle.kernel_blocks.specs.Inner.Floating.{Lowered}
 use Rattle.kernel_blocks.proofs.exact.lowered.Goals as goal

@@ -1,8 +1,5 @@
-use mathlib.Core.Path.{◌≡◌, refl, ◌∙◌}
-use Prim.Native.Nat.{ℕ}
-use lib.ListN.{get_or}
+use Rattle.std.proofs.Common.{◌≡◌, refl, ◌∙◌, ℕ, get_or, rules}
 use lib.IntN.{ℤ, pos}
-use Rattle.std.proofs.Common.{rules}
 use Rattle.lanes.proofs.Made.{made}
 use Rattle.kernels.specs.Kernels.{fixed255, fixed_green_cb, fixed_green_cr}
 use Rattle.kernel_blocks.specs.Inner.Blocks.{Small}

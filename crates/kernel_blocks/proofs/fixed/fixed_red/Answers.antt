@@ -1,8 +1,5 @@
-use mathlib.Core.Path.{◌≡◌, ap, ◌∙◌}
-use Prim.Native.Nat.{ℕ}
-use lib.ListN.{get_or}
+use Rattle.std.proofs.Common.{◌≡◌, ap, ◌∙◌, ℕ, get_or, rules}
 use lib.IntN.{ℤ, pos, ◌+ℤ◌}
-use Rattle.std.proofs.Common.{rules}
 use Rattle.laws.specs.Differences.{limit}
 use Rattle.lanes.proofs.Made.{made}
 use Rattle.kernels.specs.Kernels.{fixed_red}

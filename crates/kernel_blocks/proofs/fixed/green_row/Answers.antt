@@ -1,8 +1,5 @@
-use Prim.Native.Nat.{ℕ}
+use Rattle.std.proofs.Common.{ℕ, get_or, ◌≡◌, rules}
 use lib.IntN.{pos, ◌+ℤ◌}
-use lib.ListN.{get_or}
-use mathlib.Core.Path.{◌≡◌}
-use Rattle.std.proofs.Common.{rules}
 use Rattle.laws.specs.Differences.{floor_div, limit}
 use Rattle.lanes.proofs.Made.{made}
 use Rattle.kernel_blocks.proofs.FixedRows.{small_back}

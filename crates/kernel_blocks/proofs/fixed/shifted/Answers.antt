@@ -1,4 +1,4 @@
-use mathlib.Core.Path.{◌≡◌, refl}
+use Rattle.std.proofs.Common.{◌≡◌, refl}
 use lib.IntN.{◌+ℤ◌}
 use lib.Signed.{shr_z}
 use mir.Syntax.{w32}

@@ -1,14 +1,9 @@
-use mathlib.Core.Path.{◌≡◌, refl, sym, ap, subst, ◌∙◌}
-use mathlib.Core.Bool.{true, false}
-use Prim.Native.Nat.{◌≤◌}
-use native.Mathlib.Omega.{arith}
+use Rattle.std.proofs.Common.{◌≡◌, refl, sym, ap, subst, ◌∙◌, true, false, ◌≤◌, arith, T, ltb-true, ltb-false}
 use lib.IntN.{ℤ, pos, negsuc, nat_abs}
-use lib.Dec.{T}
 use lib.Signed.{lt_z, non_neg}
 use mir.Syntax.{w32}
 use mir.Val.{to_z, of_z}
 use mir.ValLaws.{to_z-of_z}
-use borrow.Author.Tests.{ltb-true, ltb-false}
 use Rattle.laws.specs.Differences.{limit}
 use Rattle.kernel_blocks.proofs.limits.limit_byte.Goals as goal
 

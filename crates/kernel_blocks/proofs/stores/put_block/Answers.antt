@@ -1,4 +1,4 @@
-use mathlib.Core.Path.{◌∙◌}
+use Rattle.std.proofs.Common.{◌∙◌}
 use Rattle.kernel_blocks.specs.Inner.Stores.{block_pixel}
 use Rattle.kernel_blocks.proofs.Puts.{pixels_none, pixels_more}
 use Rattle.kernel_blocks.proofs.stores.put_block.Goals as goal

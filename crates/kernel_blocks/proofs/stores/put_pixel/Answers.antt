@@ -1,4 +1,4 @@
-use mathlib.Core.Path.{refl}
+use Rattle.std.proofs.Common.{refl}
 use Rattle.kernel_blocks.specs.Stores.{pixel}
 use Rattle.kernel_blocks.proofs.stores.put_pixel.Goals as goal
 

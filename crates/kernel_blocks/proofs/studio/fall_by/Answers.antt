@@ -1,5 +1,5 @@
 use Rattle.kernel_blocks.proofs.Lumas.{lowered_held}
-use mathlib.Core.Path.{◌∙◌}
+use Rattle.std.proofs.Common.{◌∙◌}
 use Rattle.kernel_blocks.proofs.Shades.{fall_byte, parted_less}
 use Rattle.kernel_blocks.proofs.studio.fall_by.Goals as goal
 

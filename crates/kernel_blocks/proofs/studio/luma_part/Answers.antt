@@ -1,4 +1,4 @@
-use mathlib.Core.Path.{refl}
+use Rattle.std.proofs.Common.{refl}
 use lib.Ieee.{of_bits}
 use Rattle.kernel_blocks.specs.Inner.Studio.{luma_part}
 use Rattle.kernel_blocks.proofs.studio.luma_part.Goals as goal

@@ -1,6 +1,5 @@
 use Rattle.kernel_blocks.proofs.Lumas.{lowered_held}
-use mathlib.Core.Path.{◌∙◌}
-use native.Mathlib.Omega.{arith}
+use Rattle.std.proofs.Common.{◌∙◌, arith}
 use Rattle.kernel_blocks.proofs.Shades.{tone_byte, tone_small, parted_less}
 use Rattle.kernel_blocks.proofs.studio.tone_by.Goals as goal
 
@@ -15,4 +14,4 @@ returns-then-doubt-eq0 c =
 
 pub studio_chroma-requires : goal.studio_chroma-requires
 studio_chroma-requires c =
-    let p = c.requires in let l = p.1.most in let t = tone_small p.0 in let i = c.in_256ths.ensures.0 in (omega arith, omega arith, omega arith)
+    let t = tone_small c.requires.0 in let i = c.in_256ths.ensures.0 in (omega arith, omega arith)

@@ -1,8 +1,5 @@
-use mathlib.Core.Path.{◌≡◌}
-use Prim.Native.Nat.{ℕ}
-use lib.ListN.{get_or}
-use lib.Ieee.{Float, nan}
-use Rattle.std.proofs.Common.{rules}
+use Rattle.std.proofs.Common.{◌≡◌, ℕ, get_or, Float, rules}
+use lib.Ieee.{nan}
 use Rattle.lanes.proofs.Made.{made}
 use Rattle.kernel_blocks.specs.Inner.Studio.{luma_part}
 use Rattle.kernel_blocks.proofs.studio_blocks.parts.Goals as goal

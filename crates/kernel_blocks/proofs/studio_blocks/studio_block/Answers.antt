@@ -1,7 +1,4 @@
-use mathlib.Core.Path.{ap, ◌∙◌}
-use Prim.Native.Nat.{ℕ, ◌<◌}
-use native.Mathlib.Omega.{arith}
-use lib.ListN.{get_or}
+use Rattle.std.proofs.Common.{ap, ◌∙◌, ℕ, ◌<◌, arith, get_or}
 use lib.Ieee.{of_bits, nan}
 use Rattle.kernels.specs.T871.{t871_spans, studio255}
 use Rattle.kernels.specs.Inner.Forms.{studio_chroma}
@@ -13,19 +10,19 @@ pub tone_row-red-requires : goal.tone_row-red-requires
 unfolding of_bits
 tone_row-red-requires c =
     let parts_at : (i : ℕ) → i < 16 → Parts (get_or c.limited-l.result i 0) (get_or c.parts-less.result i nan) (get_or c.parts-more.result i nan) = λ i h. let e = c.limited-l.ensures i h in (record { most = omega arith; is = c.parts-less.ensures i h }, record { most = omega arith; is = c.parts-more.ensures i h }) in
-    (of_red, λ i h. (parts_at i h, (c.requires i h).2))
+    (of_red, λ i h. (parts_at i h, (c.requires i h).1))
 
 pub fall_row-green-requires : goal.fall_row-green-requires
 unfolding of_bits
 fall_row-green-requires c =
     let parts_at : (i : ℕ) → i < 16 → Parts (get_or c.limited-l.result i 0) (get_or c.parts-less.result i nan) (get_or c.parts-more.result i nan) = λ i h. let e = c.limited-l.ensures i h in (record { most = omega arith; is = c.parts-less.ensures i h }, record { most = omega arith; is = c.parts-more.ensures i h }) in
-    λ i h. (parts_at i h, (c.requires i h).1, (c.requires i h).2)
+    λ i h. (parts_at i h, (c.requires i h).0, (c.requires i h).1)
 
 pub tone_row-blue-requires : goal.tone_row-blue-requires
 unfolding of_bits
 tone_row-blue-requires c =
     let parts_at : (i : ℕ) → i < 16 → Parts (get_or c.limited-l.result i 0) (get_or c.parts-less.result i nan) (get_or c.parts-more.result i nan) = λ i h. let e = c.limited-l.ensures i h in (record { most = omega arith; is = c.parts-less.ensures i h }, record { most = omega arith; is = c.parts-more.ensures i h }) in
-    (of_blue, λ i h. (parts_at i h, (c.requires i h).1))
+    (of_blue, λ i h. (parts_at i h, (c.requires i h).0))
 
 pub returns : goal.returns
 unfolding of_bits studio255 t871_spans studio_chroma

@@ -1,7 +1,5 @@
-use Prim.Native.Nat.{ℕ}
-use lib.ListN.{get_or}
+use Rattle.std.proofs.Common.{ℕ, get_or, rules}
 use lib.Ieee.{nan}
-use Rattle.std.proofs.Common.{rules}
 use Rattle.lanes.proofs.Made.{made}
 use Rattle.kernel_blocks.specs.Inner.Studio.{ToneByte}
 use Rattle.kernel_blocks.proofs.Shades.{parted_less, parted_more}

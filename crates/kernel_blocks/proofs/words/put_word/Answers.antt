@@ -1,9 +1,5 @@
 -- The four bytes that are overwritten are `pixel` and one `set` more, and they are the word's digits.
-use mathlib.Core.Path.{◌≡◌, refl, ◌∙◌}
-use mathlib.Core.List.{List, [], ◌∷◌}
-use Prim.Native.Nat.{ℕ, ◌+◌, ◌-◌, ◌/◌, ◌%◌}
-use native.Mathlib.Omega.{arith}
-use lib.ListN.{get_or, set, length}
+use Rattle.std.proofs.Common.{◌≡◌, refl, ◌∙◌, List, [], ◌∷◌, ℕ, ◌+◌, ◌-◌, ◌/◌, ◌%◌, arith, get_or, set, length}
 use Rattle.laws.specs.Lists.{put}
 use Rattle.lanes.proofs.Overwritten.{overwritten}
 use Rattle.kernel_blocks.specs.Stores.{pixel}

@@ -1,6 +1,4 @@
-use mathlib.Core.Path.{refl, ap, ◌∙◌}
-use native.Mathlib.Omega.{arith}
-use lib.ListN.{length, length-set}
+use Rattle.std.proofs.Common.{refl, ap, ◌∙◌, arith, length, length-set}
 use Rattle.kernel_blocks.proofs.Puts.{length_pixel, pixels_none}
 use Rattle.kernel_blocks.proofs.Packed.{word_stored}
 use Rattle.kernel_blocks.proofs.words.put_words.Goals as goal

@@ -1,7 +1,5 @@
 -- A turn is `joined`: a word of three colour bytes and one of the fourth byte alone add up.
-use Prim.Native.Nat.{ℕ, ◌+◌, ◌*◌}
-use lib.ListN.{get_or}
-use Rattle.std.proofs.Common.{rules}
+use Rattle.std.proofs.Common.{ℕ, ◌+◌, ◌*◌, get_or, rules}
 use Rattle.lanes.proofs.Made.{made}
 use Rattle.kernel_blocks.specs.Inner.Stores.{block_pixel}
 use Rattle.kernel_blocks.specs.Inner.Words.{Word}

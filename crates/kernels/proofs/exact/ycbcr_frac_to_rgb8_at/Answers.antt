@@ -5,6 +5,6 @@ pub returns : goal.returns
 returns c =
     let a = c.args in
     colour_at a.y a.cb256 a.cr256 a.maxval
-    (rw (c.from.ensures, c.from-d.ensures, c.from-luma.ensures, c.from-cr.ensures) at c.chroma_at.ensures)
-    (rw (c.from-d.ensures, c.from-luma.ensures, c.from-cb.ensures, c.from-cr.ensures) at c.green_at.ensures)
-    (rw (c.from-2.ensures, c.from-d.ensures, c.from-luma.ensures, c.from-cb.ensures) at c.chroma_at-2.ensures)
+    (rw (c.from.ensures, c.from-d.ensures, c.from-cr.ensures) at c.chroma_at.ensures)
+    (rw (c.from-d.ensures, c.from-cb.ensures, c.from-cr.ensures) at c.green_at.ensures)
+    (rw (c.from-2.ensures, c.from-d.ensures, c.from-cb.ensures) at c.chroma_at-2.ensures)

@@ -1,6 +1,5 @@
 -- The table is its rule's own list by one computation, which `green_cb_rule` carries to each entry.
-use Prim.Native.Nat.{◌<◌}
-use native.Mathlib.Omega.{arith}
+use Rattle.std.proofs.Common.{◌<◌, arith}
 use Rattle.kernels.specs.Kernels.{fixed_green_cb}
 use Rattle.kernels.proofs.TableRules.{green_cb_rule}
 use Rattle.kernels.proofs.tables.green_cb_entry.Goals as goal

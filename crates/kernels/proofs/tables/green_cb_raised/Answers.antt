@@ -1,5 +1,5 @@
 -- The table is its rule's own list by computation, and an entry of that list is raised to a natural number.
-use native.Mathlib.Omega.{arith}
+use Rattle.std.proofs.Common.{arith}
 use Rattle.kernels.specs.Kernels.{fixed_green_cb}
 use Rattle.kernels.proofs.TableRules.{entry_listed, green_cb_lifts}
 use Rattle.kernels.proofs.tables.green_cb_raised.Goals as goal

@@ -1,6 +1,5 @@
 -- The table is its rule's own list by one computation, which `green_cr_rule` carries to each entry.
-use Prim.Native.Nat.{◌<◌}
-use native.Mathlib.Omega.{arith}
+use Rattle.std.proofs.Common.{◌<◌, arith}
 use Rattle.kernels.specs.Kernels.{fixed_green_cr}
 use Rattle.kernels.proofs.TableRules.{green_cr_rule}
 use Rattle.kernels.proofs.tables.green_cr_entry.Goals as goal

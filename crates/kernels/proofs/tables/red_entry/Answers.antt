@@ -1,6 +1,5 @@
 -- The table is its rule's own list by one computation, which `red_rule` carries to each entry.
-use Prim.Native.Nat.{◌<◌}
-use native.Mathlib.Omega.{arith}
+use Rattle.std.proofs.Common.{◌<◌, arith}
 use Rattle.laws.specs.Differences.{floor_div}
 use Rattle.kernels.specs.Kernels.{fixed_red}
 use Rattle.kernels.proofs.TableRules.{red_rule}

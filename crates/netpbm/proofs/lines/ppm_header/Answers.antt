@@ -1,7 +1,6 @@
 -- Five texts are put one behind the other, and `line_written` of Written says that the line holds them as one. The contracts count the room:
 -- a width has three digits at most and a height four, so that every part fits 16 bytes.
-use mathlib.Core.List.{append_assoc}
-use native.Mathlib.Omega.{arith}
+use Rattle.std.proofs.Common.{append_assoc, arith}
 use Rattle.netpbm.specs.Lines.{ppm_header}
 use Rattle.netpbm.proofs.Digits.{three_most, four_most, header_most}
 use Rattle.netpbm.proofs.Written.{written_on, line_written}

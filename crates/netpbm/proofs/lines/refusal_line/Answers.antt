@@ -1,7 +1,6 @@
 -- Three texts are put one behind the other, and `line_written` of Written says that the line holds them as one. There is always room: the
 -- number is a byte, so that it has three digits at most (`three_most`).
-use mathlib.Core.Path.{refl}
-use native.Mathlib.Omega.{arith}
+use Rattle.std.proofs.Common.{refl, arith}
 use Rattle.netpbm.specs.Lines.{refusal_line}
 use Rattle.netpbm.proofs.Digits.{three_most, refusal_most}
 use Rattle.netpbm.proofs.Written.{written_on, line_written}

@@ -1,5 +1,4 @@
-use mathlib.Core.Path.{◌≡◌, refl, sym, ◌∙◌}
-use mathlib.Core.Bool.{true, false}
+use Rattle.std.proofs.Common.{◌≡◌, refl, sym, ◌∙◌, true, false}
 use Rattle.netpbm.specs.Bytes.{has_space}
 use Rattle.netpbm.specs.Images.{has_number, field_of, field_end}
 use Rattle.netpbm.specs.Inner.Held.{number_held, field_held}

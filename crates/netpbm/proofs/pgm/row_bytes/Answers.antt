@@ -1,7 +1,4 @@
-use mathlib.Core.Path.{ap}
-use Prim.Native.Nat.{ℕ, ◌*◌, ◌≤◌}
-use native.Mathlib.Nat.{mul-le-mul}
-use native.Mathlib.Omega.{arith}
+use Rattle.std.proofs.Common.{ap, ℕ, ◌*◌, ◌≤◌, mul-le-mul, arith}
 use Rattle.netpbm.specs.Inner.Held.{rows_held}
 use Rattle.netpbm.proofs.Products.{bytes_most}
 use Rattle.netpbm.proofs.pgm.row_bytes.Goals as goal

@@ -1,4 +1,4 @@
-use mathlib.Core.Path.{◌∙◌}
+use Rattle.std.proofs.Common.{◌∙◌}
 use Rattle.netpbm.proofs.Runs.{magic_here}
 use Rattle.netpbm.proofs.scan.magic_at.Goals as goal
 

@@ -1,6 +1,4 @@
-use mathlib.Core.Path.{◌≡◌, refl, sym, ◌∙◌}
-use mathlib.Core.Bool.{true}
-use native.Mathlib.Omega.{arith}
+use Rattle.std.proofs.Common.{◌≡◌, refl, sym, ◌∙◌, true, arith}
 use Rattle.netpbm.specs.Bytes.{has_digit}
 use Rattle.netpbm.proofs.Runs.{digit_inside}
 use Rattle.netpbm.proofs.Numbers.{counting_none, counting_more, counting_end}

@@ -1,6 +1,4 @@
-use mathlib.Core.Path.{◌≡◌, refl, sym, ◌∙◌}
-use mathlib.Core.Bool.{true}
-use native.Mathlib.Omega.{arith}
+use Rattle.std.proofs.Common.{◌≡◌, refl, sym, ◌∙◌, true, arith}
 use Rattle.netpbm.specs.Bytes.{past_spaces}
 use Rattle.netpbm.specs.Inner.Held.{space_held}
 use Rattle.netpbm.proofs.Runs.{space_inside, spaces_more, spaces_end}

@@ -1,8 +1,6 @@
 -- The loop's invariant: what is left to skip, from the state that `inside` is, ends where all of it does. A byte that is passed stands inside
 -- the input (`space_inside`), so that `end` doesn't wrap and the loop ends.
-use mathlib.Core.Path.{◌≡◌}
-use Prim.Native.Nat.{◌+◌, ◌-◌}
-use lib.ListN.{length, drop}
+use Rattle.std.proofs.Common.{◌≡◌, ◌+◌, ◌-◌, length, drop}
 use Rattle.netpbm.specs.Bytes.{spaces, past_spaces}
 use Rattle.netpbm.proofs.scan.skip_spaces.Given as goal
 

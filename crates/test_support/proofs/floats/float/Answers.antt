@@ -1,10 +1,6 @@
-use mathlib.Core.Path.{sym, ◌∙◌, subst}
-use mathlib.Core.Bool.{Bool, not}
-use lib.Dec.{T}
+use Rattle.std.proofs.Common.{sym, ◌∙◌, subst, Bool, not, T, le-ltb, ◌%◌}
 use lib.Ieee.{binary32}
 use lib.Ieee.Bits.{nan_bits_above}
-use borrow.Author.Tests.{le-ltb}
-use Prim.Native.Nat.{◌%◌}
 use Rattle.test_support.proofs.floats.float.Goals as goal
 
 pub float_from_bits-result : goal.float_from_bits-result

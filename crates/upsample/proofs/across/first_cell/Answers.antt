@@ -1,5 +1,4 @@
-use mathlib.Core.Path.{refl}
-use native.Mathlib.Omega.{arith}
+use Rattle.std.proofs.Common.{refl, arith}
 use Rattle.laws.proofs.Lists.{run_none, run_two}
 use Rattle.upsample.specs.Inner.Pairs.{sums, across_row}
 use Rattle.upsample.proofs.Axis.{pair_left, pair_right}

@@ -1,6 +1,4 @@
-use mathlib.Core.Path.{refl}
-use Prim.Native.Nat.{◌+◌, ◌*◌}
-use native.Mathlib.Omega.{arith}
+use Rattle.std.proofs.Common.{refl, ◌+◌, ◌*◌, arith}
 use Rattle.laws.proofs.Lists.{run_two}
 use Rattle.upsample.specs.Inner.Pairs.{sums}
 use Rattle.upsample.proofs.Axis.{pair_left, pair_right}

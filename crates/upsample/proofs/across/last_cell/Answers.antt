@@ -1,9 +1,6 @@
 -- One output or two, written from nothing (`run_one`, `run_two`). They are the row's last by `pair_left` and `pair_right` of Axis: the sum before
 -- the last is that of cell cw - 2, and the one after it is the last itself, since min (i + 1) (cw - 1) is cw - 1 there.
-use mathlib.Core.Path.{refl}
-use Prim.Native.Nat.{◌+◌, ◌-◌, ◌*◌}
-use native.Mathlib.Omega.{arith}
-use lib.ListN.{set}
+use Rattle.std.proofs.Common.{refl, ◌+◌, ◌-◌, ◌*◌, arith, set}
 use Rattle.laws.proofs.Lists.{run_none, run_one, run_two}
 use Rattle.upsample.specs.Inner.Pairs.{sums, across_row}
 use Rattle.upsample.proofs.Axis.{pair_left, pair_right}

@@ -1,6 +1,4 @@
-use mathlib.Core.Path.{refl}
-use Prim.Native.Nat.{◌+◌, ◌-◌, ◌*◌}
-use native.Mathlib.Omega.{arith}
+use Rattle.std.proofs.Common.{refl, ◌+◌, ◌-◌, ◌*◌, arith}
 use Rattle.upsample.specs.Inner.Pairs.{sums, across_row}
 use Rattle.laws.proofs.Lists.{run_of, run_run}
 use Rattle.upsample.proofs.across.row_of.Goals as goal

@@ -1,4 +1,4 @@
-use native.Mathlib.Omega.{arith}
+use Rattle.std.proofs.Common.{arith}
 use Rattle.laws.proofs.Lists.{rows_more, rows_end}
 use Rattle.upsample.specs.Triangular.{triangular_plane}
 use Rattle.upsample.proofs.plane.triangular.Goals as goal

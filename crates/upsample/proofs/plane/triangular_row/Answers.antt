@@ -1,9 +1,6 @@
 -- By cases of the ratios: each case's row (`across_is`, `down_is`, `both_is` of Ratios) is the definition's sample there. What is left is
 -- that near and far rows lie within the plane, for which cell row y / 2 must be one of ch. All of it is said by the accepted tests (Accepted).
-use mathlib.Core.Path.{◌∙◌, refl}
-use Prim.Native.Nat.{◌/◌}
-use native.Mathlib.Omega.{arith}
-use lib.Dec.{lit≤}
+use Rattle.std.proofs.Common.{◌∙◌, refl, ◌/◌, arith, lit≤}
 use Rattle.laws.proofs.Lists.{put_same}
 use Rattle.image.specs.Samples.{seen}
 use Rattle.upsample.proofs.Accepted.{output_row, cell_row, cell_rows, cells_all, near_one, near_two, doubled_one, doubled_two}

@@ -1,4 +1,4 @@
-use native.Mathlib.Omega.{arith}
+use Rattle.std.proofs.Common.{arith}
 use Rattle.upsample.proofs.Axis.{far_even, far_odd}
 use Rattle.upsample.proofs.weights.far.Goals as goal
 

@@ -1,5 +1,5 @@
 use Rattle.netpbm.proofs.Written.{putting_none, putting_more, putting_end, put_is}
-use native.Mathlib.Omega.{arith}
+use Rattle.std.proofs.Common.{arith}
 use Rattle.netpbm.proofs.lines.Line.put.Goals as goal
 
 pub loop-b-init : goal.loop-b-init

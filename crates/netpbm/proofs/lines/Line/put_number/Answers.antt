@@ -1,9 +1,6 @@
 -- Digits are pushed from the highest down. Digits has `digits_of n` spelled out for one, two, three and four digits, and each branch rewrites
 -- by its one. The same laws give how many digits there are (`has_1` to `has-4`), and so that there is room for each push.
-use mathlib.Core.Path.{◌≡◌, ap, ◌∙◌}
-use Prim.Native.Nat.{◌+◌, ◌/◌, ◌%◌}
-use native.Mathlib.Omega.{arith}
-use lib.ListN.{length}
+use Rattle.std.proofs.Common.{◌≡◌, ap, ◌∙◌, ◌+◌, ◌/◌, ◌%◌, arith, length}
 use Rattle.netpbm.specs.declared.lines.Line.{Line}
 use Rattle.netpbm.specs.Lines.{digits_of}
 use Rattle.netpbm.specs.Inner.Texts.{pushed, written}
