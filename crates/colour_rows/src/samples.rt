@@ -68,7 +68,7 @@ pub fn chroma_block(s: &[f32], src: usize, x: usize) -> [f32; Block::LEN]
     ensures { ((k : ℕ) → k < Block.LEN
         → Centred (get_or result k nan) (round_clamped 65536 (cell_at s.now src (x + k) ⊗ f32 256))) }
 {
-    from_fn(|k| fround::centred_256ths(s[src + (x + k)]))
+    fround::centred_256ths(lanes::load(s, src + x)).to_array()
 }
 
 // Inner: chroma of the sixteen columns from x on of the finished row at src, as whole numbers for the fixed kernel's block.

@@ -6,17 +6,18 @@ use Prim.Native.Nat.{compare, Ordering}
 use native.Mathlib.Nat.{add-mul-div_right, add-mul-mod_self_right}
 use lib.IntN.{ℤ, pos}
 use lib.Ieee.{fin, binary32, up, down, nearest, round, lt}
-use lib.Ieee.Fits.{down_pos}
+use lib.Ieee.Fits.{down_pos, mul-fits}
 use lib.Ieee.Back.{round_whole}
 use lib.Ieee.Exact.{HasValue}
 use lib.Ieee.Nearest.{closest, closest_mono}
-use Rattle.laws.specs.Floats.{f32, ◌⊕◌, ◌⊖◌}
+use Rattle.laws.specs.Floats.{f32, ◌⊕◌, ◌⊖◌, ◌⊗◌}
 use Rattle.laws.specs.Rounding.{half_up}
 use Rattle.laws.proofs.Halves.{Cmp, cmp, up_le, up_mono, below_half, closest_shift}
 use Rattle.laws.proofs.Operators.{sub_up, sub_down}
 use Rattle.laws.proofs.Values.{whole_value, values_compare}
 use Rattle.fround.specs.Rounding.{fmax, round_clamped}
-use Rattle.fround.proofs.Limits.{Limited}
+use Rattle.fround.specs.Inner.Rounding.{clamped}
+use Rattle.fround.proofs.Limits.{Limited, limited}
 use Rattle.fround.proofs.OnGrid.{two23, t_val, two23_val}
 
 -- 2 ^ 23 + 1, 1, and 2 ^ 23 + 32,768
@@ -120,3 +121,7 @@ centred_is x c L =
     ap (λ (z : Float). fmax (z ⊕ two23) (z ⊕ odd23 ⊖ one) ⊖ centre) L.is
     ∙ less_centre _ h (up_le (L.m * up L.e) (down L.e) 65536 (down_pos L.e) L.within) (larger_val L.m L.e L.within)
     ∙ ap (λ (z : ℕ). f32 z ⊖ f32 32768) L.rounds
+
+-- the two sums by v itself, times 256 and limited
+pub centred_of : (v : Float) → let c = clamped 65536 (v ⊗ f32 256) in fmax (c ⊕ two23) (c ⊕ odd23 ⊖ one) ⊖ centre ≡ f32 (round_clamped 65536 (v ⊗ f32 256)) ⊖ f32 32768
+centred_of v = centred_is (v ⊗ f32 256) _ (limited (v ⊗ f32 256) 65536 (mul-fits binary32 v (f32 256)) (omega arith))

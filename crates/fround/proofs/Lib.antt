@@ -4,3 +4,5 @@ mod Limits
 mod OnGrid
 mod Centring
 mod ByBits
+mod Picked
+mod WholeBits
