@@ -6,3 +6,4 @@ mod Centring
 mod ByBits
 mod Picked
 mod WholeBits
+pub mod EachLane

@@ -15,7 +15,7 @@ ghost use Rattle.fround.specs.Rounding.{fmin, fmax, round_clamped, is_same_float
 ghost use Rattle.fround.specs.Inner.Rounding.{clamped, Rounded};
 
 pub use from_bits::whole;
-pub use vectors::{centred_256ths, fmax_lanes, fmin_lanes};
+pub use vectors::{centred_256ths, fmax_lanes, fmin_lanes, rounded};
 
 // The constants of the roundings.
 #[derive(Clone, Copy)]
