@@ -11,7 +11,6 @@ ghost use Rattle.colour_rows.specs.Inner.Gathered.{LumaRow, Listed};
 
 use image::{Layout, Plane};
 use kernel_blocks::Block;
-use std::array::from_fn;
 
 // Inner: luma of column x of a row.
 #[tactic(auto, unfolding(image::specs::Samples::sample_at))]
@@ -76,5 +75,7 @@ pub fn whole_chroma_block(s: &[f32], src: usize, x: usize) -> [u8; Block::LEN]
     requires { src + (x + Block.LEN) ≤ length s.now }
     ensures { Listed Block.LEN result (λ k. round_clamped 255 (cell_at s.now src (x + k))) }
 {
-    from_fn(|k| whole_chroma(s[src + (x + k)]))
+    fround::rounded(lanes::load(s, src + x), 255)
+        .cast::<u8>()
+        .to_array()
 }
