@@ -16,8 +16,7 @@ use crate::pairs::{Pairs, across_pixel, cell_at, lefts, pairs_at, rights};
 use crate::rows::line_row;
 use guided_window::{Window, sample_at};
 use image::{Layout, Plane};
-use lanes::Lanes;
-use std::simd::{f32x8, f32x16};
+use std::simd::{f32x8, f32x16, u16x16};
 use taps::Phase;
 
 // The detail of row y of a luma plane, by the cells at src.
@@ -49,11 +48,9 @@ impl Detail<'_> {
         requires { LumaPixels layout (seen self.plane) × (self.y < layout.h) × (x + 16 ≤ layout.w) }
         ensures { result ≡ table 16 (λ k. f32 (sample_at layout.sample_bytes (seen self.entry.plane) self.entry.y (x + k))) }
     {
-        let mut v = [0.0; Lanes::PIXELS];
-        for k in 0..Lanes::PIXELS {
-            v[k] = self.luma(layout, x + k);
-        }
-        f32x16::from_array(v)
+        u16x16::from_array(image::row_block(self.plane, layout.sample_bytes, self.y, x)).cast::<
+            f32,
+        >()
     }
 }
 

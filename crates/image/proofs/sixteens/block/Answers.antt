@@ -1,6 +1,6 @@
 use Rattle.std.proofs.Common.{arith}
 use Rattle.laws.proofs.Lists.{run_none, front_more, front_at}
-use Rattle.colour_rows.proofs.samples.sample_block.Goals as goal
+use Rattle.image.proofs.sixteens.block.Goals as goal
 
 pub loop-k-init : goal.loop-k-init
 loop-k-init g c = run_none _ _ _
