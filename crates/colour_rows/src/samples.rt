@@ -11,7 +11,6 @@ ghost use Rattle.colour_rows.specs.Inner.Gathered.{LumaRow, Listed};
 
 use image::{Layout, Plane};
 use kernel_blocks::Block;
-use std::array::from_fn;
 
 // Inner: luma of column x of a row.
 #[tactic(auto, unfolding(image::specs::Samples::sample_at))]
@@ -37,28 +36,12 @@ pub fn whole_chroma(v: f32) -> u8
     fround::round_clamped_by_grid(v, 255) as u8
 }
 
-// The sixteen samples from byte `at` on. Their size is a constant in the loop, so that they compile to loads of many. It is a loop, since the
-// check infers no contract for a closure inside a function with a const parameter.
-fn sample_block<const BYTES: usize>(plane: &[u8], at: usize) -> [u16; Block::LEN]
-    requires { (1 ≤ BYTES) × (BYTES ≤ 2) × (at + Block.LEN * BYTES ≤ length plane.now) }
-    ensures { Listed Block.LEN result (λ k. sample_of BYTES plane.now (at + k * BYTES)) }
-{
-    let mut v = [0u16; Block::LEN];
-    for k in 0..Block::LEN {
-        v[k] = image::sample(plane, BYTES, at + k * BYTES);
-    }
-    v
-}
-
 // Inner: luma of the sixteen columns from x on.
 pub fn luma_block(layout: Layout, plane: Plane<'_>, row: usize, x: usize) -> [u16; Block::LEN]
     requires { LumaRow layout (seen plane) row × (x + Block.LEN ≤ layout.w) }
     ensures { Listed Block.LEN result (λ k. sample_at layout.sample_bytes (seen plane.entry) row (x + k)) }
 {
-    if layout.sample_bytes == 1 {
-        return sample_block::<1>(plane.bytes, row * plane.stride + x);
-    }
-    sample_block::<2>(plane.bytes, row * plane.stride + x * 2)
+    image::row_block(plane, layout.sample_bytes, row, x)
 }
 
 // Inner: chroma of the sixteen columns from x on of the finished row at src, in 256ths less 32,768 = 128 * 256, as floats for the exact
@@ -68,7 +51,7 @@ pub fn chroma_block(s: &[f32], src: usize, x: usize) -> [f32; Block::LEN]
     ensures { ((k : ℕ) → k < Block.LEN
         → Centred (get_or result k nan) (round_clamped 65536 (cell_at s.now src (x + k) ⊗ f32 256))) }
 {
-    from_fn(|k| fround::centred_256ths(s[src + (x + k)]))
+    fround::centred_256ths(lanes::load(s, src + x)).to_array()
 }
 
 // Inner: chroma of the sixteen columns from x on of the finished row at src, as whole numbers for the fixed kernel's block.
@@ -76,5 +59,7 @@ pub fn whole_chroma_block(s: &[f32], src: usize, x: usize) -> [u8; Block::LEN]
     requires { src + (x + Block.LEN) ≤ length s.now }
     ensures { Listed Block.LEN result (λ k. round_clamped 255 (cell_at s.now src (x + k))) }
 {
-    from_fn(|k| whole_chroma(s[src + (x + k)]))
+    fround::rounded(lanes::load(s, src + x), 255)
+        .cast::<u8>()
+        .to_array()
 }

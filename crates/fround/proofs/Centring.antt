@@ -1,22 +1,25 @@
 -- Halves up from two sums on the grid: ties go to even in c + 2 ^ 23, and to odd in c + (2 ^ 23 + 1) - 1, so that the larger went up.
 -- The fact is `both`, over whole numbers, by the three orders of the remainder and a half. The rest carries it through the sums, the
 -- larger of two floats (`max_val`) and the last difference, whose sign `less_centre` splits on.
-use Rattle.std.proofs.Common.{◌≡◌, refl, sym, ap, ◌∙◌, subst, ℕ, ◌+◌, ◌-◌, ◌*◌, ◌/◌, ◌%◌, ◌≤◌, ◌<◌, max, le_trans, le_of_eq, zero-lt-suc, mul-one, div-add-mod', mod-lt, arith, Bool, true, false, not, cond, T, ltb, ltb→lt, nltb→le, Float}
+use Rattle.std.proofs.Common.{◌≡◌, refl, sym, ap, ◌∙◌, subst, ℕ, ◌+◌, ◌-◌, ◌*◌, ◌/◌, ◌%◌, ◌≤◌, ◌<◌, max, le_trans, le_of_eq, zero-lt-suc, mul-one, div-add-mod', mod-lt, arith, Bool, true, false, not, cond, T, ltb, ltb→lt, nltb→le, mul-le-mul_right, Float}
 use Prim.Native.Nat.{compare, Ordering}
 use native.Mathlib.Nat.{add-mul-div_right, add-mul-mod_self_right}
 use lib.IntN.{ℤ, pos}
-use lib.Ieee.{fin, binary32, up, down, nearest, round, lt}
-use lib.Ieee.Fits.{down_pos}
+use lib.Ieee.{fin, binary32, up, down, nearest, round, lt, fits, is_nan, to_bits}
+use lib.Ieee.Fits.{down_pos, mul-fits}
 use lib.Ieee.Back.{round_whole}
 use lib.Ieee.Exact.{HasValue}
 use lib.Ieee.Nearest.{closest, closest_mono}
-use Rattle.laws.specs.Floats.{f32, ◌⊕◌, ◌⊖◌}
+use Rattle.laws.specs.Floats.{f32, ◌⊕◌, ◌⊖◌, ◌⊗◌}
 use Rattle.laws.specs.Rounding.{half_up}
 use Rattle.laws.proofs.Halves.{Cmp, cmp, up_le, up_mono, below_half, closest_shift}
 use Rattle.laws.proofs.Operators.{sub_up, sub_down}
-use Rattle.laws.proofs.Values.{whole_value, values_compare}
+use Rattle.laws.proofs.Values.{whole_value, values_compare, value_no_nan}
+use Rattle.laws.proofs.Grids.{grid_bits}
 use Rattle.fround.specs.Rounding.{fmax, round_clamped}
-use Rattle.fround.proofs.Limits.{Limited}
+use Rattle.fround.specs.Inner.Rounding.{clamped, higher}
+use Rattle.fround.proofs.Laws.{round_within}
+use Rattle.fround.proofs.Limits.{Limited, limited}
 use Rattle.fround.proofs.OnGrid.{two23, t_val, two23_val}
 
 -- 2 ^ 23 + 1, 1, and 2 ^ 23 + 32,768
@@ -114,9 +117,43 @@ larger_val m e h =
     out : (x y : ℕ) → max (8388608 + x) (8388608 + y - 1) ≡ 8388608 + max x (y - 1)
     out x y = omega arith
 
-pub centred_is : (x c : Float) → Limited 65536 x c → fmax (c ⊕ two23) (c ⊕ odd23 ⊖ one) ⊖ centre ≡ f32 (round_clamped 65536 x) ⊖ f32 32768
+centred_is : (x c : Float) → Limited 65536 x c → higher c ⊖ centre ≡ f32 (round_clamped 65536 x) ⊖ f32 32768
 centred_is x c L =
     let h = half_up (L.m * up L.e) (down L.e) in
-    ap (λ (z : Float). fmax (z ⊕ two23) (z ⊕ odd23 ⊖ one) ⊖ centre) L.is
+    ap (λ (z : Float). higher z ⊖ centre) L.is
     ∙ less_centre _ h (up_le (L.m * up L.e) (down L.e) 65536 (down_pos L.e) L.within) (larger_val L.m L.e L.within)
     ∙ ap (λ (z : ℕ). f32 z ⊖ f32 32768) L.rounds
+
+-- the two sums by v itself, times 256 and limited
+pub centred_of : (v : Float) → higher (clamped 65536 (v ⊗ f32 256)) ⊖ centre ≡ f32 (round_clamped 65536 (v ⊗ f32 256)) ⊖ f32 32768
+centred_of v = centred_is (v ⊗ f32 256) _ (limited (v ⊗ f32 256) 65536 (mul-fits binary32 v (f32 256)) (omega arith))
+
+-- ---- the same two sums of any value that is limited to 65,536 at most, and their bits
+
+pub higher_of : (max : ℕ) (x : Float) → T (fits binary32 x) → max ≤ 65536 → HasValue (higher (clamped max x)) false (8388608 + round_clamped max x) 1
+higher_of max x f h =
+    let L = limited x max f (omega arith) in
+    let w : L.m * up L.e ≤ 65536 * down L.e = le_trans L.within (mul-le-mul_right (down L.e) h) in
+    subst (λ (n : ℕ). HasValue (higher (clamped max x)) false (8388608 + n) 1) L.rounds (subst (λ (c : Float). HasValue (higher c) false (8388608 + half_up (L.m * up L.e) (down L.e)) 1) (sym L.is) (larger_val L.m L.e w))
+
+pub higher_bits : (max : ℕ) (x : Float) → T (fits binary32 x) → max ≤ 65536 → to_bits binary32 (higher (clamped max x)) ≡ 1258291200 + round_clamped max x
+higher_bits max x f h =
+    let n = round_clamped max x in
+    let l : n ≤ max = round_within max x in
+    grid_bits 0 (higher (clamped max x)) (8388608 + n) (omega arith) (omega arith) (subst (λ (k : ℕ). HasValue (higher (clamped max x)) false k 1) (sym (mul-one (8388608 + n))) (higher_of max x f h)) ∙ sum_is n
+  where
+    sum_is : (n : ℕ) → (149 + 0) * 8388608 + (8388608 + n) ≡ 1258291200 + n
+    sum_is n = omega arith
+
+pub higher_no_nan : (max : ℕ) (x : Float) → T (fits binary32 x) → max ≤ 65536 → T (not (is_nan (higher (clamped max x))))
+higher_no_nan max x f h = value_no_nan (higher (clamped max x)) false _ 1 (higher_of max x f h)
+
+-- the bits less those of 2 ^ 23, as a difference of words gives it
+pub bits_less : (max : ℕ) (x : Float) → T (fits binary32 x) → max ≤ 65536 → (to_bits binary32 (higher (clamped max x)) + (4294967296 - 1258291200)) % 4294967296 ≡ round_clamped max x
+bits_less max x f h =
+    let n = round_clamped max x in
+    let l : n ≤ max = round_within max x in
+    ap (λ (b : ℕ). (b + (4294967296 - 1258291200)) % 4294967296) (higher_bits max x f h) ∙ less n (omega arith)
+  where
+    less : (n : ℕ) → n ≤ 65536 → (1258291200 + n + (4294967296 - 1258291200)) % 4294967296 ≡ n
+    less n h = omega arith

@@ -4,3 +4,6 @@ mod Limits
 mod OnGrid
 mod Centring
 mod ByBits
+mod Picked
+mod WholeBits
+pub mod EachLane

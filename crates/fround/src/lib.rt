@@ -5,12 +5,17 @@
 // callers ask of it.
 #![tactic(auto)]
 
+mod from_bits;
+mod vectors;
+
 ghost use Rattle.std.specs.Prelude.{◌≡◌, ◌≤◌, min};
 ghost use Rattle.std.specs.Float.Ieee.{add};
 ghost use Rattle.std.specs.Float.{binary32};
-ghost use Rattle.laws.specs.Floats.{f32, ◌⊖◌, ◌⊗◌};
 ghost use Rattle.fround.specs.Rounding.{fmin, fmax, round_clamped, is_same_float};
 ghost use Rattle.fround.specs.Inner.Rounding.{clamped, Rounded};
+
+pub use from_bits::whole;
+pub use vectors::{centred_256ths, fmax_lanes, fmin_lanes, rounded};
 
 // The constants of the roundings.
 #[derive(Clone, Copy)]
@@ -105,15 +110,4 @@ pub fn round_clamped_by_bits(x: f32, max: u32) -> u32
         let s = Rounding::FIELD + b % Rounding::FIELD;
         ((s * 2 >> (150 - e)) + 1) / 2
     }
-}
-
-// Inner: v in 256ths, limited to 0..=65536 and that to the nearest whole number, halves up; less 32,768, the centre of chroma.
-//
-// On the grid a tie goes to the even neighbour, and one further up to the odd one: the larger of the two went up.
-// 8,388,609 is GRID + 1, and 8,421,376 is GRID + 32,768, so that the last difference leaves the grid and centres at once.
-pub fn centred_256ths(v: f32) -> f32
-    ensures { result ≡ f32 (round_clamped 65536 (v ⊗ f32 256)) ⊖ f32 32768 }
-{
-    let c = clamp(v * 256.0, 65_536);
-    fmax(on_grid(c), c + 8_388_609.0 - 1.0) - 8_421_376.0
 }

@@ -5,6 +5,7 @@ ghost use Rattle.laws.specs.Floats.{f32, ◌⊘◌};
 ghost use Rattle.laws.specs.Lists.{put};
 ghost use Rattle.guided_across.specs.Inner.ByteCells.{pair_sum, pairs_sum, cell_mean, cell_run};
 
+use fround::whole;
 use image::Plane;
 use lanes::{Lanes, put_block};
 
@@ -13,8 +14,7 @@ pub fn mean_of(sum: u32, n: usize) -> f32
     requires { (sum ≤ 1048560) × (n ≤ 16) }
     ensures { result ≡ f32 sum ⊘ f32 n }
 {
-    // By `as`: there is no From, since a float doesn't hold every number of these types.
-    sum as f32 / n as f32
+    whole(sum) / whole(n as u32)
 }
 
 // The sums of the sixteen pairs of bytes from byte `at` on: one row of sixteen cells. Sixteen bits hold the eight bytes of a cell, and a vector

@@ -6,6 +6,7 @@ ghost use Rattle.laws.specs.Floats.{◌⊕◌};
 ghost use Rattle.guided_across.specs.Inner.Sums.{load_run, cells_at, products_at, three_run, three_row, Behind};
 ghost use Rattle.guided_across.specs.Inner.Terms.{fewer_cells, behind_cells, behind_products};
 
+use fround::whole;
 use guided_window::{next, prev};
 
 // Inner: the n samples of a plane from byte `at` on as floats, to s from dst on.
@@ -16,7 +17,7 @@ pub fn load_row(plane: &[u8], sample_bytes: usize, at: usize, n: usize, s: &mut 
     ensures { s.new ≡ load_run plane.now sample_bytes at n dst s.old }
 {
     for i in 0..n {
-        s[dst + i] = f32::from(image::sample(plane, sample_bytes, at + i * sample_bytes));
+        s[dst + i] = whole(u32::from(image::sample(plane, sample_bytes, at + i * sample_bytes)));
     }
 }
 

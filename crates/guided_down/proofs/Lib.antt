@@ -6,3 +6,4 @@ pub mod Pairs
 pub mod Sixteens
 pub mod Statistics
 pub mod Wholes
+mod SlopeBlocks

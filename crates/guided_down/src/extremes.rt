@@ -10,6 +10,7 @@ ghost use Rattle.guided_down.specs.Inner.Nines.{whole_op};
 
 use crate::nines::{byte_run, nine_cells, pick3};
 use crate::picks::Pick;
+use fround::whole;
 use guided_window::{Window, next, prev, whole_at};
 use image::{Layout, Plane};
 
@@ -61,7 +62,7 @@ fn extreme_run(
     ensures { s.new ≡ extreme_run layout (seen plane.entry) pick j dst from n s.old }
 {
     for i in 0..n {
-        s[dst + from + i] = f32::from(extreme_at(layout, plane, pick, j, from + i));
+        s[dst + from + i] = whole(u32::from(extreme_at(layout, plane, pick, j, from + i)));
     }
 }
 

@@ -9,6 +9,7 @@ mod finishing;
 mod neighbours;
 mod nines;
 mod picks;
+mod slope_blocks;
 mod slope_pairs;
 mod slope_rows;
 mod slopes;

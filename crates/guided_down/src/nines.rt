@@ -56,7 +56,7 @@ impl Sample for u8 {
     }
 
     fn float(self) -> f32 {
-        f32::from(self)
+        fround::whole(u32::from(self))
     }
 }
 
@@ -79,7 +79,7 @@ impl Sample for u16 {
     }
 
     fn float(self) -> f32 {
-        f32::from(self)
+        fround::whole(u32::from(self))
     }
 }
 

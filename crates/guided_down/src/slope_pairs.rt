@@ -8,8 +8,9 @@ ghost use Rattle.guided_down.specs.Inner.Slopes.{slope_inside, AllInside, SameLu
 ghost use Rattle.image.specs.Inner.Tests.{Sound};
 ghost use Rattle.image.specs.Scratch.{scratch_need};
 
+use crate::slope_blocks::{means_at, slopes_inside};
 use crate::slope_rows::slope_cell;
-use crate::slopes::{Stats, epsilon_of, slope_inside, slope_run, stats_at};
+use crate::slopes::{Stats, epsilon_of, slope_run, stats_at};
 use guided_window::{Buffer, row_at};
 use image::{Chroma, Layout};
 use lanes::Lanes;
@@ -24,34 +25,18 @@ fn pair_cell(s: &mut [f32], t: Stats, u: Stats, eps: f32, n: usize, a: usize, b:
     slope_cell(s, u, eps, n, b, i);
 }
 
-// The second component's rows, with luma's as the first names them: the compiler then sees that they are the same, and makes luma's means
-// once.
-fn beside(t: Stats, u: Stats) -> Stats
-    requires { SameLuma t u }
-    ensures { result ≡ u }
-{
-    Stats {
-        y: t.y,
-        yy: t.yy,
-        ..u
-    }
-}
-
 // The slopes of two components at the eight cells from i on, by value.
-#[tactic(auto, using(crate::proofs::Statistics::all_less))]
 fn pair_eight(s: &[f32], t: Stats, u: Stats, eps: f32, i: usize) -> [[f32; Lanes::CELLS]; 2]
     requires { (0 < i) × AllInside t (i + 9) (length s.now) × AllInside u (i + 9) (length s.now) × SameLuma t u }
     ensures { (k : ℕ) → k < 8 → (get_or (get_or result 0 []) k nan ≡ slope_inside s.now t eps (i + k))
         × (get_or (get_or result 1 []) k nan ≡ slope_inside s.now u eps (i + k)) }
 {
-    let w = beside(t, u);
-    let mut v = [0.0; Lanes::CELLS];
-    let mut x = [0.0; Lanes::CELLS];
-    for k in 0..Lanes::CELLS {
-        v[k] = slope_inside(s, t, eps, i + k);
-        x[k] = slope_inside(s, w, eps, i + k);
-    }
-    [v, x]
+    let y = means_at(s, t.y, i);
+    let yy = means_at(s, t.yy, i);
+    [
+        slopes_inside(s, t, y, yy, eps, i),
+        slopes_inside(s, u, y, yy, eps, i),
+    ]
 }
 
 // The slopes of two components at `count` blocks of eight cells from cell `from` on, to s from a + from and from b + from on.

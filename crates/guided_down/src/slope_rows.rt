@@ -5,7 +5,8 @@ ghost use Rattle.guided_down.specs.Inner.Slopes.{slope_inside, slope_run, slopes
 ghost use Rattle.image.specs.Inner.Tests.{Sound};
 ghost use Rattle.image.specs.Scratch.{scratch_need};
 
-use crate::slopes::{Stats, epsilon_of, slope_at, slope_inside, slope_run, stats_at};
+use crate::slope_blocks::{means_at, slopes_inside};
+use crate::slopes::{Stats, epsilon_of, slope_at, slope_run, stats_at};
 use guided_window::{Buffer, row_at};
 use image::{Chroma, Layout};
 use lanes::Lanes;
@@ -26,11 +27,9 @@ fn slope_eight(s: &[f32], t: Stats, eps: f32, i: usize) -> [f32; Lanes::CELLS]
     requires { (0 < i) × AllInside t (i + 9) (length s.now) }
     ensures { (k : ℕ) → k < 8 → get_or result k nan ≡ slope_inside s.now t eps (i + k) }
 {
-    let mut v = [0.0; Lanes::CELLS];
-    for k in 0..Lanes::CELLS {
-        v[k] = slope_inside(s, t, eps, i + k);
-    }
-    v
+    let y = means_at(s, t.y, i);
+    let yy = means_at(s, t.yy, i);
+    slopes_inside(s, t, y, yy, eps, i)
 }
 
 // The slopes at `count` blocks of eight cells from cell `from` on, to s from dst + from on. A block's first cell is a multiple of the

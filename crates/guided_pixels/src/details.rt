@@ -1,8 +1,9 @@
 // The detail of a picture row: luma less what its cells lerp to, document 01's "luma − y".
-ghost use Rattle.std.specs.Prelude.{◌≡◌, ℕ, ◌+◌, ◌*◌, ◌≤◌, ◌<◌, length, get_or};
+ghost use Rattle.std.specs.Prelude.{◌≡◌, ℕ, ◌+◌, ◌*◌, ◌≤◌, ◌<◌, Float, length, get_or};
 ghost use Rattle.std.specs.Float.{nan};
 ghost use Rattle.image.specs.Scratch.{cell_at, scratch_need};
-ghost use Rattle.laws.specs.Floats.{f32};
+ghost use Rattle.laws.specs.Floats.{f32, ◌⊖◌};
+ghost use Rattle.laws.specs.Lists.{table};
 ghost use Rattle.image.specs.Samples.{sample_at, seen};
 ghost use Rattle.guided.specs.Guided.{across_to};
 ghost use Rattle.guided_across.specs.Inner.Luma.{LumaPixels};
@@ -11,10 +12,11 @@ ghost use Rattle.guided_pixels.specs.Inner.Laws.{detail_keeps, across_keeps, det
 
 use crate::columns::{RowOfCells, column_at};
 use crate::lines::Line;
-use crate::pairs::{Pair, across_pixel, cell_at, pair_at};
+use crate::pairs::{Pairs, across_pixel, cell_at, lefts, pairs_at, rights};
 use crate::rows::line_row;
 use guided_window::{Window, sample_at};
 use image::{Layout, Plane};
+use std::simd::{f32x8, f32x16, u16x16};
 use taps::Phase;
 
 // The detail of row y of a luma plane, by the cells at src.
@@ -25,6 +27,13 @@ pub struct Detail<'a> {
     pub src: usize,
 }
 
+// Luma less what its cells lerp to, of eight pixels.
+fn less(luma: f32x8, cells: f32x8) -> f32x8
+    ensures { (f g : ℕ → Float) → luma ≡ table 8 f → cells ≡ table 8 g → result ≡ table 8 (λ k. f k ⊖ g k) }
+{
+    luma - cells
+}
+
 impl Detail<'_> {
     // Luma's sample in column x.
     fn luma(self, layout: Layout, x: usize) -> f32
@@ -32,6 +41,16 @@ impl Detail<'_> {
         ensures { result ≡ f32 (sample_at layout.sample_bytes (seen self.entry.plane) self.entry.y x) }
     {
         sample_at(layout, self.plane, layout.w, layout.h, x, self.y)
+    }
+
+    // Luma's samples in the sixteen columns from x on.
+    fn lumas(self, layout: Layout, x: usize) -> f32x16
+        requires { LumaPixels layout (seen self.plane) × (self.y < layout.h) × (x + 16 ≤ layout.w) }
+        ensures { result ≡ table 16 (λ k. f32 (sample_at layout.sample_bytes (seen self.entry.plane) self.entry.y (x + k))) }
+    {
+        u16x16::from_array(image::row_block(self.plane, layout.sample_bytes, self.y, x)).cast::<
+            f32,
+        >()
     }
 }
 
@@ -56,11 +75,12 @@ impl Line for Detail<'_> {
         self.luma(layout, x) - v
     }
 
-    fn pair(self, layout: Layout, s: &[f32], i: usize) -> Pair {
-        let p = pair_at(s, self.src, i);
-        Pair {
-            left: self.luma(layout, 2 + 2 * i) - p.left,
-            right: self.luma(layout, 2 + (2 * i + 1)) - p.right,
+    fn pairs(self, layout: Layout, s: &[f32], i: usize) -> Pairs {
+        let p = pairs_at(s, self.src, i);
+        let y = self.lumas(layout, 2 + 2 * i);
+        Pairs {
+            left: less(lefts(y), p.left),
+            right: less(rights(y), p.right),
         }
     }
 

@@ -3,10 +3,10 @@ ghost use Rattle.std.specs.Prelude.{◌≡◌, List, ℕ, ◌+◌, ◌*◌, ◌�
 ghost use Rattle.image.specs.Inner.Tests.{Sound};
 ghost use Rattle.image.specs.declared.layout.Layout.{Layout};
 ghost use Rattle.taps.specs.Taps.{phases_of};
-ghost use Rattle.guided_pixels.specs.Inner.Across.{pixel_pair};
+ghost use Rattle.guided_pixels.specs.Inner.Across.{pixel_pairs};
 ghost use Rattle.guided_pixels.specs.Inner.Lines.{Keeps, Alike};
 
-use crate::pairs::Pair;
+use crate::pairs::Pairs;
 use image::Layout;
 use taps::Phase;
 
@@ -37,10 +37,10 @@ pub trait Line: Copy {
         requires { Sound layout × given self layout (length s.now) × (layout.rh ≡ 1) × (x + 1 < layout.cw) × (x < layout.w) }
         ensures { result ≡ value self layout s.now x };
 
-    // The values in the two pixels of cell i + 1 at ratio 2: no phase and no edge is looked at.
-    fn pair(self, layout: Layout, s: &[f32], i: usize) -> Pair
-        requires { Sound layout × given self layout (length s.now) × (layout.rh ≡ 2) × (i + 3 ≤ layout.cw) × (2 * i + 4 ≤ layout.w) }
-        ensures { result ≡ pixel_pair (value self layout s.now) i };
+    // The values in the pixels of eight cells at ratio 2, from cell i + 1 on: no phase and no edge is looked at.
+    fn pairs(self, layout: Layout, s: &[f32], i: usize) -> Pairs
+        requires { Sound layout × given self layout (length s.now) × (layout.rh ≡ 2) × (i + 10 ≤ layout.cw) × (2 * i + 18 ≤ layout.w) }
+        ensures { result ≡ pixel_pairs (value self layout s.now) i };
 
     // Cell i, which has both neighbours, lerped across in each of its pixels.
     fn lerp(self, layout: Layout, phases: [Phase; 4], s: &[f32], i: usize) -> Self::Lerped

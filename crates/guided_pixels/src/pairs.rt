@@ -1,13 +1,16 @@
-// Cells lerped across: by one phase, by all phases of a cell, and by pairs of pixels at ratio 2.
-ghost use Rattle.std.specs.Prelude.{◌≡◌, cond, ℕ, ◌+◌, ◌-◌, ◌*◌, ◌≤◌, ◌<◌, length, get_or};
+// Cells lerped across: by one phase, by all phases of a cell, and by eight pairs of pixels at ratio 2.
+ghost use Rattle.std.specs.Prelude.{◌≡◌, cond, ℕ, ◌+◌, ◌-◌, ◌*◌, ◌≤◌, ◌<◌, Float, length, get_or};
 ghost use Rattle.std.specs.Float.{nan};
 ghost use Rattle.image.specs.Inner.Tests.{Sound};
 ghost use Rattle.image.specs.Scratch.{cell_at};
 ghost use Rattle.guided.specs.Guided.{across_to};
-ghost use Rattle.taps.specs.Taps.{phases_of};
-ghost use Rattle.guided_pixels.specs.Inner.Across.{phased, pair_of};
+ghost use Rattle.taps.specs.Taps.{lerp_of, phases_of};
+ghost use Rattle.guided_pixels.specs.Inner.Across.{phased, pairs_of};
+ghost use Rattle.laws.specs.Lists.{table};
 
 use image::Layout;
+use lanes::load;
+use std::simd::{f32x8, f32x16};
 use taps::Phase;
 
 // Cell i of the cw cells at src, lerped across by a phase: towards the left neighbour or the right one, edges repeated.
@@ -67,22 +70,55 @@ pub fn cell_at(layout: Layout, s: &[f32], src: usize, phases: [Phase; 4], i: usi
     ]
 }
 
-// The two pixels of a cell at ratio 2.
+// The pixels of eight cells at ratio 2: the left one of each cell, and the right one, each in its lane.
 #[derive(Clone, Copy)]
-pub struct Pair {
-    pub left: f32,
-    pub right: f32,
+pub struct Pairs {
+    pub left: f32x8,
+    pub right: f32x8,
 }
 
-// Inner: cell i + 1 of the cells at src, which has both neighbours, lerped across at ratio 2, whose fractions are 3/4 from the left
-// neighbour and 1/4 to the right one.
-pub fn pair_at(s: &[f32], src: usize, i: usize) -> Pair
-    requires { src + i + 3 ≤ length s.now }
-    ensures { result ≡ pair_of (cell_at s.now src) i }
+// `taps::lerp` of each two lanes.
+fn lerps(a: f32x8, b: f32x8, f: f32) -> f32x8
+    ensures { (g h : ℕ → Float) → a ≡ table 8 g → b ≡ table 8 h → result ≡ table 8 (λ k. lerp_of (g k) (h k) f) }
 {
-    let b = s[src + (i + 1)];
-    Pair {
-        left: taps::lerp(s[src + i], b, 0.75),
-        right: taps::lerp(b, s[src + (i + 2)], 0.25),
+    a + f32x8::splat(f) * (b - a)
+}
+
+// Inner: eight cells of the row at src, from cell i + 1 on, which have both neighbours, lerped across at ratio 2, whose fractions are 3/4 from
+// the left neighbour and 1/4 to the right one.
+pub fn pairs_at(s: &[f32], src: usize, i: usize) -> Pairs
+    requires { src + i + 10 ≤ length s.now }
+    ensures { result ≡ pairs_of (cell_at s.now src) i }
+{
+    let a = load(s, src + i);
+    let b = load(s, src + (i + 1));
+    let c = load(s, src + (i + 2));
+    Pairs {
+        left: lerps(a, b, 0.75),
+        right: lerps(b, c, 0.25),
     }
+}
+
+// Inner: of sixteen values, each in its column, those of the left pixels.
+pub fn lefts(v: f32x16) -> f32x8
+    ensures { (f : ℕ → Float) → v ≡ table 16 f → result ≡ table 8 (λ k. f (2 * k)) }
+{
+    v.swizzle([0, 2, 4, 6, 8, 10, 12, 14])
+}
+
+// Inner: and those of the right ones.
+pub fn rights(v: f32x16) -> f32x8
+    ensures { (f : ℕ → Float) → v ≡ table 16 f → result ≡ table 8 (λ k. f (2 * k + 1)) }
+{
+    v.swizzle([1, 3, 5, 7, 9, 11, 13, 15])
+}
+
+// Inner: the left and the right pixels' values, each in its column.
+pub fn in_columns(left: f32x8, right: f32x8) -> f32x16
+    ensures { (f : ℕ → Float) → left ≡ table 8 (λ k. f (2 * k)) → right ≡ table 8 (λ k. f (2 * k + 1)) → result ≡ table 16 f }
+{
+    left.shuffle(
+        right,
+        [0, 8, 1, 9, 2, 10, 3, 11, 4, 12, 5, 13, 6, 14, 7, 15],
+    )
 }

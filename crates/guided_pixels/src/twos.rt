@@ -5,6 +5,7 @@ ghost use Rattle.image.specs.Inner.Tests.{Sound};
 ghost use Rattle.guided_pixels.specs.Inner.Lines.{line_run};
 
 use crate::lines::Line;
+use crate::pairs::in_columns;
 use crate::rows::run;
 use image::Layout;
 use lanes::{Lanes, put_block};
@@ -14,13 +15,8 @@ fn block<L: Line>(layout: Layout, line: L, s: &[f32], i: usize) -> [f32; Lanes::
     requires { Sound layout × L.given line layout (length s.now) × (layout.rh ≡ 2) × (i + 10 ≤ layout.cw) × (2 * i + 18 ≤ layout.w) }
     ensures { (k : ℕ) → k < Lanes.PIXELS → get_or result k nan ≡ L.value line layout s.now (2 + 2 * i + k) }
 {
-    let mut block = [0.0; Lanes::PIXELS];
-    for b in 0..Lanes::CELLS {
-        let p = line.pair(layout, s, i + b);
-        block[2 * b] = p.left;
-        block[2 * b + 1] = p.right;
-    }
-    block
+    let p = line.pairs(layout, s, i);
+    in_columns(p.left, p.right).to_array()
 }
 
 // The values in the pixels of eight cells, from cell i + 1 on, stored at their columns of the row at dst.

@@ -7,11 +7,13 @@ ghost use Rattle.guided_pixels.specs.Inner.Values.{InputsInside, CellGiven, valu
 ghost use Rattle.guided_pixels.specs.Inner.Laws.{value_keeps, cell_keeps, value_within};
 
 use crate::lines::Line;
-use crate::pairs::{Pair, across_pixel, cell_at, pair_at};
+use crate::pairs::{Pairs, across_pixel, cell_at, lefts, pairs_at, rights};
 use crate::rows::line_row;
-use crate::value_inputs::{ValueCell, ValueInputs, finished_at, inputs_of, limited};
+use crate::value_inputs::{ValueCell, ValueInputs, finished_at, inputs_of, limited, values};
 use guided_window::Window;
 use image::{Chroma, Layout};
+use lanes::load;
+use std::simd::f32x16;
 use taps::Phase;
 
 impl Line for ValueInputs {
@@ -40,17 +42,15 @@ impl Line for ValueInputs {
         limited(c + a * d, s[self.least + x], s[self.greatest + x])
     }
 
-    fn pair(self, layout: Layout, s: &[f32], i: usize) -> Pair {
-        let c = pair_at(s, self.cells, i);
-        let a = pair_at(s, self.slopes, i);
-        let at = Window::DETAIL * layout.w;
-        let least = s[self.least + (i + 1)];
-        let greatest = s[self.greatest + (i + 1)];
-        let d = s[at + (2 + 2 * i)];
-        let e = s[at + (2 + (2 * i + 1))];
-        Pair {
-            left: limited(c.left + a.left * d, least, greatest),
-            right: limited(c.right + a.right * e, least, greatest),
+    fn pairs(self, layout: Layout, s: &[f32], i: usize) -> Pairs {
+        let c = pairs_at(s, self.cells, i);
+        let a = pairs_at(s, self.slopes, i);
+        let d: f32x16 = load(s, Window::DETAIL * layout.w + (2 + 2 * i));
+        let least = load(s, self.least + (i + 1));
+        let greatest = load(s, self.greatest + (i + 1));
+        Pairs {
+            left: values(c.left, a.left, lefts(d), least, greatest),
+            right: values(c.right, a.right, rights(d), least, greatest),
         }
     }
 

@@ -22,5 +22,5 @@ pub fn sample_at(layout: Layout, plane: Plane<'_>, w: usize, h: usize, x: usize,
     requires { Sound layout × (short_plane layout w h (seen plane) ≡ false) × (x < w) × (y < h) }
     ensures { result ≡ f32 (sample_at layout.sample_bytes (seen plane.entry) y x) }
 {
-    f32::from(whole_at(layout, plane, w, h, x, y))
+    fround::whole(u32::from(whole_at(layout, plane, w, h, x, y)))
 }

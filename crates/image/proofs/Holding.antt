@@ -1,6 +1,6 @@
 -- Laws of refusal 7's test: the steps by which the code comes to it, and where the samples of a plane that passes stand.
 -- `same_test` of laws carries the first part: two comparisons are equal where each side's truth and falsehood give the other's; the rest is arithmetic.
-use Rattle.std.proofs.Common.{◌≡◌, refl, true, false, ℕ, ◌+◌, ◌-◌, ◌*◌, ◌≤◌, ◌<◌, arith, ltb, lt-ltb, ltb-false, length}
+use Rattle.std.proofs.Common.{◌≡◌, refl, true, false, ℕ, ◌+◌, ◌-◌, ◌*◌, ◌≤◌, ◌<◌, arith, mul-le-mul_right, add-mul, ltb, lt-ltb, ltb-false, length}
 use Rattle.laws.proofs.Products.{same_test}
 use Rattle.laws.proofs.Rows.{row_fits, row_begins}
 use Rattle.image.specs.Tests.{bad_plane}
@@ -46,6 +46,14 @@ pub sample_inside : {bytes w h stride len : ℕ} → Holds bytes w h stride len 
 sample_inside {bytes} {w} o x y k l = omega (arith, row_inside o y l, row_fits x w bytes k)
 
 -- a plane as a call is lent it, with its layout, passes where `short_plane` is false
+-- n samples of a row, from column x on
+pub run_inside : {bytes w h stride len : ℕ} → Holds bytes w h stride len → (n x y : ℕ) → x + n ≤ w → y < h → place bytes stride y x + n * bytes ≤ len
+run_inside {bytes} {w} {h} {stride} o n x y p q =
+    let r = row_inside o y q in
+    let m : (x + n) * bytes ≤ w * bytes = mul-le-mul_right bytes p in
+    let d : (x + n) * bytes ≡ x * bytes + n * bytes = add-mul x n bytes in
+    omega arith
+
 pub short_holds : (l : Layout) (w h : ℕ) (p : Plane) → short_plane l w h p ≡ false → Holds l.sample_bytes w h p.stride (length p.bytes)
 unfolding short_plane
 short_holds l w h p e = holds l.sample_bytes w h p.stride (length p.bytes) e

@@ -15,6 +15,7 @@ mod limits;
 mod plane;
 mod rectangle;
 mod samples;
+mod sixteens;
 
 pub use chroma::{Chroma, Components};
 pub use differences::other_change;
@@ -24,3 +25,4 @@ pub use limits::plane_above;
 pub use plane::{Plane, Planes};
 pub use rectangle::Rectangle;
 pub use samples::{bad_plane, sample};
+pub use sixteens::row_block;

@@ -47,7 +47,7 @@ pub fn luma_part(l: u16, shift: f32) -> f32
     requires { l ≤ 511 }
     ensures { result ≡ luma_part shift l }
 {
-    Studio::LUMA * f32::from(l) - shift
+    Studio::LUMA * fround::whole(u32::from(l)) - shift
 }
 
 // What red or blue adds to luma, rounded to a whole level and plus the grid's bits. `part` is luma's, and k * x is chroma's.

@@ -1,3 +1,4 @@
 -- Laws of blocks, which callers cite.
 pub mod Made
 pub mod Overwritten
+pub mod Loads

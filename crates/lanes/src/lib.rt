@@ -10,7 +10,10 @@ ghost use Rattle.std.specs.Float.{nan};
 ghost use Rattle.laws.specs.Floats.{f32};
 ghost use Rattle.laws.specs.Lists.{put};
 
+mod vectors;
+
 use std::array::from_fn;
+pub use vectors::load;
 
 // How much a block has.
 #[derive(Clone, Copy)]
@@ -37,6 +40,6 @@ pub fn put_bytes(s: &mut [f32], at: usize, block: [u8; Lanes::PIXELS])
     requires { at + 16 ≤ length s.old }
     ensures { s.new ≡ put s.old at 16 (λ k. f32 (get_or block k 0)) }
 {
-    let floats: [f32; Lanes::PIXELS] = from_fn(|i| f32::from(block[i]));
+    let floats: [f32; Lanes::PIXELS] = from_fn(|i| fround::whole(u32::from(block[i])));
     put_block(s, at, floats);
 }

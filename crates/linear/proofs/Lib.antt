@@ -10,3 +10,4 @@ pub mod Span
 pub mod Surplus
 pub mod Turns
 pub mod Vectors
+mod StoredRows

@@ -2,6 +2,7 @@
 ghost use Rattle.std.specs.Prelude.{◌≡◌, ◌+◌, ◌*◌, ◌≤◌, length};
 ghost use Rattle.linear.specs.Inner.Down.{down_run};
 
+use fround::whole;
 use taps::lerp;
 
 // What `down_row` gives, for either size of sample.
@@ -24,7 +25,7 @@ fn down_cells(
     for i in 0..n {
         let near = image::sample(plane, sample_bytes, a + i * sample_bytes);
         let far = image::sample(plane, sample_bytes, b + i * sample_bytes);
-        s[dst + i] = lerp(f32::from(near), f32::from(far), f);
+        s[dst + i] = lerp(whole(u32::from(near)), whole(u32::from(far)), f);
     }
 }
 

@@ -9,4 +9,4 @@ use Rattle.guided_down.proofs.extremes.extreme_run.Goals as goal
 pub loop-i-preserved : goal.loop-i-preserved
 loop-i-preserved c =
     let a = c.args in
-    put_more _ _ _ _ _ _ c.loop-i.invariant (c.from.ensures ∙ ap f32 c.extreme_at.ensures ∙ sym (whole_is a.layout (seen a.plane) a.pick a.plane.fit a.j _))
+    put_more _ _ _ _ _ _ c.loop-i.invariant (c.whole.ensures ∙ ap f32 (c.from.ensures ∙ c.extreme_at.ensures) ∙ sym (whole_is a.layout (seen a.plane) a.pick a.plane.fit a.j _))

@@ -6,4 +6,4 @@ use Rattle.kernel_blocks.proofs.studio.luma_part.Goals as goal
 pub returns : goal.returns
 unfolding of_bits luma_part
 returns c =
-    rw c.from.ensures refl
+    rw (c.whole.ensures, c.from.ensures) refl

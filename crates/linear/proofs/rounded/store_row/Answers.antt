@@ -1,12 +1,14 @@
-use Rattle.std.proofs.Common.{◌≡◌, ap, ◌∙◌, ℕ, min, arith}
-use Rattle.fround.specs.Rounding.{round_clamped}
-use Rattle.image.specs.Scratch.{cell_at}
-use Rattle.laws.proofs.Lists.{run_more}
+use Rattle.std.proofs.Common.{arith}
+use Rattle.laws.proofs.Lists.{run_end}
+use Rattle.linear.specs.Inner.Stores.{store_run}
+use Rattle.linear.proofs.StoredRows.{store_more}
 use Rattle.linear.proofs.rounded.store_row.Goals as goal
 
-pub loop-i-preserved : goal.loop-i-preserved
-loop-i-preserved c =
-    let a = c.args in
-    let l = c.loop-i in
-    let e : min a.maxval 4194304 ≡ a.maxval = omega arith in
-    run_more l.invariant _ (c.round_clamped_by_grid.ensures.is ∙ ap (λ (k : ℕ). round_clamped k (cell_at a.s.now a.src l.i)) e)
+pub loop-b-preserved : goal.loop-b-preserved
+loop-b-preserved c =
+    store_more c.args.s.now c.args.src c.args.maxval c.args.at c.loop-b.invariant _ _ 16 _ _ c.store_block.ensures (omega arith) (omega arith) (omega arith)
+
+pub returns : goal.returns
+unfolding store_run
+returns c =
+    run_end (store_more c.args.s.now c.args.src c.args.maxval c.args.at c.loop-b.invariant _ c.args.n _ _ _ c.store_each.ensures (omega arith) (omega arith) (omega arith)) c.args.n (omega arith) (omega arith)
