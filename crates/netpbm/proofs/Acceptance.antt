@@ -1,22 +1,20 @@
 -- What an input that is read has: a layout that passes refusals 2 to 5, and three planes whose rows lie inside the input (`Taken`).
 -- None of the reading's tests applied, so each image lies inside (`image_inside`) and each ratio fits (`ratio_fits`). The step that is
 -- in no test is that Cr's rows end inside by Cb's sides: both chroma images fit the same ratio (`same_sides`) and have the same maxval.
-use Rattle.std.proofs.Common.{ap, ◌≡◌, refl, sym, ◌∙◌, Bool, true, false, ◌&&◌, ◌||◌, not, cond, List, ◌++◌, ℕ, ◌+◌, ◌*◌, ◌≤◌, mul-one, arith, ltb, eqb, length, ltb-false, le-ltb, eq-eqb, Ok, Err, Result}
+use Rattle.std.proofs.Common.{◌≡◌, refl, sym, ◌∙◌, Bool, true, false, ◌&&◌, ◌||◌, not, cond, List, ◌++◌, ℕ, ◌+◌, ◌*◌, ◌≤◌, mul-one, arith, ltb, eqb, length, ltb-false, le-ltb, eq-eqb, Ok, Err}
 use borrow.Author.Tests.{eqb-false}
 use Rattle.laws.specs.Refusals.{Answer, first}
 use Rattle.laws.specs.Numbers.{outside_of}
 use Rattle.laws.proofs.Refusals.{Failed, accepted_failed, failed_accepted, failed_both}
-use Rattle.image.specs.declared.layout.Layout.{Layout}
 use Rattle.image.specs.Tests.{div_ceil, bad_size, bad_ratio, most_of, bad_samples, bad_range, bad_chroma, bad_siting, layout_tests, tests_for}
 use Rattle.image.proofs.Layouts.{neither}
 use Rattle.netpbm.specs.Bytes.{big_of}
-use Rattle.netpbm.specs.Images.{width_of, height_of, maxval_of, rows_at, sample_bytes, row_bytes, image_end, image_sample, image_tests}
+use Rattle.netpbm.specs.Images.{width_of, height_of, maxval_of, sample_bytes, row_bytes, image_end, image_sample, image_tests}
 use Rattle.netpbm.specs.Reading.{cb_at, cr_at, input_layout, no_ratio, images_tests, whole_tests, reading_tests}
-use Rattle.netpbm.specs.Inner.Reading.{read_as, pick_reading, reading_of}
+use Rattle.netpbm.specs.Inner.Reading.{input_reading, pick_reading, reading_of}
 use Rattle.netpbm.specs.Inner.Taken.{Taken}
 use Rattle.netpbm.proofs.Fields.{ImageInside, image_inside, rows_behind}
 use Rattle.netpbm.proofs.Ratios.{Fits, ratio_fits}
-use Rattle.laws.specs.declared.refusal.Refusal.{Refusal}
 use Rattle.netpbm.specs.declared.reading.Reading.{Reading}
 
 module _ (s : List ℕ) (a : first (reading_tests s) ≡ Ok tt) where
@@ -111,7 +109,7 @@ module _ (s : List ℕ) (a : first (reading_tests s) ≡ Ok tt) where
   unfolding row_bytes input_layout
   cr_rows_are = rw (three.1.1.maxval_same, same_sides.0, same_sides.1) refl
 
-  accepted_taken : Taken s (input_layout s) (rows_at s 0) (rows_at s (cb_at s)) (rows_at s (cr_at s))
+  accepted_taken : Taken s (input_reading s)
   unfolding image_end cb_at cr_at bad_siting input_layout
   accepted_taken =
       let a = luma_rows in
@@ -130,36 +128,29 @@ module _ (s : List ℕ) (a : first (reading_tests s) ≡ Ok tt) where
 -- ---- from what was read
 
 -- what the reading gives is what the definitions say of the input
-pub record ReadAccepted (s : List ℕ) (l : Layout) (y cb cr : ℕ) : Type 0 where
+pub record ReadAccepted (s : List ℕ) (r : Reading) : Type 0 where
   pub passed : first (reading_tests s) ≡ Ok tt
-  pub layout_is : l ≡ input_layout s
-  pub y_is : y ≡ rows_at s 0
-  pub cb_is : cb ≡ rows_at s (cb_at s)
-  pub cr_is : cr ≡ rows_at s (cr_at s)
+  pub reading_is : r ≡ input_reading s
 
-pub read_accepted : (s : List ℕ) (l : Layout) (y cb cr : ℕ) → reading_of s ≡ read_as l y cb cr → ReadAccepted s l y cb cr
+pub read_accepted : {s : List ℕ} {r : Reading} → reading_of s ≡ Ok r → ReadAccepted s r
 unfolding reading_of
-read_accepted s l y cb cr e = go (first (reading_tests s)) refl e
+read_accepted {s} {r} e = go (first (reading_tests s)) refl e
   where
-    given : Result Reading Refusal → Reading
-    given (Ok r) = r
-    given (Err why) = record { layout = l; y = y; cb = cb; cr = cr }
-
-    go : (a : Answer) → first (reading_tests s) ≡ a → pick_reading a (read_as (input_layout s) (rows_at s 0) (rows_at s (cb_at s)) (rows_at s (cr_at s))) ≡ read_as l y cb cr → ReadAccepted s l y cb cr
-    go (Ok tt) k e = record { passed = k; layout_is = ap (λ r. (given r).layout) (sym e); y_is = ap (λ r. (given r).y) (sym e); cb_is = ap (λ r. (given r).cb) (sym e); cr_is = ap (λ r. (given r).cr) (sym e) }
+    go : (a : Answer) → first (reading_tests s) ≡ a → pick_reading a (input_reading s) ≡ Ok r → ReadAccepted s r
+    go (Ok tt) k e = record { passed = k; reading_is = cc }
     go (Err n) k e = let z : ◌≡◌ {A = ℕ} 0 1 = cc in absurd (omega arith)
 
 -- it has all that `Taken` says
-pub taken : (s : List ℕ) (l : Layout) (y cb cr : ℕ) → reading_of s ≡ read_as l y cb cr → Taken s l y cb cr
-taken s l y cb cr e = let r = read_accepted s l y cb cr e in rw (r.layout_is, r.y_is, r.cb_is, r.cr_is) (accepted_taken s r.passed)
+pub taken : {s : List ℕ} {r : Reading} → reading_of s ≡ Ok r → Taken s r
+taken {s} e = let a = read_accepted e in rw a.reading_is (accepted_taken s a.passed)
 
 -- the samples of the three images by the layout's own numbers and by where their rows begin: one maxval and the layout's sides serve all three
-pub record SamplesAre (s : List ℕ) (l : Layout) (y cb cr : ℕ) : Type 0 where
-  pub luma : (j i : ℕ) → image_sample s 0 j i ≡ big_of l.sample_bytes s (y + (j * l.w + i) * l.sample_bytes)
-  pub blue : (j i : ℕ) → image_sample s (cb_at s) j i ≡ big_of l.sample_bytes s (cb + (j * l.cw + i) * l.sample_bytes)
-  pub red : (j i : ℕ) → image_sample s (cr_at s) j i ≡ big_of l.sample_bytes s (cr + (j * l.cw + i) * l.sample_bytes)
+pub record SamplesAre (s : List ℕ) (r : Reading) : Type 0 where
+  pub luma : (j i : ℕ) → image_sample s 0 j i ≡ big_of r.layout.sample_bytes s (r.y + (j * r.layout.w + i) * r.layout.sample_bytes)
+  pub blue : (j i : ℕ) → image_sample s (cb_at s) j i ≡ big_of r.layout.sample_bytes s (r.cb + (j * r.layout.cw + i) * r.layout.sample_bytes)
+  pub red : (j i : ℕ) → image_sample s (cr_at s) j i ≡ big_of r.layout.sample_bytes s (r.cr + (j * r.layout.cw + i) * r.layout.sample_bytes)
 
-accepted_samples : (s : List ℕ) → first (reading_tests s) ≡ Ok tt → SamplesAre s (input_layout s) (rows_at s 0) (rows_at s (cb_at s)) (rows_at s (cr_at s))
+accepted_samples : (s : List ℕ) → first (reading_tests s) ≡ Ok tt → SamplesAre s (input_reading s)
 unfolding image_sample input_layout
 accepted_samples s a = record {
   luma = λ j i. refl;
@@ -167,5 +158,5 @@ accepted_samples s a = record {
   red = λ j i. rw ((three s a).1.1.maxval_same, (same_sides s a).0) refl;
 }
 
-pub samples_are : (s : List ℕ) (l : Layout) (y cb cr : ℕ) → ReadAccepted s l y cb cr → SamplesAre s l y cb cr
-samples_are s l y cb cr r = rw (r.layout_is, r.y_is, r.cb_is, r.cr_is) (accepted_samples s r.passed)
+pub samples_are : {s : List ℕ} {r : Reading} → ReadAccepted s r → SamplesAre s r
+samples_are {s} a = rw a.reading_is (accepted_samples s a.passed)

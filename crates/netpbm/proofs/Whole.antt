@@ -1,7 +1,7 @@
 -- Three images one behind another: the reason that turns one down is the whole's, and what is held of images that are given is what the
 -- definitions say. `in_turn` carries the first. The hard step of the second is that ratios as they are held are the real ones only where 2
 -- doesn't apply (`sides`), so the tests can't be compared one by one: `tests_same` looks at 5 only past 2.
-use Rattle.std.proofs.Common.{◌≡◌, refl, ap, ◌∙◌, Bool, true, false, List, [], ◌∷◌, ℕ, ◌≤◌, ◌<◌, arith, ltb, eqb, length, le-ltb, lt-ltb, Result, Ok, Err}
+use Rattle.std.proofs.Common.{◌≡◌, refl, ap, ◌∙◌, Bool, true, false, List, [], ◌∷◌, ℕ, ◌≤◌, ◌<◌, arith, ltb, eqb, length, le-ltb, lt-ltb, Ok, Err}
 use borrow.Author.Tests.{eqb-false}
 use Rattle.laws.specs.Refusals.{Answer, first}
 use Rattle.laws.specs.Inner.Refusals.{further}
@@ -14,7 +14,7 @@ use Rattle.netpbm.specs.declared.reading.Reading.{Reading}
 use Rattle.laws.specs.declared.refusal.Refusal.{Refusal}
 use Rattle.netpbm.specs.Images.{width_of, height_of, image_end, image_tests}
 use Rattle.netpbm.specs.Reading.{cb_at, cr_at, ratio_for, input_layout, no_ratio, images_tests, whole_tests, reading_tests}
-use Rattle.netpbm.specs.Inner.Reading.{read_as, pick_reading, reading_of}
+use Rattle.netpbm.specs.Inner.Reading.{pick_reading, reading_of}
 use Rattle.netpbm.specs.Inner.HeldInput.{layout_held}
 use Rattle.netpbm.specs.Inner.Held.{held, image_held}
 use Rattle.netpbm.proofs.Runs.{differ}
@@ -124,14 +124,14 @@ module _ {s : List ℕ} {y cb cr : Image} (p : Given s 0 y) (q : Given s (cb_at 
 
 -- ---- the whole
 
-pick_same : (a : Answer) (r q : Result Reading Refusal) → (a ≡ Ok tt → r ≡ q) → pick_reading a r ≡ pick_reading a q
-pick_same (Ok tt) r q f = f refl
+pick_same : (a : Answer) (r q : Reading) → (a ≡ Ok tt → r ≡ q) → pick_reading a r ≡ pick_reading a q
+pick_same (Ok tt) r q f = ap Ok (f refl)
 pick_same (Err n) r q f = refl
 
 -- what is answered from three images that are given is the reading
 pub reading_is : (s : List ℕ) (y cb cr : Image) (k : Layout) (b n : Bool) (a : Answer) → length s ≤ 49152
     → Ok y ≡ image_held s 0 → Ok cb ≡ image_held s y.end → Ok cr ≡ image_held s cb.end → k ≡ layout_held y cb cr → b ≡ bad_size k → n ≡ no_ratio k
-    → a ≡ first ((ltb cr.end (length s), BadHeader) ∷ (b, BadSize) ∷ (n, BadChroma) ∷ []) → pick_reading a (read_as k y.rows cb.rows cr.rows) ≡ reading_of s
+    → a ≡ first ((ltb cr.end (length s), BadHeader) ∷ (b, BadSize) ∷ (n, BadChroma) ∷ []) → pick_reading a (record { layout = k; y = y.rows; cb = cb.rows; cr = cr.rows }) ≡ reading_of s
 unfolding reading_of
 reading_is s y cb cr k b n a l c d e f g h i =
     let p = given s 0 y l c in

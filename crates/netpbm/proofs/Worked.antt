@@ -1,6 +1,6 @@
 -- Worked examples of the definitions: document 01's picture, the table's examples of 14 and 15, headers with comments, two-byte samples and their
 -- maxvals, and the lines that are written.
-use Rattle.std.proofs.Common.{◌≡◌, refl, inl, inr, List, [], ◌∷◌, ◌++◌, ℕ, arith, Err}
+use Rattle.std.proofs.Common.{◌≡◌, refl, inl, inr, List, [], ◌∷◌, ◌++◌, ℕ, arith, Ok, Err}
 use Rattle.image.specs.declared.layout.Range.TheVariants.{Full}
 use Rattle.laws.specs.Axes.{plain}
 use Rattle.laws.specs.Refusals.{first}
@@ -9,7 +9,7 @@ use Rattle.netpbm.specs.Bytes.{leading, spaces, decimal_of, has_blank, has_space
 use Rattle.netpbm.specs.Images.{has_magic, has_number, field_of, field_end, width_of, width_end, height_of, height_end, maxval_of, maxval_end, rows_at, sample_bytes, row_bytes, image_end, image_sample, bad_maxval, image_tests}
 use Rattle.netpbm.specs.Reading.{cb_at, cr_at, smallest, ratio_for, input_layout, no_ratio, images_tests, whole_tests, reading_tests}
 use Rattle.netpbm.specs.Comments.{all_space, BeforeNumber, InHeader, Commented}
-use Rattle.netpbm.specs.Inner.Reading.{read_as, reading_of}
+use Rattle.netpbm.specs.Inner.Reading.{reading_of}
 use Rattle.netpbm.specs.Lines.{digits, digits_of, ppm_header, refusal_line}
 use Rattle.laws.specs.declared.refusal.Refusal.TheVariants.{BadHeader, TooLarge}
 
@@ -28,7 +28,7 @@ deep_input = deep_header ++ (8 ∷ 0 ∷ deep_header) ++ (8 ∷ 0 ∷ deep_heade
 -- what the whole input comes to
 pub record Inputs : Type 0 where
   -- "three 1 by 1 images holding 230, 3, 128"
-  pub one_by_one : reading_of (header ++ (230 ∷ header) ++ (3 ∷ header) ++ (128 ∷ [])) ≡ read_as (record { w = 1; h = 1; rh = 1; rv = 1; cw = 1; ch = 1; across = plain; down = plain; sample_bytes = 1; maxval = 255; range = Full }) 11 23 35
+  pub one_by_one : reading_of (header ++ (230 ∷ header) ++ (3 ∷ header) ++ (128 ∷ [])) ≡ Ok (record { layout = record { w = 1; h = 1; rh = 1; rv = 1; cw = 1; ch = 1; across = plain; down = plain; sample_bytes = 1; maxval = 255; range = Full }; y = 11; cb = 23; cr = 35 })
   -- a byte left over
   pub one_more : reading_of (header ++ (230 ∷ header) ++ (3 ∷ header) ++ (128 ∷ 10 ∷ [])) ≡ Err BadHeader
   -- two whitespace bytes behind the maxval: the second is the row, and no magic stands behind it
@@ -42,7 +42,7 @@ pub record Inputs : Type 0 where
   -- a width of 128 goes on, and the height is missing
   pub width_128 : reading_of (80 ∷ 53 ∷ 32 ∷ 49 ∷ 50 ∷ 56 ∷ []) ≡ Err BadHeader
   -- `P5#c`, newline, `1 1 255`, newline, in the second image: a comment in the place of whitespace
-  pub comment : reading_of (header ++ (230 ∷ 80 ∷ 53 ∷ 35 ∷ 99 ∷ 10 ∷ 49 ∷ 32 ∷ 49 ∷ 32 ∷ 50 ∷ 53 ∷ 53 ∷ 10 ∷ 3 ∷ header) ++ (128 ∷ [])) ≡ read_as (record { w = 1; h = 1; rh = 1; rv = 1; cw = 1; ch = 1; across = plain; down = plain; sample_bytes = 1; maxval = 255; range = Full }) 11 25 37
+  pub comment : reading_of (header ++ (230 ∷ 80 ∷ 53 ∷ 35 ∷ 99 ∷ 10 ∷ 49 ∷ 32 ∷ 49 ∷ 32 ∷ 50 ∷ 53 ∷ 53 ∷ 10 ∷ 3 ∷ header) ++ (128 ∷ [])) ≡ Ok (record { layout = record { w = 1; h = 1; rh = 1; rv = 1; cw = 1; ch = 1; across = plain; down = plain; sample_bytes = 1; maxval = 255; range = Full }; y = 11; cb = 25; cr = 37 })
   -- `P5 1 1 255#`, CR, and the row: "the byte just after the maxval is still single"
   pub comment_behind : reading_of ((80 ∷ 53 ∷ 32 ∷ 49 ∷ 32 ∷ 49 ∷ 32 ∷ 50 ∷ 53 ∷ 53 ∷ 35 ∷ 13 ∷ 230 ∷ header) ++ (3 ∷ header) ++ (128 ∷ [])) ≡ Err BadHeader
   -- `P5 #1 1 255`: "a comment that never ends is a bad header"
@@ -50,7 +50,7 @@ pub record Inputs : Type 0 where
   -- `P5 129#`: the width is met before the comment
   pub wide_before : reading_of (80 ∷ 53 ∷ 32 ∷ 49 ∷ 50 ∷ 57 ∷ 35 ∷ []) ≡ Err TooLarge
   -- a maxval of 4,095 in all three: two bytes a sample
-  pub deep : reading_of deep_input ≡ read_as (record { w = 1; h = 1; rh = 1; rv = 1; cw = 1; ch = 1; across = plain; down = plain; sample_bytes = 2; maxval = 4095; range = Full }) 12 26 40
+  pub deep : reading_of deep_input ≡ Ok (record { layout = record { w = 1; h = 1; rh = 1; rv = 1; cw = 1; ch = 1; across = plain; down = plain; sample_bytes = 2; maxval = 4095; range = Full }; y = 12; cb = 26; cr = 40 })
   -- "the high byte first": 8 and 0 are 2,048
   pub deep_sample : image_sample deep_input 0 0 0 ≡ 2048
   -- the second byte of the last sample is missing

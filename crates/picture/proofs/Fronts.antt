@@ -1,12 +1,12 @@
 -- A line at the front of out, and what is behind it.
 -- `ppm_is` carries the program's output: out is cut behind the header, the part behind it is lent and comes back filled, and joined again
 -- they are `ppm_over`. The step is that the line's copy left what is behind it untouched (`behind_is`).
-use Rattle.std.proofs.Common.{◌≡◌, sym, ap, ◌∙◌, refl, List, [], ◌++◌, append-nil, ℕ, ◌+◌, ◌≤◌, ◌<◌, ◌*◌, ◌-◌, arith, length, get_or, take, drop, length-drop, drop_of_length-le, ext_get_or, get_or-drop}
+use Rattle.std.proofs.Common.{◌≡◌, sym, ap, ◌∙◌, List, [], ◌++◌, append-nil, ℕ, ◌+◌, ◌≤◌, ◌<◌, ◌*◌, ◌-◌, arith, length, get_or, take, drop, length-drop, drop_of_length-le, ext_get_or, get_or-drop}
 use lib.ListN.{get_or-append}
 use Rattle.laws.specs.Lists.{put, table}
 use Rattle.laws.proofs.Lists.{length_put, put_after, take_put, length_table, table_at}
 use Rattle.image.specs.declared.layout.Layout.{Layout}
-use Rattle.image.specs.Picture.{Picture, picture_of}
+use Rattle.image.specs.Picture.{picture_of}
 use Rattle.kernels.specs.declared.kernel.YcbcrKernel.TheVariants.{Exact}
 use Rattle.fill.specs.declared.options.ChromaUpsampling.TheVariants.{LumaGuided}
 use Rattle.fill.specs.Fill.{fill_colour, pixel_rows}
@@ -14,8 +14,11 @@ use Rattle.netpbm.specs.declared.lines.Line.{Line}
 use Rattle.netpbm.specs.Texts.{line_of}
 use Rattle.netpbm.specs.Lines.{ppm_header}
 use Rattle.picture.specs.Picture.{ppm_length, ppm_over}
+use Rattle.netpbm.specs.Inner.Taken.{Taken}
+use Rattle.netpbm.specs.declared.reading.Reading.{Reading}
+use Rattle.netpbm.proofs.Digits.{header_most}
 use Rattle.picture.specs.Inner.Planes.{picture_from}
-use Rattle.picture.proofs.Readings.{to_end}
+use Rattle.picture.proofs.Readings.{to_end, pixels_most}
 
 -- ---- a line that holds a text, put to the front of out
 
@@ -48,27 +51,37 @@ pub ppm_length_is : (l : Layout) (line : Line) → line ≡ line_of (ppm_header 
 unfolding ppm_length
 ppm_length_is l line e = ap (λ (k : ℕ). k + l.w * l.h * 3) (line_length _ line e)
 
-pub ppm_covers : (l : Layout) → ppm_length l ≡ length (ppm_header l.w l.h) + l.w * l.h * 3
+-- a PPM of what was read is a header, of 16 bytes at most, and three bytes for each pixel
+pub ppm_most : {s : List ℕ} {r : Reading} → Taken s r → ppm_length r.layout ≤ 147472
 unfolding ppm_length
-ppm_covers l = refl
+ppm_most {r = r} t =
+    let h = header_most r.layout.w r.layout.h t.width in
+    let p = pixels_most t in
+    omega arith
 
--- the header and the rows behind it, where the part behind the header was lent out and came back
-module _ (p : Picture) (l : Layout) (q : p.layout ≡ l) (line : Line) (e : line ≡ line_of (ppm_header l.w l.h)) (out : List ℕ) (g : length (ppm_header l.w l.h) ≤ length out) where
-  pub ppm_is : (front ys : List ℕ) → front ≡ put out 0 line.len (λ i. get_or line.bytes i 0) → ys ≡ pixel_rows l.w 3 (fill_colour LumaGuided Exact p) 0 l.h (take (length front - line.len) (drop line.len front)) → take line.len front ++ (ys ++ drop (length front - line.len) (drop line.len front)) ≡ ppm_over p out
-  unfolding ppm_over
-  ppm_is front ys f h =
-      let t = ppm_header l.w l.h in
-      let n = line_length t line e in
-      let a : take line.len front ≡ t = rw f (ap (λ (k : ℕ). take k (put out 0 line.len (λ i. get_or line.bytes i 0))) n ∙ front_is t line e out g) in
-      let b : drop line.len front ≡ drop (length t) out = rw f (ap (λ (k : ℕ). drop k (put out 0 line.len (λ i. get_or line.bytes i 0))) n ∙ behind_is t line e out) in
-      let c : drop (length front - line.len) (drop line.len front) ≡ [] = let m : length (drop line.len front) ≤ length front - line.len = let k = length-drop line.len front in omega arith in drop_of_length-le (drop line.len front) m in
-      let d : ys ≡ pixel_rows l.w 3 (fill_colour LumaGuided Exact p) 0 l.h (drop (length t) out) = h ∙ ap (pixel_rows l.w 3 (fill_colour LumaGuided Exact p) 0 l.h) (to_end front line.len ∙ b) in
-      ap (λ (x : List ℕ). take line.len front ++ (ys ++ x)) c
-      ∙ ap (λ (x : List ℕ). take line.len front ++ x) (append-nil ys ∙ d)
-      ∙ ap (λ (x : List ℕ). x ++ pixel_rows l.w 3 (fill_colour LumaGuided Exact p) 0 l.h (drop (length t) out)) a
-      ∙ rw q refl
+-- the header is no longer than a line, and where out has n bytes and room for the PPM, the pixels have room behind the header
+pub ppm_room : {s : List ℕ} {r : Reading} {line : Line} {n : ℕ} → Taken s r → line ≡ line_of (ppm_header r.layout.w r.layout.h) → ppm_length r.layout ≤ n → (line.len ≤ 16) × (line.len + r.layout.w * r.layout.h * 3 ≤ n)
+ppm_room {r = r} {line = line} t e g =
+    let a = line_length _ line e in
+    let b = header_most r.layout.w r.layout.h t.width in
+    let c = ppm_length_is r.layout line e in
+    (omega arith, omega arith)
 
--- the layout of a picture that is made of planes
-pub picture_layout : (s : List ℕ) (l : Layout) (y cb cr : ℕ) → (picture_from s l y cb cr).layout ≡ l
-unfolding picture_of
-picture_layout s l y cb cr = refl
+-- the header and the rows behind it, where the part behind the header was lent out and came back. `Taken` says no more here than which planes
+-- the picture is made of.
+pub ppm_is : {s : List ℕ} {r : Reading} {line : Line} → Taken s r → line ≡ line_of (ppm_header r.layout.w r.layout.h) → (out front ys : List ℕ) → ppm_length r.layout ≤ length out → front ≡ put out 0 line.len (λ i. get_or line.bytes i 0)
+    → ys ≡ pixel_rows r.layout.w 3 (fill_colour LumaGuided Exact (picture_from s r)) 0 r.layout.h (take (length front - line.len) (drop line.len front))
+    → take line.len front ++ (ys ++ drop (length front - line.len) (drop line.len front)) ≡ ppm_over (picture_from s r) out
+unfolding ppm_length ppm_over picture_of
+ppm_is {s} {r} {line} o e out front ys g f h =
+    let l = r.layout in
+    let p = picture_from s r in
+    let t = ppm_header l.w l.h in
+    let n = line_length t line e in
+    let a : take line.len front ≡ t = rw f (ap (λ (k : ℕ). take k (put out 0 line.len (λ i. get_or line.bytes i 0))) n ∙ front_is t line e out (omega arith)) in
+    let b : drop line.len front ≡ drop (length t) out = rw f (ap (λ (k : ℕ). drop k (put out 0 line.len (λ i. get_or line.bytes i 0))) n ∙ behind_is t line e out) in
+    let c : drop (length front - line.len) (drop line.len front) ≡ [] = let m : length (drop line.len front) ≤ length front - line.len = let k = length-drop line.len front in omega arith in drop_of_length-le (drop line.len front) m in
+    let d : ys ≡ pixel_rows l.w 3 (fill_colour LumaGuided Exact p) 0 l.h (drop (length t) out) = h ∙ ap (pixel_rows l.w 3 (fill_colour LumaGuided Exact p) 0 l.h) (to_end front line.len ∙ b) in
+    ap (λ (x : List ℕ). take line.len front ++ (ys ++ x)) c
+    ∙ ap (λ (x : List ℕ). take line.len front ++ x) (append-nil ys ∙ d)
+    ∙ ap (λ (x : List ℕ). x ++ pixel_rows l.w 3 (fill_colour LumaGuided Exact p) 0 l.h (drop (length t) out)) a

@@ -1,22 +1,28 @@
 -- Samples whose bytes were turned: the sample that a plane has, the low byte first, is the one that the input has, the high byte first.
 -- Shown once, for samples of any number of bytes (`turned_sample`), by taking the low byte off both. Samples of one byte are turned as they
 -- stand (`alone_turned`). The step in between is where in its plane a sample stands: the number of the sample times its bytes (`plane_sample`).
-use Rattle.std.proofs.Common.{◌≡◌, refl, sym, ap, ◌∙◌, Bool, true, false, cond, List, ℕ, zero, suc, ◌+◌, ◌-◌, ◌*◌, ◌≤◌, ◌<◌, mul-le-mul_right, arith, ltb, eqb, length, get_or, drop, get_or-drop, ltb-true, ltb-false}
+use Rattle.std.proofs.Common.{◌≡◌, refl, sym, ap, ◌∙◌, Bool, true, false, cond, List, ℕ, zero, suc, ◌+◌, ◌-◌, ◌*◌, ◌≤◌, ◌<◌, mul-le-mul_right, arith, ltb, eqb, length, get_or, drop, get_or-drop, ltb-true, ltb-false, subst, Float, Ok}
 use mathlib.Core.Path.{fun_ext}
 use Rattle.laws.specs.Lists.{put}
 use Rattle.laws.proofs.Lists.{length_put, put_before, put_after, put_inside}
+use Rattle.laws.specs.Refusals.{Answer, accepted}
+use Rattle.laws.proofs.Refusals.{passed_early}
 use Rattle.image.specs.declared.layout.Layout.{Layout}
 use Rattle.image.specs.declared.chroma.Chroma.{Chroma}
 use Rattle.image.specs.declared.chroma.Chroma.TheVariants.{Cb, Cr}
 use Rattle.image.specs.Samples.{sample_of, sample_at, plane_of}
-use Rattle.image.specs.Picture.{chroma_plane, inside, picture_of}
+use Rattle.image.specs.Picture.{Picture, chroma_plane, inside, picture_of}
 use Rattle.image.specs.Inner.Tests.{Sound}
 use Rattle.image.proofs.Pictures.{inside_same}
 use Rattle.netpbm.specs.Bytes.{big_of}
 use Rattle.netpbm.specs.Images.{image_sample}
-use Rattle.netpbm.proofs.Acceptance.{SamplesAre, ReadAccepted, samples_are}
-use Rattle.picture.specs.Picture.{chroma_at, input_picture}
-use Rattle.picture.specs.Inner.Planes.{planes_from, picture_from, Reversed, Turned, PlanesTurned}
+use Rattle.netpbm.specs.declared.reading.Reading.{Reading}
+use Rattle.netpbm.proofs.Acceptance.{SamplesAre, samples_are, read_accepted, taken}
+use Rattle.netpbm.specs.Reading.{input_layout, reading_tests}
+use Rattle.netpbm.specs.Inner.Reading.{reading_of}
+use Rattle.picture.specs.Picture.{Outcome, PictureGiven, chroma_at, input_picture, lent_tests, picture_tests, pick_outcome, ppm_length}
+use Rattle.picture.specs.Inner.Planes.{planes_from, picture_from, Reversed, Turned, PlanesTurned, PpmGiven}
+use Rattle.picture.proofs.Readings.{layout_sound}
 
 -- ---- a sample of any number of bytes
 
@@ -103,25 +109,39 @@ plane_sample b w h at input s p q r y x k l =
 inside_equal : (w h : ℕ) (f g : ℕ → ℕ → ℕ) → ((x y : ℕ) → x < w → y < h → f y x ≡ g y x) → inside w h f ≡ inside w h g
 inside_equal w h f g e = fun_ext (λ y. fun_ext (λ x. inside_same w h f g e x y))
 
-module _ {input s : List ℕ} {l : Layout} {y cb cr : ℕ} (o : Sound l) (a : ReadAccepted input l y cb cr) (t : PlanesTurned l y cb cr input s) where
+module _ {input s : List ℕ} {r : Reading} (e : reading_of input ≡ Ok r) (t : PlanesTurned r input s) where
+  abbrev l : Layout
+  l = r.layout
+
   abbrev b : ℕ
   b = l.sample_bytes
 
-  are : SamplesAre input l y cb cr
-  are = samples_are input l y cb cr a
+  o : Sound l
+  o = layout_sound (taken e)
 
-  luma_same : inside l.w l.h (sample_at b (planes_from s l y cb cr).y) ≡ inside l.w l.h (image_sample input 0)
-  luma_same = inside_equal l.w l.h _ _ (λ i j k m. plane_sample b l.w l.h y input s o.bytes_some o.bytes_most t.y_turned j i k m ∙ sym (are.luma j i))
+  are : SamplesAre input r
+  are = samples_are (read_accepted e)
 
-  chroma_same : (k : Chroma) → inside l.cw l.ch (sample_at b (chroma_plane (planes_from s l y cb cr) k)) ≡ inside l.cw l.ch (image_sample input (chroma_at input k))
-  chroma_same Cb = inside_equal l.cw l.ch _ _ (λ i j k m. plane_sample b l.cw l.ch cb input s o.bytes_some o.bytes_most t.cb_turned j i k m ∙ sym (are.blue j i))
-  chroma_same Cr = inside_equal l.cw l.ch _ _ (λ i j k m. plane_sample b l.cw l.ch cr input s o.bytes_some o.bytes_most t.cr_turned j i k m ∙ sym (are.red j i))
+  luma_same : inside l.w l.h (sample_at b (planes_from s r).y) ≡ inside l.w l.h (image_sample input 0)
+  luma_same = inside_equal l.w l.h _ _ (λ i j k m. plane_sample b l.w l.h r.y input s o.bytes_some o.bytes_most t.y_turned j i k m ∙ sym (are.luma j i))
+
+  chroma_same : (k : Chroma) → inside l.cw l.ch (sample_at b (chroma_plane (planes_from s r) k)) ≡ inside l.cw l.ch (image_sample input (chroma_at input k))
+  chroma_same Cb = inside_equal l.cw l.ch _ _ (λ i j k m. plane_sample b l.cw l.ch r.cb input s o.bytes_some o.bytes_most t.cb_turned j i k m ∙ sym (are.blue j i))
+  chroma_same Cr = inside_equal l.cw l.ch _ _ (λ i j k m. plane_sample b l.cw l.ch r.cr input s o.bytes_some o.bytes_most t.cr_turned j i k m ∙ sym (are.red j i))
 
   -- planes that hold the input's samples turned make the input's picture
-  pub turned_picture : picture_from s l y cb cr ≡ input_picture input
+  pub turned_picture : picture_from s r ≡ input_picture input
   unfolding picture_of input_picture
-  turned_picture = rw (luma_same, fun_ext chroma_same, a.layout_is) refl
+  turned_picture = rw (luma_same, fun_ext chroma_same, (read_accepted e).reading_is) refl
+
+  -- what is promised of their picture is what `picture` promises of the input
+  pub input_given : {scratch : List Float} {out : List ℕ} {n : Outcome} {scratch' : List Float} {out' : List ℕ} → PpmGiven (picture_from s r) scratch out n scratch' out' → PictureGiven input scratch out n scratch' out'
+  unfolding picture_tests input_picture
+  input_given {scratch} {out} {n} {scratch'} {out'} g =
+      let q = subst (λ (p : Picture). PpmGiven p scratch out n scratch' out') turned_picture g in
+      let passed = sym (passed_early (reading_tests input) (lent_tests (input_picture input) scratch out) (ap accepted (read_accepted e).passed)) in
+      record { answers = q.answers ∙ ap (λ (a : Answer). pick_outcome a (ppm_length (input_layout input))) passed; gives = q.gives; scratches = q.scratches }
 
 -- planes of one-byte samples lie turned in the input itself
-pub input_turned : {input : List ℕ} {l : Layout} {y cb cr : ℕ} → l.sample_bytes ≡ 1 → PlanesTurned l y cb cr input input
+pub input_turned : {input : List ℕ} {r : Reading} → r.layout.sample_bytes ≡ 1 → PlanesTurned r input input
 input_turned e = record { y_turned = alone_turned _ _ _ _ e; cb_turned = alone_turned _ _ _ _ e; cr_turned = alone_turned _ _ _ _ e }

@@ -8,34 +8,28 @@ use Rattle.image.specs.Limits.{exceeds}
 use Rattle.image.specs.Scratch.{scratch_need}
 use Rattle.netpbm.specs.declared.lines.Line.{Line}
 use Rattle.netpbm.specs.Texts.{line_of}
-use Rattle.netpbm.specs.Images.{rows_at}
 use Rattle.netpbm.specs.Lines.{refusal_line}
-use Rattle.netpbm.specs.Reading.{cb_at, cr_at, input_layout, reading_tests}
-use Rattle.netpbm.specs.Inner.Reading.{reading_of}
+use Rattle.netpbm.specs.Reading.{input_layout, reading_tests}
+use Rattle.netpbm.specs.Inner.Reading.{input_reading, reading_of}
 use Rattle.netpbm.specs.Inner.Taken.{Taken}
 use Rattle.netpbm.proofs.Acceptance.{taken}
 use Rattle.picture.specs.Picture.{input_picture, ppm_length, lent_tests, picture_tests, pick_outcome, PictureGiven}
-use Rattle.netpbm.proofs.Digits.{header_most}
-use Rattle.picture.proofs.Readings.{layout_sound, pixels_most}
+use Rattle.picture.proofs.Readings.{layout_sound}
+use Rattle.picture.proofs.Fronts.{ppm_most}
 use Rattle.laws.specs.declared.refusal.Refusal.TheVariants.{AboveMaxval}
 
 -- what an input that is read asks for
 module _ (input : List ℕ) (a : first (reading_tests input) ≡ Ok tt) where
-  read_taken : Taken input (input_layout input) (rows_at input 0) (rows_at input (cb_at input)) (rows_at input (cr_at input))
+  read_taken : Taken input (input_reading input)
   unfolding reading_of
-  read_taken = taken input _ _ _ _ (rw a refl)
+  read_taken = taken (rw a refl)
 
   scratch_most : scratch_need (input_layout input) ≤ 5120
   unfolding scratch_need
   scratch_most = let w = read_taken.width in let c = (layout_sound read_taken).cw_most in omega arith
 
   out_most : ppm_length (input_layout input) ≤ 147472
-  unfolding ppm_length
-  out_most =
-      let l = input_layout input in
-      let h = header_most l.w l.h read_taken.width in
-      let p = pixels_most read_taken in
-      omega arith
+  out_most = ppm_most read_taken
 
 -- with 5,120 values of scratch and 147,472 bytes of out neither 9 nor 10 is ever given
 pub room_enough : (input : List ℕ) (scratch : List Float) (out : List ℕ) → 5120 ≤ length scratch → 147472 ≤ length out → first (picture_tests input scratch out) ≡ first (reading_tests input ++ ((exceeds (input_picture input), AboveMaxval) ∷ []))

@@ -12,10 +12,10 @@ ghost use Rattle.picture.specs.Inner.Planes.{planes_from, picture_from};
 ghost use Rattle.image.specs.Picture.{planes_seen};
 
 use fill::ChromaUpsampling;
-use image::{Layout, Plane, Planes};
+use image::{Plane, Planes};
 use kernels::YcbcrKernel;
 use laws::Refusal;
-use netpbm::Line;
+use netpbm::{Line, Reading};
 
 // Copies the bytes of a line to the front of `out`.
 fn put_line(line: Line, out: &mut [u8])
@@ -26,27 +26,23 @@ fn put_line(line: Line, out: &mut [u8])
 }
 
 // The three planes of a picture that was read, each from where its rows begin to the end of the bytes, one row right behind another.
-pub(crate) fn planes_from<'a>(
-    bytes: &'a [u8],
-    layout: Layout,
-    y: usize,
-    cb: usize,
-    cr: usize,
-) -> Planes<'a>
-    requires { Taken bytes.now layout y cb cr }
-    ensures { planes_seen result ≡ planes_from bytes.now layout y cb cr }
+#[tactic(auto, using(crate::proofs::Readings::strides_most))]
+pub(crate) fn planes_from<'a>(bytes: &'a [u8], reading: Reading) -> Planes<'a>
+    requires { Taken bytes.now reading }
+    ensures { planes_seen result ≡ planes_from bytes.now reading }
 {
+    let layout = reading.layout;
     Planes {
         y: Plane {
-            bytes: &bytes[y..],
+            bytes: &bytes[reading.y..],
             stride: layout.w * layout.sample_bytes,
         },
         cb: Plane {
-            bytes: &bytes[cb..],
+            bytes: &bytes[reading.cb..],
             stride: layout.cw * layout.sample_bytes,
         },
         cr: Plane {
-            bytes: &bytes[cr..],
+            bytes: &bytes[reading.cr..],
             stride: layout.cw * layout.sample_bytes,
         },
     }
@@ -55,30 +51,22 @@ pub(crate) fn planes_from<'a>(
 // Writes the pixels of the picture whose planes these are, from the first byte of `out` on. `fill` is lent them three times, each time from
 // where a plane's rows begin. It accepts them: planes of an input that was read, with no sample above maxval and scratch and `out` of these
 // lengths, leave it nothing to refuse.
-fn put_pixels(
-    planes: &[u8],
-    layout: Layout,
-    y: usize,
-    cb: usize,
-    cr: usize,
-    s: &mut [f32],
-    out: &mut [u8],
-) -> Result<(), Refusal>
-    requires taken { Taken planes.now layout y cb cr }
-    requires cr_value { exceeds (picture_from planes.now layout y cb cr) ≡ false }
-    requires layout_in_bounds { (scratch_need layout ≤ length s.old) × (layout.w * layout.h * 3 ≤ length out.old) }
+#[tactic(auto, using(crate::proofs::Readings::fill_takes), unfolding(crate::specs::Picture::scratch_after, fill::specs::Fill::fill_scratch, image::specs::Picture::picture_of))]
+fn put_pixels(planes: &[u8], reading: Reading, s: &mut [f32], out: &mut [u8]) -> Result<(), Refusal>
+    requires taken { Taken planes.now reading }
+    requires none_above { exceeds (picture_from planes.now reading) ≡ false }
+    requires scratch_long { scratch_need reading.layout ≤ length s.old }
+    requires out_long { reading.layout.w * reading.layout.h * 3 ≤ length out.old }
     ensures accepts { result ≡ Ok tt }
     ensures out_after { out.new ≡ pixel_rows
-        layout.w 3
-        (fill_colour ChromaUpsampling.LumaGuided YcbcrKernel.Exact (picture_from planes.now layout y cb cr))
-        0 layout.h out.old }
-    ensures s_after { s.new ≡ scratch_after
-        (picture_from planes.now layout y cb cr)
-        s.old }
+        reading.layout.w 3
+        (fill_colour ChromaUpsampling.LumaGuided YcbcrKernel.Exact (picture_from planes.now reading))
+        0 reading.layout.h out.old }
+    ensures s_after { s.new ≡ scratch_after (picture_from planes.now reading) s.old }
 {
     fill::fill(
-        layout,
-        planes_from(planes, layout, y, cb, cr),
+        reading.layout,
+        planes_from(planes, reading),
         ChromaUpsampling::LumaGuided,
         YcbcrKernel::Exact,
         3,
@@ -88,27 +76,24 @@ fn put_pixels(
 }
 
 // Writes the header, and behind it the pixels of the picture whose planes these are.
+#[tactic(auto, using(crate::proofs::Fronts::ppm_room, laws::proofs::Lists::length_put, crate::proofs::Fronts::ppm_is))]
 pub(crate) fn put_ppm(
     planes: &[u8],
-    layout: Layout,
-    y: usize,
-    cb: usize,
-    cr: usize,
+    reading: Reading,
     header: Line,
     s: &mut [f32],
     out: &mut [u8],
 ) -> Result<(), Refusal>
-    requires taken { Taken planes.now layout y cb cr }
-    requires cr_value { exceeds (picture_from planes.now layout y cb cr) ≡ false }
-    requires header_value { header ≡ line_of (ppm_header layout.w layout.h) }
-    requires layout_in_bounds { (scratch_need layout ≤ length s.old) × (ppm_length layout ≤ length out.old) }
+    requires taken { Taken planes.now reading }
+    requires none_above { exceeds (picture_from planes.now reading) ≡ false }
+    requires header_value { header ≡ line_of (ppm_header reading.layout.w reading.layout.h) }
+    requires scratch_long { scratch_need reading.layout ≤ length s.old }
+    requires out_long { ppm_length reading.layout ≤ length out.old }
     ensures accepts { result ≡ Ok tt }
-    ensures out_after { out.new ≡ ppm_over (picture_from planes.now layout y cb cr) out.old }
-    ensures s_after { s.new ≡ scratch_after
-        (picture_from planes.now layout y cb cr)
-        s.old }
+    ensures out_after { out.new ≡ ppm_over (picture_from planes.now reading) out.old }
+    ensures s_after { s.new ≡ scratch_after (picture_from planes.now reading) s.old }
 {
     let at = header.len;
     put_line(header, out);
-    put_pixels(planes, layout, y, cb, cr, s, &mut out[at..])
+    put_pixels(planes, reading, s, &mut out[at..])
 }

@@ -5,7 +5,7 @@ ghost use Rattle.laws.specs.Lists.{put};
 ghost use Rattle.netpbm.specs.Inner.Taken.{Taken};
 ghost use Rattle.picture.specs.Inner.Planes.{Turned, PlanesTurned};
 
-use image::Layout;
+use netpbm::Reading;
 
 // Room for the planes of every input that is read: as many bytes as `Reading::LONGEST` of netpbm. It is a function of its own, so that no
 // check behind it counts that length.
@@ -34,22 +34,17 @@ fn turn(input: &[u8], at: usize, b: usize, n: usize, planes: &mut [u8])
 }
 
 // Copies the samples of the three images that were read, each plane to where its rows stand.
-pub(crate) fn turn_planes(
-    input: &[u8],
-    layout: Layout,
-    y: usize,
-    cb: usize,
-    cr: usize,
-    planes: &mut [u8],
-)
-    requires taken { Taken input.now layout y cb cr }
+#[tactic(auto, using(crate::proofs::Readings::pixels_most, crate::proofs::Readings::cells_most))]
+pub(crate) fn turn_planes(input: &[u8], reading: Reading, planes: &mut [u8])
+    requires taken { Taken input.now reading }
     requires input_in_bounds { length input.now ≤ length planes.old }
-    ensures { PlanesTurned layout y cb cr input.now planes.new }
+    ensures { PlanesTurned reading input.now planes.new }
 {
+    let layout = reading.layout;
     let b = layout.sample_bytes;
     let pixels = layout.w * layout.h;
     let cells = layout.cw * layout.ch;
-    turn(input, y, b, pixels, planes);
-    turn(input, cb, b, cells, planes);
-    turn(input, cr, b, cells, planes);
+    turn(input, reading.y, b, pixels, planes);
+    turn(input, reading.cb, b, cells, planes);
+    turn(input, reading.cr, b, cells, planes);
 }

@@ -10,9 +10,9 @@ use Rattle.picture.proofs.planes_above.Goals as goal
 pub above_planes-requires : goal.above_planes-requires
 above_planes-requires c =
     let o = layout_sound c.requires in
-    (o.bytes_some, o.bytes_most, ap (bad_planes c.args.layout) c.planes_from.ensures ∙ planes_hold c.requires)
+    (o.bytes_some, o.bytes_most, ap (bad_planes c.args.reading.layout) c.planes_from.ensures ∙ planes_hold c.requires)
 
 pub returns : goal.returns
 returns c =
     let a = c.args in
-    c.above_planes.ensures ∙ ap (above_any a.layout) c.planes_from.ensures ∙ planes_exceed a.layout (planes_from a.planes.now a.layout a.y a.cb a.cr)
+    c.above_planes.ensures ∙ ap (above_any a.reading.layout) c.planes_from.ensures ∙ planes_exceed a.reading.layout (planes_from a.planes.now a.reading)
