@@ -156,11 +156,6 @@ stops ts us why e = sym (first_further ts us ∙ ap (λ a. further a us) e)
 pub goes_on : (ts us : List Test) → first ts ≡ Ok tt → first us ≡ first (ts ++ us)
 goes_on ts us e = sym (first_further ts us ∙ ap (λ a. further a us) e)
 
--- lists behind an answer count only where it is accepted
-pub further_same : (a : Answer) (ts us : List Test) → (accepted a ≡ true → first ts ≡ first us) → further a ts ≡ further a us
-further_same (Ok tt) ts us e = e refl
-further_same (Err why) ts us e = refl
-
 -- two tests with the same reason are one
 pub first_either : (b c : Bool) (why : Refusal) (ts : List Test) → first ((b, why) ∷ (c, why) ∷ ts) ≡ first ((b || c, why) ∷ ts)
 unfolding first
