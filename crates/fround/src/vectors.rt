@@ -26,7 +26,7 @@ pub fn fmax_lanes<const N: usize>(a: Simd<f32, N>, b: Simd<f32, N>) -> Simd<f32,
 }
 
 // Values limited to 0..=max.
-fn clamped(v: f32x16, max: f32) -> f32x16
+fn clamp_lanes(v: f32x16, max: f32) -> f32x16
     ensures { (f : ℕ → Float) → v ≡ table 16 f → result ≡ table 16 (λ k. fmin (fmax (f k) origin) max) }
 {
     fmin_lanes(fmax_lanes(v, f32x16::splat(0.0)), f32x16::splat(max))
@@ -34,7 +34,7 @@ fn clamped(v: f32x16, max: f32) -> f32x16
 
 // Limited values moved onto the grid, halves up: a tie goes to the even neighbour, and one further up to the odd one, of which the larger went
 // up. 8,388,609 is GRID + 1.
-fn on_grid(c: f32x16) -> f32x16
+fn grid_lanes(c: f32x16) -> f32x16
     ensures { (f : ℕ → Float) → c ≡ table 16 f → result ≡ table 16 (λ k. higher (f k)) }
 {
     let even = c + f32x16::splat(Rounding::GRID);
@@ -47,8 +47,8 @@ fn on_grid(c: f32x16) -> f32x16
 pub fn centred_256ths(v: f32x16) -> f32x16
     ensures { (f : ℕ → Float) → v ≡ table 16 f → result ≡ table 16 (λ k. f32 (round_clamped 65536 (f k ⊗ f32 256)) ⊖ f32 32768) }
 {
-    let c = clamped(v * f32x16::splat(256.0), 65_536.0);
-    on_grid(c) - f32x16::splat(8_421_376.0)
+    let c = clamp_lanes(v * f32x16::splat(256.0), 65_536.0);
+    grid_lanes(c) - f32x16::splat(8_421_376.0)
 }
 
 // Inner: values limited to 0..=max and those to the nearest whole numbers, halves up. 0x4B000000 is the bits of GRID, behind which the bits of
@@ -57,6 +57,6 @@ pub fn rounded(v: f32x16, max: u32) -> u32x16
     requires { max ≤ 65536 }
     ensures { (f : ℕ → Float) → v ≡ table 16 f → result ≡ table 16 (λ k. round_clamped max (f k)) }
 {
-    let c = clamped(v, whole(max));
-    on_grid(c).to_bits() - u32x16::splat(0x4B00_0000)
+    let c = clamp_lanes(v, whole(max));
+    grid_lanes(c).to_bits() - u32x16::splat(0x4B00_0000)
 }

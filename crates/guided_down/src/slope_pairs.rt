@@ -1,7 +1,7 @@
 // Both components' rows of slopes side by side, so that luma's means are made once for the two.
 //
-// What slope_rows has for one component is here again for two: alike is only the order of four calls in `pair_cells`, and a trait of one and of
-// two components would have more lines than both.
+// What slope_rows has for one component is here again for two. A const number of components is no plainer: it would carry arrays of rows and of
+// places, and an invariant over so many runs, one behind another, where `Pair` (proofs/Pairs) has two.
 ghost use Rattle.std.specs.Prelude.{◌≡◌, [], ℕ, ◌+◌, ◌*◌, ◌≤◌, ◌<◌, length, get_or};
 ghost use Rattle.std.specs.Float.{nan};
 ghost use Rattle.guided_down.specs.Inner.Slopes.{slope_inside, AllInside, SameLuma, PairLent, pair_run, pairs_from, pairs_inside, slope_rows};

@@ -30,8 +30,8 @@ pub record Shaped (l : Layout) : Type 0 where
   pub cells : l.w * l.across.num ≤ l.cw * l.rh
   pub lines : l.h * l.down.num ≤ l.ch * l.rv
 
--- and at numerator 1. A fact in the contracts of 38 functions, and not a ghost field of a layout's own type: each of them would be two words
--- shorter, and 160 places, which name a layout in a contract or read a side in the code, would name that type's field besides
+-- and at numerator 1. A fact in the contracts of 51 functions, and not a ghost field of a layout's own type: each of them would be two words
+-- shorter, and some 240 places, which name a layout in those contracts or read a side in their code, would name that type's field besides
 pub record Sound (l : Layout) : Type 0 where
   pub w_some : 0 < l.w
   pub w_most : l.w ≤ 8192

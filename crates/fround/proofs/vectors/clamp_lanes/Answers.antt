@@ -1,7 +1,7 @@
 use Rattle.std.proofs.Common.{refl}
 use lib.Ieee.{of_bits}
 use Rattle.laws.specs.Lists.{table}
-use Rattle.fround.proofs.vectors.clamped.Goals as goal
+use Rattle.fround.proofs.vectors.clamp_lanes.Goals as goal
 
 pub returns : goal.returns
 unfolding table of_bits
