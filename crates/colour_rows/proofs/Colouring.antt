@@ -1,19 +1,18 @@
 -- The colour of a pixel, as the kernels are handed its samples.
-use Rattle.std.proofs.Common.{◌≡◌, refl, sym, ap, ◌≢◌, false, List, ℕ, zero-add, eqb, get_or, Float, ne_eqb}
+use Rattle.std.proofs.Common.{◌≡◌, refl, ◌≢◌, false, List, ℕ, zero-add, eqb, get_or, Float, ne_eqb}
 use lib.Ieee.{nan}
 use Rattle.laws.specs.Floats.{f32, ◌⊗◌}
-use Rattle.image.specs.declared.layout.Layout.{Layout}
 use Rattle.image.specs.declared.layout.Range.{Range}
 use Rattle.image.specs.declared.layout.Range.TheVariants.{Full, Studio}
-use Rattle.image.specs.Samples.{Plane, sample_at}
+use Rattle.image.specs.Samples.{sample_at, seen}
 use Rattle.fround.specs.Rounding.{round_clamped}
 use Rattle.image.specs.Scratch.{cell_at}
-use Rattle.kernel_blocks.specs.Stores.{pixels}
-use Rattle.kernels.specs.Kernels.{exact255, exact_at, fixed255}
+use Rattle.kernels.specs.Kernels.{Colour, exact255, exact_at, fixed255}
 use Rattle.kernels.specs.T871.{studio255}
 use Rattle.kernels.specs.Pixels.{exact_colour}
 use Rattle.colour_rows.specs.Colours.{limit256, chroma256, whole_chroma, colour_by, studio_by, colour_in}
-use Rattle.colour_rows.specs.Inner.Colours.{row_colour, colour_row, studio_colour, studio_row, ranged_pixel, ranged_row}
+use Rattle.colour_rows.specs.Inner.Colours.{lent_pixel, lent_row, ranged_pixel, ranged_row}
+use Rattle.colour_rows.specs.declared.lent.LentRow.{LentRow}
 use Rattle.kernels.specs.declared.kernel.YcbcrKernel.{YcbcrKernel}
 use Rattle.kernels.specs.declared.kernel.YcbcrKernel.TheVariants.{Exact, FixedPoint16}
 
@@ -38,30 +37,34 @@ module _ (y : ℕ) (b r : Float) {cb cr : ℕ} where
   unfolding studio_by chroma256 limit256
   studio_by_is p q = rw (p, q) refl
 
--- in a row: luma of the plane, Cb from the row at the front of scratch and Cr from the one at w
-module _ (kernel : YcbcrKernel) (l : Layout) (p : Plane) (row : ℕ) (s : List Float) (x : ℕ) {y : ℕ} (e : y ≡ sample_at l.sample_bytes p row x) where
-  pub in_row : {d : ℕ} → l.maxval ≡ d → colour_by kernel d y (cell_at s 0 x) (cell_at s l.w x) ≡ row_colour kernel l p row s x
-  unfolding row_colour
-  in_row m = rw (e, ← m) refl
+-- in a lent row: luma of the plane, Cb from the row at the front of scratch and Cr from the one at w
+module _ (colour : ℕ → Float → Float → Colour) (t : LentRow) (x : ℕ) {y : ℕ} (e : y ≡ sample_at t.layout.sample_bytes (seen t.plane) t.row x) where
+  pub in_row : colour y (cell_at t.s.now 0 x) (cell_at t.s.now t.layout.w x) ≡ lent_pixel colour t x
+  unfolding lent_pixel
+  in_row = rw e refl
 
-  pub in_row_read : colour_by kernel l.maxval y (get_or s x nan) (cell_at s l.w x) ≡ row_colour kernel l p row s x
-  in_row_read = rw zero-add at (in_row refl)
+  pub in_row_read : colour y (get_or t.s.now x nan) (cell_at t.s.now t.layout.w x) ≡ lent_pixel colour t x
+  in_row_read = rw zero-add at in_row
 
--- the same in studio range
-module _ (l : Layout) (p : Plane) (row : ℕ) (s : List Float) (x : ℕ) {y : ℕ} (e : y ≡ sample_at l.sample_bytes p row x) where
-  pub in_studio : studio_by y (cell_at s 0 x) (cell_at s l.w x) ≡ studio_colour l p row s x
-  unfolding studio_colour
-  in_studio = rw e refl
+-- the colour in a range
+module _ {r : Range} (kernel : YcbcrKernel) (d : ℕ) where
+  pub full_is : r ≡ Full → colour_by kernel d ≡ colour_in r kernel d
+  unfolding colour_in
+  full_is e = rw e refl
 
-  pub in_studio_read : studio_by y (get_or s x nan) (cell_at s l.w x) ≡ studio_colour l p row s x
-  in_studio_read = rw zero-add at in_studio
+  pub exact_is : r ≡ Full → kernel ≡ Exact → d ≡ 255 → colour_by Exact 255 ≡ colour_in r kernel d
+  unfolding colour_in
+  exact_is e k m = rw (e, k, m) refl
 
--- a row in the layout's range is the row of that range
-module _ (kernel : YcbcrKernel) (l : Layout) (p : Plane) (row : ℕ) (s : List Float) (at size : ℕ) (out : List ℕ) where
-  pub full_row : l.range ≡ Full → colour_row kernel l p row s at size out ≡ ranged_row kernel l p row s at size out
-  unfolding colour_row row_colour ranged_row ranged_pixel colour_in
-  full_row e = ap (λ (r : Range). pixels out at size (λ x. colour_in r kernel l.maxval (sample_at l.sample_bytes p row x) (cell_at s 0 x) (cell_at s l.w x)) l.w) (sym e)
+  pub fixed_is : r ≡ Full → kernel ≡ FixedPoint16 → colour_by FixedPoint16 255 ≡ colour_in r kernel d
+  unfolding colour_in colour_by
+  fixed_is e k = rw (e, k) refl
 
-  pub studio_row_is : l.range ≡ Studio → studio_row l p row s at size out ≡ ranged_row kernel l p row s at size out
-  unfolding studio_row studio_colour ranged_row ranged_pixel colour_in
-  studio_row_is e = ap (λ (r : Range). pixels out at size (λ x. colour_in r kernel l.maxval (sample_at l.sample_bytes p row x) (cell_at s 0 x) (cell_at s l.w x)) l.w) (sym e)
+  pub studio_is : r ≡ Studio → studio_by ≡ colour_in r kernel d
+  unfolding colour_in
+  studio_is e = rw e refl
+
+-- a row in the layout's range
+pub ranged_row_is : (kernel : YcbcrKernel) (t : LentRow) (at size : ℕ) (out : List ℕ) → lent_row (colour_in t.layout.range kernel t.layout.maxval) t at size out ≡ ranged_row kernel t.layout (seen t.plane) t.row t.s.now at size out
+unfolding lent_row lent_pixel ranged_row ranged_pixel
+ranged_row_is kernel t at size out = refl

@@ -1,7 +1,7 @@
 -- That samples lie in a row of luma.
-use Rattle.std.proofs.Common.{◌≡◌, ap, ◌≢◌, ℕ, ◌+◌, ◌*◌, ◌≤◌, ◌<◌, arith, length}
+use Rattle.std.proofs.Common.{ℕ, ◌+◌, ◌*◌, ◌≤◌, ◌<◌, length}
 use Rattle.image.specs.declared.layout.Layout.{Layout}
-use Rattle.image.specs.Samples.{Plane, place, sample_of, sample_at}
+use Rattle.image.specs.Samples.{Plane, place}
 use Rattle.image.proofs.Holding.{short_holds, sample_inside, run_inside}
 use Rattle.colour_rows.specs.Inner.Gathered.{LumaRow}
 

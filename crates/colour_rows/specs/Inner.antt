@@ -1,4 +1,3 @@
 pub mod Blocks
 pub mod Gathered
-pub mod Lent
 pub mod Colours

@@ -4,14 +4,14 @@ ghost use Rattle.std.specs.Prelude.{◌≡◌, ◌≢◌, ℕ, ◌+◌, ◌*◌,
 ghost use Rattle.laws.specs.Floats.{f32, ◌⊗◌};
 ghost use Rattle.fround.specs.Inner.Rounding.{Rounded};
 ghost use Rattle.kernels.specs.Inner.Forms.{colour_of};
-ghost use Rattle.colour_rows.specs.Colours.{colour_by, studio_by};
-ghost use Rattle.colour_rows.specs.Inner.Colours.{colour_row, studio_row};
-ghost use Rattle.colour_rows.specs.Inner.Lent.{RowLent};
+ghost use Rattle.colour_rows.specs.Colours.{colour_by, studio_by, colour_in};
+ghost use Rattle.colour_rows.specs.Inner.Colours.{lent_row};
+ghost use Rattle.image.specs.Inner.Tests.{Shaped};
 ghost use Rattle.kernels.specs.declared.kernel.YcbcrKernel.TheVariants.{Exact, FixedPoint16};
-ghost use Rattle.image.specs.Samples.{seen};
 
+use crate::lent::LentRow;
 use crate::samples::{chroma_256ths, luma_at, whole_chroma};
-use image::{Layout, Plane};
+use image::{Layout, Range};
 use kernels::{Rgb, YcbcrKernel};
 
 // A pixel by the exact kernel at maxval 255.
@@ -51,8 +51,8 @@ fn fixed_pixel(y: u16, cb: f32, cr: f32) -> Rgb
     kernels::ycbcr_to_rgb8_fixed(y, u16::from(whole_chroma(cb)), u16::from(whole_chroma(cr)))
 }
 
-// A pixel by either kernel at any maxval, in full range.
-fn plain_pixel(kernel: YcbcrKernel, y: u16, cb: f32, cr: f32, maxval: u32) -> Rgb
+// A pixel in full range, by either kernel at any maxval.
+fn full_pixel(kernel: YcbcrKernel, y: u16, cb: f32, cr: f32, maxval: u32) -> Rgb
     requires { (1 ≤ maxval) × (maxval ≤ 65535) }
     ensures { colour_of result ≡ colour_by kernel maxval y cb cr }
 {
@@ -67,50 +67,28 @@ fn plain_pixel(kernel: YcbcrKernel, y: u16, cb: f32, cr: f32, maxval: u32) -> Rg
     }
 }
 
-// Inner: a row of full range pixel by pixel, of `size` bytes each, to out from `at` on. Cb's finished row lies in scratch at 0, Cr's at w.
-pub fn plain_row(
-    layout: Layout,
-    kernel: YcbcrKernel,
-    size: usize,
-    plane: Plane<'_>,
-    row: usize,
-    s: &[f32],
-    out: &mut [u8],
-    at: usize,
-)
-    requires row_lent { RowLent layout (seen plane) row (length s.now) }
-    requires le_size { (3 ≤ size) × (at + layout.w * size ≤ length out.old) }
-    ensures { out.new ≡ colour_row
-        kernel layout (seen plane.entry) row s.now at size out.old }
+// A pixel in the layout's range.
+fn ranged_pixel(kernel: YcbcrKernel, layout: Layout, y: u16, cb: f32, cr: f32) -> Rgb
+    requires { Shaped layout }
+    ensures { colour_of result ≡ colour_in layout.range kernel layout.maxval y cb cr }
 {
-    let w = layout.w;
-    for x in 0..w {
-        let y = luma_at(layout, plane, row, x);
-        let p = plain_pixel(kernel, y, s[x], s[w + x], layout.maxval);
-        kernel_blocks::put_pixel(out, at + x * size, p.r, p.g, p.b);
+    match layout.range {
+        Range::Full => full_pixel(kernel, y, cb, cr, layout.maxval),
+        Range::Studio => studio_pixel(y, cb, cr),
     }
 }
 
-// Inner: a row of studio range pixel by pixel. A loop of its own, so that full range has no test in its loop. The pixel isn't handed to one
-// loop as a closure, as the blocks are: what the closure would have to promise is longer than the loop.
-pub fn studio_plain_row(
-    layout: Layout,
-    size: usize,
-    plane: Plane<'_>,
-    row: usize,
-    s: &[f32],
-    out: &mut [u8],
-    at: usize,
-)
-    requires row_lent { RowLent layout (seen plane) row (length s.now) }
-    requires le_size { (3 ≤ size) × (at + layout.w * size ≤ length out.old) }
-    ensures { out.new ≡ studio_row
-        layout (seen plane.entry) row s.now at size out.old }
+// Inner: a row pixel by pixel, of `size` bytes each, to out from `at` on. The loop asks range, kernel and maxval of each pixel, which keeps
+// it one: the loops that ask nothing are those of blocks, for the rows that have one.
+pub fn plain_row(kernel: YcbcrKernel, lent: LentRow<'_>, size: usize, out: &mut [u8], at: usize)
+    requires { (3 ≤ size) × (at + lent.layout.w * size ≤ length out.old) }
+    ensures { out.new ≡ lent_row
+        (colour_in lent.entry.layout.range kernel lent.entry.layout.maxval) lent.entry at size out.old }
 {
-    let w = layout.w;
+    let w = lent.layout.w;
     for x in 0..w {
-        let y = luma_at(layout, plane, row, x);
-        let rgb = studio_pixel(y, s[x], s[w + x]);
-        kernel_blocks::put_pixel(out, at + x * size, rgb.r, rgb.g, rgb.b);
+        let y = luma_at(lent, x);
+        let p = ranged_pixel(kernel, lent.layout, y, lent.s[x], lent.s[w + x]);
+        kernel_blocks::put_pixel(out, at + x * size, p.r, p.g, p.b);
     }
 }

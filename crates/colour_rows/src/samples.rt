@@ -7,19 +7,20 @@ ghost use Rattle.fround.specs.Rounding.{round_clamped};
 ghost use Rattle.fround.specs.Inner.Rounding.{Rounded};
 ghost use Rattle.image.specs.Scratch.{cell_at};
 ghost use Rattle.kernel_blocks.specs.Inner.Floating.{Centred};
-ghost use Rattle.colour_rows.specs.Inner.Gathered.{LumaRow, Listed};
+ghost use Rattle.colour_rows.specs.Inner.Gathered.{Listed};
 
-use image::{Layout, Plane};
+use crate::lent::LentRow;
 use kernel_blocks::Block;
 
 // Inner: luma of column x of a row.
 #[tactic(auto, unfolding(image::specs::Samples::sample_at))]
-pub fn luma_at(layout: Layout, plane: Plane<'_>, row: usize, x: usize) -> u16
-    requires { LumaRow layout (seen plane) row × (x < layout.w) }
-    ensures { result ≡ sample_at layout.sample_bytes (seen plane.entry) row x }
+pub fn luma_at(lent: LentRow<'_>, x: usize) -> u16
+    requires { x < lent.layout.w }
+    ensures { result ≡ sample_at lent.entry.layout.sample_bytes (seen lent.entry.plane) lent.entry.row x }
 {
-    let bytes = layout.sample_bytes;
-    image::sample(plane.bytes, bytes, row * plane.stride + x * bytes)
+    let plane = lent.plane;
+    let bytes = lent.layout.sample_bytes;
+    image::sample(plane.bytes, bytes, lent.row * plane.stride + x * bytes)
 }
 
 // Inner: chroma in 256ths at maxval 255, limited to 65,536 = 256 * 256, since the kernel takes at most 32,768 to either side of 128 * 256.
@@ -37,11 +38,11 @@ pub fn whole_chroma(v: f32) -> u8
 }
 
 // Inner: luma of the sixteen columns from x on.
-pub fn luma_block(layout: Layout, plane: Plane<'_>, row: usize, x: usize) -> [u16; Block::LEN]
-    requires { LumaRow layout (seen plane) row × (x + Block.LEN ≤ layout.w) }
-    ensures { Listed Block.LEN result (λ k. sample_at layout.sample_bytes (seen plane.entry) row (x + k)) }
+pub fn luma_block(lent: LentRow<'_>, x: usize) -> [u16; Block::LEN]
+    requires { x + Block.LEN ≤ lent.layout.w }
+    ensures { Listed Block.LEN result (λ k. sample_at lent.entry.layout.sample_bytes (seen lent.entry.plane) lent.entry.row (x + k)) }
 {
-    image::row_block(plane, layout.sample_bytes, row, x)
+    image::row_block(lent.plane, lent.layout.sample_bytes, lent.row, x)
 }
 
 // Inner: chroma of the sixteen columns from x on of the finished row at src, in 256ths less 32,768 = 128 * 256, as floats for the exact

@@ -1,4 +1,7 @@
 // Refill: after a rectangle of chroma cells was replaced, the rows near it once more, in place.
+//
+// `refill`'s eight parameters travel one by one to its answer, since each test of that looks at one or two of them: a struct would be taken
+// apart as soon as it is made, and the record that they are for contracts is `RefillCall`.
 ghost use Rattle.std.specs.Prelude.{◌≡◌, ◌||◌, false};
 ghost use Rattle.laws.specs.Refusals.{first};
 ghost use Rattle.image.specs.Inner.Tests.{Sound};

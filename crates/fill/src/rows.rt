@@ -10,6 +10,7 @@ ghost use Rattle.fill.specs.Inner.Steps.{fill_step, ChromaLent, FillLent};
 ghost use Rattle.image.specs.Samples.{seen};
 
 use crate::options::ChromaUpsampling;
+use colour_rows::LentRow;
 use image::{Components, Layout, Planes};
 use kernels::YcbcrKernel;
 
@@ -51,8 +52,8 @@ fn chroma_row(
     }
 }
 
-// Makes row first + n: its chroma, then its colour at its place in out. Nine parameters: the seven that `fill` is handed, and which
-// row.
+// Makes row first + n: its chroma, then its colour at its place in out. Its nine parameters are the seven that `fill` is handed and which
+// row: a struct of some would be made by two calls, for this function and `fill_rows` to take apart.
 fn fill_row(
     layout: Layout,
     planes: Planes<'_>,
@@ -77,10 +78,17 @@ fn fill_row(
     let row = first + n;
     let at = row * (layout.w * size);
     chroma_row(layout, planes, upsampling, first, n, s);
-    colour_rows::colour_row(layout, kernel, size, planes.y, row, s, out, at);
+    let lent = LentRow {
+        layout,
+        plane: planes.y,
+        row,
+        s,
+    };
+    colour_rows::colour_row(kernel, lent, size, out, at);
 }
 
-// Inner: makes rows a, .. b - 1 of the picture, whatever scratch holds. Nine parameters: the seven that `fill` is handed, and from where to where.
+// Inner: makes rows a, .. b - 1 of the picture, whatever scratch holds. Its nine parameters are the seven that `fill` is handed and from
+// where to where.
 pub fn fill_rows(
     layout: Layout,
     planes: Planes<'_>,

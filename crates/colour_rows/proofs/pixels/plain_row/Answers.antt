@@ -1,8 +1,7 @@
 use Rattle.std.proofs.Common.{◌∙◌, arith}
-use Rattle.colour_rows.specs.Inner.Colours.{colour_row}
+use Rattle.colour_rows.specs.Inner.Colours.{lent_row}
 use Rattle.kernel_blocks.proofs.Stored.{stored_none, stored_more, stored_end}
 use Rattle.colour_rows.proofs.Colouring.{in_row_read}
-use Rattle.image.specs.Samples.{seen}
 use Rattle.colour_rows.proofs.pixels.plain_row.Goals as goal
 
 pub loop-x-init : goal.loop-x-init
@@ -11,9 +10,9 @@ loop-x-init c =
 
 pub loop-x-preserved : goal.loop-x-preserved
 loop-x-preserved c =
-    let a = c.args in stored_more c.loop-x.invariant _ _ c.put_pixel.ensures (c.plain_pixel-p.ensures ∙ in_row_read a.kernel a.layout (seen a.plane) a.row a.s.now c.loop-x.x c.luma_at-y.ensures)
+    stored_more c.loop-x.invariant _ _ c.put_pixel.ensures (c.ranged_pixel-p.ensures ∙ in_row_read _ c.args.lent c.loop-x.x c.luma_at-y.ensures)
 
 pub returns : goal.returns
-unfolding colour_row
+unfolding lent_row
 returns c =
     stored_end c.loop-x.invariant _ (omega arith) (omega arith)

@@ -1,4 +1,4 @@
-use Rattle.std.proofs.Common.{◌≡◌, ap, ◌∙◌, ℕ, ◌+◌, ◌<◌, ◌≤◌, arith, List, get_or, Fits, w8}
+use Rattle.std.proofs.Common.{◌≡◌, ap, ◌∙◌, ℕ, ◌+◌, ◌≤◌, arith, get_or, Fits, w8}
 use lib.Ieee.{nan}
 use Rattle.laws.specs.Lists.{table}
 use Rattle.laws.proofs.Lists.{table_at}

@@ -22,14 +22,19 @@ chroma_row-requires c =
     let p = c.requires in
     record { chroma_lent = p.fill_lent.lent; n_bound = (p.n_bound, p.fill_lent.scratch) }
 
-pub colour_row-requires : goal.colour_row-requires
-colour_row-requires c =
+pub invariant_of-lent : goal.invariant_of-lent
+invariant_of-lent c =
     let p = c.requires.fill_lent in
     let a = c.args in
     let e = ap length c.chroma_row.ensures ∙ length_fill a.upsampling a.layout (planes_seen a.planes) a.first a.n a.s.now in
     let f = front_fits a.layout in
     let g = p.scratch in
-    record { row_lent = record { luma = record { shaped = p.lent.shaped; plane = p.lent.luma; inside = c.requires.n_bound }; rows = omega arith }; le_size = (p.size_least, p.size_most, row_room p (a.first + a.n) c.requires.n_bound) }
+    record { luma = record { shaped = p.lent.shaped; plane = p.lent.luma; inside = c.requires.n_bound }; chroma = omega arith }
+
+pub colour_row-requires : goal.colour_row-requires
+colour_row-requires c =
+    let p = c.requires.fill_lent in
+    (p.size_least, p.size_most, row_room p (c.args.first + c.args.n) c.requires.n_bound)
 
 pub returns : goal.returns
 returns c =

@@ -1,5 +1,5 @@
 -- An accepted call passed all its tests, so that `rowed` gives all that the steps and the colour require; the contract is then that of
--- `row_steps` and of `exact_row`.
+-- `row_steps` and of `colour_row`.
 use Rattle.std.proofs.Common.{◌∙◌, sym, arith}
 use Rattle.image.proofs.Layouts.{sound_shaped}
 use Rattle.image.specs.Picture.{planes_seen}
@@ -17,15 +17,20 @@ row_steps-requires c =
     let h = rowed _ _ c.rgb_row_answer.ensures c.in_ok-rgb_row_answer.was in
     rw c.reader_layout-layout.ensures (record { lent = lent _ _ h.state h.planes; row_lt_h = (h.inside, h.room) })
 
-pub exact_row-requires : goal.exact_row-requires
+pub invariant_of-lent : goal.invariant_of-lent
 unfolding row_scratch row_of
-exact_row-requires c =
+invariant_of-lent c =
     let a = c.args in
     let k : RgbRowCall = rgb_row_call a.row (side_of a.reader.now (planes_seen a.planes) a.s.now) a.out.now in
     let h = rowed k _ c.rgb_row_answer.ensures c.in_ok-rgb_row_answer.was in
     let m = room_after (row_of k.side k.y) _ h.room (rw c.reader_layout-layout.ensures at c.row_steps.ensures) in
     let l = lent _ _ h.state h.planes in
-    rw c.reader_layout-layout.ensures (record { row_lent = record { luma = record { shaped = sound_shaped l.sound; plane = l.luma; inside = h.inside }; rows = omega (arith, m) }; w_in_bounds = h.output })
+    rw c.reader_layout-layout.ensures (record { luma = record { shaped = sound_shaped l.sound; plane = l.luma; inside = h.inside }; chroma = omega (arith, m) })
+
+pub colour_row-requires : goal.colour_row-requires
+colour_row-requires c =
+    let h = rowed _ _ c.rgb_row_answer.ensures c.in_ok-rgb_row_answer.was in
+    rw c.reader_layout-layout.ensures (omega arith, omega arith, omega (arith, h.output))
 
 pub after_row-requires : goal.after_row-requires
 unfolding reader_layout
@@ -41,5 +46,5 @@ returns c =
       answers = sym c.in_ok-rgb_row_answer.was ∙ c.rgb_row_answer.ensures;
       leaves = c.after_row.ensures;
       scratches = made;
-      gives = rw (c.exact_row.ensures, c.reader_layout-layout.ensures, made);
+      gives = rw (c.colour_row.ensures, c.reader_layout-layout.ensures, made);
     }

@@ -1,7 +1,7 @@
 use Rattle.std.proofs.Common.{refl, ◌∙◌}
 use Rattle.kernel_blocks.proofs.Blocks.{block_pixel_is}
 use Rattle.colour_rows.proofs.Colouring.{exact_by}
-use Rattle.colour_rows.proofs.exact_blocks.exact_pixels.Goals as goal
+use Rattle.colour_rows.proofs.kinds.ExactKindKind.pixels.Goals as goal
 
 pub rgb_block-requires : goal.rgb_block-requires
 rgb_block-requires c =

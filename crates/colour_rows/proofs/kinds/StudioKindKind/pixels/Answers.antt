@@ -1,7 +1,7 @@
 use Rattle.std.proofs.Common.{refl, ◌∙◌}
 use Rattle.kernel_blocks.proofs.StudioBlocks.{studio_pixel}
 use Rattle.colour_rows.proofs.Colouring.{studio_by_is}
-use Rattle.colour_rows.proofs.studio_blocks.studio_pixels.Goals as goal
+use Rattle.colour_rows.proofs.kinds.StudioKindKind.pixels.Goals as goal
 
 pub studio_block-requires : goal.studio_block-requires
 studio_block-requires c =
