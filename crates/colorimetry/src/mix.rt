@@ -5,7 +5,7 @@ ghost use Rattle.colorimetry.specs.Mixes.{mix_of};
 ghost use Rattle.colorimetry.specs.Inner.Blending.{mixed_at};
 
 // Inner: `first` at weight 0, `second` at weight 16, and between them rounded, halves up. In sixteen bits, so that a row's products compile
-// to packed ones.
+// to packed ones. By `as`: the weight is 16 at most and the mix 255, and TryFrom would have an error that can't be.
 #[tactic(auto, unfolding(crate::specs::Mixes::mix_of))]
 pub fn mix(weight: usize, first: u8, second: u8) -> u8
     requires { weight ≤ 16 }

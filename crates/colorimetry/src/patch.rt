@@ -3,14 +3,15 @@ ghost use Rattle.std.specs.Prelude.{◌≡◌, [], ◌∷◌, ◌+◌, ◌*◌, 
 ghost use Rattle.reconstruction.specs.Refusals.{first};
 ghost use Rattle.laws.specs.Rounding.{half_up};
 ghost use Rattle.colorimetry.specs.declared.patch.Patch.TheVariants.{Mean};
-ghost use Rattle.colorimetry.specs.Patches.{mean_of, shared_of, bad_sides, passes, passes_end, patch_call, patch_tests, patch_reply, PatchGiven};
+ghost use Rattle.colorimetry.specs.Patches.{mean_of, shared_of, bad_sides, passes_end, patch_call, patch_tests, patch_reply, PatchGiven};
 ghost use Rattle.colorimetry.specs.Inner.Sums.{SumsMost};
 
 use crate::sums::{Sums, area_sums};
-use laws::{Refusal, outside};
+use laws::{Refusal, outside, sum_passes};
 use reconstruction::{Layout, Rectangle};
 
-// The mean of the pixels that a rectangle and a picture share: red, green and blue; `Nothing` where they share none.
+// The mean of the pixels that a rectangle and a picture share: red, green and blue; `Nothing` where they share none. It is an enum of its own and
+// no Option, since document 01 names that form: 'enum with a Mean case of three f64 and a Nothing case'.
 #[derive(Clone, Copy)]
 pub enum Patch {
     Mean(f64, f64, f64),
@@ -18,7 +19,8 @@ pub enum Patch {
 }
 
 // What `patch_mean` gives where it accepts: the mean, beside it the whole-number mean, and how many pixels it is of. `Nothing` and zeros where
-// no pixel is shared.
+// no pixel is shared: "zeros beside nothing" is document 02's rule. They stand beside `patch` and not in it, since `PatchReply` of specs/Patches
+// has these parts, and so has C's struct.
 #[derive(Clone, Copy)]
 pub struct Patched {
     pub patch: Patch,
@@ -34,20 +36,14 @@ fn bad_sides(w: usize, h: usize) -> bool
     outside(1, Layout::SIDE, w) || outside(1, Layout::SIDE, h)
 }
 
-// Whether start + len is more than `Rectangle::END`. No sum is formed, since it may be past 2^64.
-#[tactic(auto, unfolding(crate::specs::Patches::passes))]
-fn passes_along(start: usize, len: usize) -> bool
-    ensures { result ≡ passes start len }
-{
-    start > Rectangle::END || len > Rectangle::END - start
-}
-
 // Refusal 19's test, whether the rectangle's end passes `Rectangle::END`, across or down.
-#[tactic(auto, unfolding(crate::specs::Patches::passes_end))]
+#[tactic(auto, unfolding(crate::specs::Patches::passes_end, crate::specs::Patches::passes))]
 fn passes_end(rectangle: Rectangle) -> bool
     ensures { result ≡ passes_end rectangle }
 {
-    passes_along(rectangle.left, rectangle.width) || passes_along(rectangle.top, rectangle.height)
+    let across = sum_passes(rectangle.left, rectangle.width, Rectangle::END);
+    let down = sum_passes(rectangle.top, rectangle.height, Rectangle::END);
+    across || down
 }
 
 // The lowest refusal of `patch_mean` that applies.
@@ -74,7 +70,8 @@ fn shared(start: usize, len: usize, side: usize) -> usize
     side.min(start + len).saturating_sub(start)
 }
 
-// "the exact whole sum, made a float, divided once by the count": both are below 2^53, so that neither cast rounds.
+// "the exact whole sum, made a float, divided once by the count": both are below 2^53, so that neither cast rounds. They are by
+// `as`: no From, since a float doesn't hold every u64 or usize.
 fn mean_of(sum: u64, count: usize) -> f64
     requires { (sum ≤ 17112760320) × (count ≤ 67108864) }
     ensures { result ≡ mean_of sum count }
@@ -82,7 +79,8 @@ fn mean_of(sum: u64, count: usize) -> f64
     sum as f64 / count as f64
 }
 
-// "A whole-number mean, halves up", from the sum itself.
+// "A whole-number mean, halves up", from the sum itself. By `as`: no From takes a usize to a u64, and the mean is 255 at most, so that TryFrom
+// would have an error that can't be.
 fn whole_mean(sum: u64, count: usize) -> u8
     requires { (sum ≤ 255 * count) × (0 < count) × (count ≤ 67108864) }
     ensures { result ≡ half_up sum count }

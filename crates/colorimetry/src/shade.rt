@@ -16,7 +16,9 @@ pub struct Between {
 }
 
 // What `chart_reading` gives where it accepts: the nearest shade by its index, counted from 0, and the nearest mix, each with its sum of squared
-// differences, beside the patch's whole-number mean and its number of pixels. None and zeros where the patch is nothing.
+// differences, beside the patch's whole-number mean and its number of pixels. None and zeros where the patch is nothing: "Where the patch is
+// nothing, so are both answers" is document 02's rule, and what isn't given is 0. The numbers stand beside the Options and not in them, since
+// `ChartReply` of specs/Charts has these parts, and so has C's struct.
 #[derive(Clone, Copy, PartialEq, Eq, Debug)]
 pub struct ChartReading {
     pub nearest: Option<usize>,

@@ -196,10 +196,10 @@ fn to_phase(p: ChromaPhase) -> Phase
 fn from_phase(p: Phase) -> ChromaPhase
     ensures { result ≡ chroma_phase p }
 {
-    if p.left {
-        return ChromaPhase { left: 1, f: p.f };
+    ChromaPhase {
+        left: u32::from(p.left),
+        f: p.f,
     }
-    ChromaPhase { left: 0, f: p.f }
 }
 
 // Whether a phase's `left` is neither 0 nor 1.

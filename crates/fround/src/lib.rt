@@ -62,7 +62,8 @@ pub fn same_float(x: f32, y: f32) -> bool
     y != y
 }
 
-// x limited to 0..=max; 0 where x is not a number, since the comparison with 0.0 then fails.
+// x limited to 0..=max; 0 where x is not a number, since the comparison with 0.0 then fails. By `as`: no From, since a float doesn't hold
+// every u32.
 fn clamp(x: f32, max: u32) -> f32
     requires { max ≤ 16777216 }
     ensures { result ≡ clamped max x }

@@ -9,7 +9,8 @@ use fround::whole;
 use image::Plane;
 use lanes::{Lanes, put_block};
 
-// Inner: a cell's luma: the sum of its pixels, divided by their number. The limit is that of sixteen pixels of 65,535.
+// Inner: a cell's luma: the sum of its pixels, divided by their number. The limit is that of sixteen pixels of 65,535. By
+// `as`: n is 16 at most, and TryFrom would have an error that can't be.
 pub fn mean_of(sum: u32, n: usize) -> f32
     requires { (sum ≤ 1048560) × (n ≤ 16) }
     ensures { result ≡ f32 sum ⊘ f32 n }

@@ -8,13 +8,12 @@ ghost use Rattle.image.specs.Picture.{short_plane};
 use image::{Layout, Plane};
 
 // Inner: the sample in column x of row y of a plane of w columns and h rows, as a whole number.
-#[tactic(auto, using(crate::proofs::Windows::whole_inside), unfolding(image::specs::Samples::sample_at))]
+#[tactic(auto, using(crate::proofs::Windows::whole_inside))]
 pub fn whole_at(layout: Layout, plane: Plane<'_>, w: usize, h: usize, x: usize, y: usize) -> u16
     requires { Sound layout × (short_plane layout w h (seen plane) ≡ false) × (x < w) × (y < h) }
     ensures { result ≡ sample_at layout.sample_bytes (seen plane.entry) y x }
 {
-    let bytes = layout.sample_bytes;
-    image::sample(plane.bytes, bytes, y * plane.stride + x * bytes)
+    image::row_sample(plane, layout.sample_bytes, y, x)
 }
 
 // Inner: the sample in column x of row y of a plane of w columns and h rows, as a float. Samples have sixteen bits, so that none is rounded.

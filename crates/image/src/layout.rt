@@ -45,10 +45,7 @@ pub fn div_ceil(n: usize, r: usize) -> usize
     if r == 0 {
         return 0;
     }
-    if n % r == 0 {
-        return n / r;
-    }
-    n / r + 1
+    n.div_ceil(r)
 }
 
 // Inner: the largest number that a sample of so many bytes holds: 2^8 - 1 for one byte, 2^16 - 1 for two.
@@ -115,6 +112,7 @@ impl Layout {
         ensures { result ≡ bad_samples fixed self }
     {
         let bytes = outside(1, 2, self.sample_bytes);
+        // By `as`: no From takes a u32 to a usize.
         let greatest = outside(1, most(self.sample_bytes), self.maxval as usize);
         bytes || greatest || fixed && self.maxval != 255
     }

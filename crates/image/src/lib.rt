@@ -24,5 +24,5 @@ pub use lent::{above_planes, bad_planes, short_scratch};
 pub use limits::plane_above;
 pub use plane::{Plane, Planes};
 pub use rectangle::Rectangle;
-pub use samples::{bad_plane, sample};
+pub use samples::{bad_plane, row_sample, sample};
 pub use sixteens::row_block;

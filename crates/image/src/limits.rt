@@ -2,6 +2,7 @@
 //
 // A row's greatest sample is found first and then compared, and bytes and words have a loop each: so both loops compile
 // to wide maxima. A loop that stops at the first sample above, or one over both widths, is several times slower.
+// They are a function each, too: a trait for both widths, with its two impls, would be longer than the two.
 ghost use Rattle.std.specs.Prelude.{◌≡◌, true, false, ◌+◌, ◌*◌, ◌≤◌, max, ltb, length, get_or};
 ghost use Rattle.image.specs.Samples.{seen, sample_of};
 ghost use Rattle.image.specs.Picture.{short_plane};
@@ -56,6 +57,7 @@ pub fn plane_above(layout: Layout, plane: Plane<'_>, w: usize, h: usize) -> bool
         × (short_plane layout w h (seen plane) ≡ false) }
     ensures { result ≡ above layout w h (seen plane.entry) }
 {
+    // By `as`: no From takes a u32 to a usize.
     if crate::layout::most(layout.sample_bytes) <= layout.maxval as usize {
         return false;
     }

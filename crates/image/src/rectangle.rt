@@ -1,8 +1,9 @@
 // Part of a picture, and refusal 19's test for a rectangle of chroma cells.
-ghost use Rattle.std.specs.Prelude.{◌≡◌, ◌+◌, ltb};
+ghost use Rattle.std.specs.Prelude.{◌≡◌};
 ghost use Rattle.image.specs.Rectangles.{is_empty, past_cells};
 
 use crate::layout::Layout;
+use laws::sum_passes;
 
 // A rectangle: its first column and row, and its sides. The call that takes one says what is counted.
 #[derive(Clone, Copy, PartialEq, Eq, Debug)]
@@ -16,13 +17,6 @@ pub struct Rectangle {
 impl Rectangle {
     // The greatest end, across and down, that a rectangle of pixels may have.
     pub const END: usize = 65_535;
-}
-
-// Whether `span` places from `start` on go past `end`. It subtracts, so that no sum can pass 2^64.
-fn goes_past(start: usize, span: usize, end: usize) -> bool
-    ensures { result ≡ ltb end (start + span) }
-{
-    end < span || end - span < start
 }
 
 impl Rectangle {
@@ -40,8 +34,8 @@ impl Rectangle {
     pub fn past_cells(self, layout: Layout) -> bool
         ensures { result ≡ past_cells layout self }
     {
-        let across = goes_past(self.left, self.width, layout.cw);
-        let down = goes_past(self.top, self.height, layout.ch);
+        let across = sum_passes(self.left, self.width, layout.cw);
+        let down = sum_passes(self.top, self.height, layout.ch);
         !self.is_empty() && (across || down)
     }
 }

@@ -1,15 +1,16 @@
 // The samples of a plane, and the test on its stride and length.
 ghost use Rattle.std.specs.Prelude.{◌≡◌, ◌+◌, ◌-◌, ◌*◌, ◌≤◌, ◌<◌, length};
 ghost use Rattle.image.specs.Tests.{bad_plane};
-ghost use Rattle.image.specs.Samples.{sample_of};
+ghost use Rattle.image.specs.Samples.{sample_of, sample_at, place, seen};
 
+use crate::plane::Plane;
 use laws::product_passes;
 
 // How many rows stand before the last of h rows; none where h is 0.
 fn rows_before(h: usize) -> usize
     ensures { result ≡ h - 1 }
 {
-    if h == 0 { 0 } else { h - 1 }
+    h.saturating_sub(1)
 }
 
 // Inner: refusal 7's test, for a plane of h rows of w samples whose data has len bytes. It is answered for every number: where the stride
@@ -38,4 +39,17 @@ pub fn sample(plane: &[u8], sample_bytes: usize, at: usize) -> u16
     } else {
         u16::from_le_bytes([plane[at], plane[at + 1]])
     }
+}
+
+// Inner: the sample of a row of a plane in column x.
+#[tactic(auto, unfolding(crate::specs::Samples::sample_at))]
+pub fn row_sample(plane: Plane<'_>, sample_bytes: usize, row: usize, x: usize) -> u16
+    requires { (1 ≤ sample_bytes) × (sample_bytes ≤ 2) × (place sample_bytes plane.stride row x + sample_bytes ≤ length plane.bytes.now) }
+    ensures { result ≡ sample_at sample_bytes (seen plane.entry) row x }
+{
+    sample(
+        plane.bytes,
+        sample_bytes,
+        row * plane.stride + x * sample_bytes,
+    )
 }

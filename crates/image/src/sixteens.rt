@@ -4,23 +4,16 @@ ghost use Rattle.image.specs.Samples.{sample_of, sample_at, place, seen};
 
 use crate::plane::Plane;
 use crate::samples::sample;
-
-// How many samples a block has.
-#[derive(Clone, Copy)]
-pub struct Samples;
-
-impl Samples {
-    pub const BLOCK: usize = 16;
-}
+use lanes::Lanes;
 
 // The sixteen samples from byte `at` on. Their size is a constant in the loop, so that they compile to loads of many. It is a loop, since the
 // check infers no contract for a closure inside a function with a const parameter.
-fn block<const BYTES: usize>(bytes: &[u8], at: usize) -> [u16; Samples::BLOCK]
+fn block<const BYTES: usize>(bytes: &[u8], at: usize) -> [u16; Lanes::PIXELS]
     requires { (1 ≤ BYTES) × (BYTES ≤ 2) × (at + 16 * BYTES ≤ length bytes.now) }
     ensures { (k : ℕ) → k < 16 → get_or result k 0 ≡ sample_of BYTES bytes.now (at + k * BYTES) }
 {
-    let mut v = [0u16; Samples::BLOCK];
-    for k in 0..Samples::BLOCK {
+    let mut v = [0u16; Lanes::PIXELS];
+    for k in 0..Lanes::PIXELS {
         v[k] = sample(bytes, BYTES, at + k * BYTES);
     }
     v
@@ -32,7 +25,7 @@ pub fn row_block(
     sample_bytes: usize,
     row: usize,
     x: usize,
-) -> [u16; Samples::BLOCK]
+) -> [u16; Lanes::PIXELS]
     requires { (1 ≤ sample_bytes) × (sample_bytes ≤ 2) × (place sample_bytes plane.stride row x + 16 * sample_bytes ≤ length plane.bytes.now) }
     ensures { (k : ℕ) → k < 16 → get_or result k 0 ≡ sample_at sample_bytes (seen plane.entry) row (x + k) }
 {

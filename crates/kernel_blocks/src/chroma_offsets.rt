@@ -72,6 +72,7 @@ fn green_whole(cb: u32, cr: u32) -> u32
 {
     let both = u64::from(cb + cr);
     let n = 2_956_108_189 * both + 3_178_275_799 * u64::from(cr) + 90_403_456_700;
+    // By `as`: the quotient is 272 at most, and TryFrom would have an error that can't be.
     272 - (n >> 41) as u32
 }
 

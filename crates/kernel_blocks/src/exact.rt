@@ -29,6 +29,7 @@ impl Multipliers {
 pub fn lower(y: u16) -> i32
     ensures { Lowered result y }
 {
+    // By `as`: the bits are a constant that an i32 holds, and TryFrom would have an error that can't be.
     i32::from(y) - Grid::BITS as i32
 }
 

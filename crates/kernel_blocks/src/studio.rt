@@ -39,7 +39,7 @@ impl Studio {
 pub fn limit_luma(y: u16) -> u16
     ensures { result ≡ min y 511 }
 {
-    if y <= Studio::TOP { y } else { Studio::TOP }
+    y.min(Studio::TOP)
 }
 
 // Inner: what luma adds to itself, by one of the two shifts.

@@ -9,14 +9,16 @@ pub struct Rgb {
     pub b: u8,
 }
 
-// Inner: v less its bias, limited to 0..=255. A sum that may lie below 0 carries a bias, so that numbers without a sign hold it.
+// Inner: v less its bias, limited to 0..=255. A sum that may lie below 0 carries a bias, so that numbers without a sign hold it. By `as`: the
+// number is limited before, and TryFrom would have an error that can't be.
 pub fn limit8(v: u32, bias: u32) -> u8
     ensures { result ≡ min (v - bias) 255 }
 {
     v.saturating_sub(bias).min(255) as u8
 }
 
-// Inner: the floor of (p - n) / q, limited to 0..=255. What is subtracted comes apart, since the difference may lie below 0.
+// Inner: the floor of (p - n) / q, limited to 0..=255. What is subtracted comes apart, since the difference may lie below 0. By `as`,
+// likewise.
 pub fn limit_quot(p: u64, n: u64, q: u64) -> u8
     requires { 0 < q }
     ensures { result ≡ min ((p - n) / q) 255 }

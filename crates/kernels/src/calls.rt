@@ -11,7 +11,8 @@ use crate::studio::ycbcr_frac_to_rgb8_studio;
 use image::{Range, bad_range};
 use laws::{Refusal, outside};
 
-// The first refusal of `ycbcr_frac_to_rgb8` that applies. 16,776,960 is 65,535 * 256, the greatest sample in 256ths.
+// The first refusal of `ycbcr_frac_to_rgb8` that applies. 16,776,960 is 65,535 * 256, the greatest sample in 256ths. By
+// `as`: no From takes a u32 to a usize.
 #[tactic(auto, unfolding(crate::specs::Pixels::exact_tests, crate::specs::Pixels::bad_exact))]
 fn exact_answer(y: u32, cb256: u32, cr256: u32, maxval: u32, range: Range) -> Result<(), Refusal>
     ensures { result ≡ first (exact_tests range maxval y cb256 cr256) }
@@ -59,6 +60,7 @@ pub fn ycbcr_frac_to_rgb8(
     ensures { result ≡ exact_pixel range maxval y cb256 cr256 }
 {
     exact_answer(y, cb256, cr256, maxval, range)?;
+    // By `as`: a greater number was refused, and TryFrom would have an error that can't be.
     let luma = y as u16;
     Ok(match range {
         Range::Full => full_colour(luma, cb256, cr256, maxval),
@@ -72,5 +74,6 @@ pub fn ycbcr_to_rgb8_fixed16(y: u32, cb: u32, cr: u32) -> Result<Rgb, Refusal>
     ensures { result ≡ fixed_pixel y cb cr }
 {
     fixed_answer(y, cb, cr)?;
+    // By `as`: greater numbers were refused, and TryFrom would have an error that can't be.
     Ok(ycbcr_to_rgb8_fixed(y as u16, cb as u16, cr as u16))
 }

@@ -42,6 +42,7 @@ fn plain_green(y: u16, cb: u32, cr: u32) -> u8
     ensures { result ≡ (exact255 y cb cr).green }
 {
     let n: u64 = 20_509_039_104 - 101_004 * u64::from(cb) - 209_599 * u64::from(cr);
+    // By `as`: the quotient is 272 at most, and TryFrom would have an error that can't be.
     limit8(u32::from(y) + (n / 75_136_000) as u32, Bias::GREEN)
 }
 

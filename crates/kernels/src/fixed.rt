@@ -1,7 +1,9 @@
 // The fixed kernel for one pixel, on whole chroma, with multipliers in 65,536ths.
 //
 // It is no form of the exact kernel: blue of (230, 3, 128) is 8 by it and 9 by that.
-ghost use Rattle.std.specs.Prelude.{◌≡◌, true, ◌+◌, ◌-◌, ◌*◌, ◌<◌, ◌≤◌};
+//
+// Sums shifted by 16 become u32 by `as`: they fit, and TryFrom would have an error that can't be.
+ghost use Rattle.std.specs.Prelude.{◌≡◌, ◌+◌, ◌-◌, ◌*◌, ◌<◌, ◌≤◌};
 ghost use Rattle.kernels.specs.Kernels.{fixed255};
 ghost use Rattle.kernels.specs.Inner.Forms.{colour_of, raised_fixed};
 
@@ -32,19 +34,12 @@ fn raised_offset(k: u64, bias: u32, c: u16) -> u32
     (n >> 16) as u32
 }
 
-// Whether the tables have an entry for a sample of chroma: they end with 255.
-fn in_tables(c: u16) -> bool
-    ensures { result ≡ true → c < 256 }
-{
-    c <= 255
-}
-
 // Red's offset by Cr, raised by `Bias::RED`: read from its table where Cr is a byte, worked out above.
 fn red_offset(cr: u16) -> u32
     ensures { result ≡ raised_fixed 91881 180 cr }
 {
-    if in_tables(cr) {
-        return red_raised(usize::from(cr));
+    if let Ok(c) = u8::try_from(cr) {
+        return red_raised(c);
     }
     raised_offset(Fixed::CR_TO_R, Bias::RED, cr)
 }
@@ -53,8 +48,8 @@ fn red_offset(cr: u16) -> u32
 fn blue_offset(cb: u16) -> u32
     ensures { result ≡ raised_fixed 116130 227 cb }
 {
-    if in_tables(cb) {
-        return blue_raised(usize::from(cb));
+    if let Ok(c) = u8::try_from(cb) {
+        return blue_raised(c);
     }
     raised_offset(Fixed::CB_TO_B, Bias::BLUE, cb)
 }
@@ -64,8 +59,8 @@ fn blue_offset(cb: u16) -> u32
 fn green_cb_part(cb: u16) -> u64
     ensures { result ≡ 1478167808 - 22554 * cb }
 {
-    if in_tables(cb) {
-        return u64::from(green_cb_raised(usize::from(cb))) + 1_472_397_312;
+    if let Ok(c) = u8::try_from(cb) {
+        return u64::from(green_cb_raised(c)) + 1_472_397_312;
     }
     1_478_167_808 - Fixed::CB_TO_G * u64::from(cb)
 }
@@ -75,8 +70,8 @@ fn green_cb_part(cb: u16) -> u64
 fn green_cr_part(cr: u16) -> u64
     ensures { result ≡ 3076057344 - 46802 * cr }
 {
-    if in_tables(cr) {
-        return u64::from(green_cr_raised(usize::from(cr))) + 3_064_070_144;
+    if let Ok(c) = u8::try_from(cr) {
+        return u64::from(green_cr_raised(c)) + 3_064_070_144;
     }
     3_076_057_344 - Fixed::CR_TO_G * u64::from(cr)
 }

@@ -8,7 +8,7 @@
 // same numbers, in place.
 //
 // The four functions that give an entry, and the four that raise it, are each one line. They stay four: a shared one would have to be told its
-// table, its raise and its rule.
+// table, its raise and its rule. A raised entry becomes a u32 by `as`: none lies below 0, and TryFrom would have an error that can't be.
 ghost use Rattle.kernels.specs.Kernels.{fixed_red, fixed_blue, fixed_green_cb, fixed_green_cr};
 ghost use Rattle.std.specs.Prelude.{◌≡◌, ◌-◌, ◌*◌, ◌<◌};
 ghost use Rattle.kernels.specs.Inner.Forms.{raised_fixed};
@@ -71,33 +71,29 @@ pub fn green_cr_entry(c: u8) -> i32
 }
 
 // Inner: red's offset by Cr, raised by `Bias::RED`.
-pub fn red_raised(c: usize) -> u32
-    requires { c < 256 }
+pub fn red_raised(c: u8) -> u32
     ensures { result ≡ raised_fixed 91881 180 c }
 {
-    (RED_ENTRIES[c] + Raise::RED) as u32
+    (RED_ENTRIES[usize::from(c)] + Raise::RED) as u32
 }
 
 // Inner: blue's offset by Cb, raised by `Bias::BLUE`.
-pub fn blue_raised(c: usize) -> u32
-    requires { c < 256 }
+pub fn blue_raised(c: u8) -> u32
     ensures { result ≡ raised_fixed 116130 227 c }
 {
-    (BLUE_ENTRIES[c] + Raise::BLUE) as u32
+    (BLUE_ENTRIES[usize::from(c)] + Raise::BLUE) as u32
 }
 
 // Inner: green's part by Cb, raised by `Raise::GREEN_CB`: 5,770,496 is that and 128 * 22,554.
-pub fn green_cb_raised(c: usize) -> u32
-    requires { c < 256 }
+pub fn green_cb_raised(c: u8) -> u32
     ensures { result ≡ 5770496 - 22554 * c }
 {
-    (GREEN_CB_ENTRIES[c] + Raise::GREEN_CB) as u32
+    (GREEN_CB_ENTRIES[usize::from(c)] + Raise::GREEN_CB) as u32
 }
 
 // Inner: green's part by Cr, raised by `Raise::GREEN_CR`: 11,987,200 is that, 32,768 and 128 * 46,802.
-pub fn green_cr_raised(c: usize) -> u32
-    requires { c < 256 }
+pub fn green_cr_raised(c: u8) -> u32
     ensures { result ≡ 11987200 - 46802 * c }
 {
-    (GREEN_CR_ENTRIES[c] + Raise::GREEN_CR) as u32
+    (GREEN_CR_ENTRIES[usize::from(c)] + Raise::GREEN_CR) as u32
 }

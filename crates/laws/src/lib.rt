@@ -10,5 +10,5 @@ mod numbers;
 mod refusal;
 
 pub use axes::{Axis, Siting};
-pub use numbers::{outside, product_passes, volume_passes};
+pub use numbers::{outside, product_passes, sum_passes, volume_passes};
 pub use refusal::{Refusal, first};

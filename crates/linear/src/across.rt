@@ -9,7 +9,7 @@ ghost use Rattle.linear.specs.Inner.AcrossRows.{RowFits, Turning, Pairing, acros
 
 use crate::cycles::{across_cycles, cycle_of};
 use crate::rows::Row;
-use crate::sitings::{first_of, head_of, lead_of, parts_of};
+use crate::sitings::{first_of, head_of, parts_of};
 use crate::twos::{Twos, across_twos};
 use laws::Siting;
 use taps::{lerp, tap_at};
@@ -126,6 +126,8 @@ pub fn across_row(row: Row, s: &mut [f32])
     }
     let siting = row.axis.siting;
     let head = head_of(siting, row.r);
-    let lead = lead_of(siting, row.r);
+    // Not counted where a row is divided into pairs of cells are the outputs of the head, and one at least: a co-sited row that fills its cells
+    // has no head, and the outputs of its last cell lie in no pair.
+    let lead = head.max(1);
     across_parts(row, s, head, (row.w - lead) / row.r);
 }

@@ -13,7 +13,7 @@ fn store_block(s: &[f32], src: usize, maxval: u32, out: &mut [u16], at: usize)
     out[at..at + Lanes::PIXELS].copy_from_slice(&samples.to_array());
 }
 
-// n values of s from src on, one by one.
+// n values of s from src on, one by one. By `as`: the number was limited before, and TryFrom would have an error that can't be.
 #[tactic(auto, using(laws::proofs::Lists::run_none, laws::proofs::Lists::run_end), unfolding(crate::specs::Inner::Stores::store_run))]
 fn store_each(s: &[f32], src: usize, n: usize, maxval: u32, out: &mut [u16], at: usize)
     requires { (maxval ≤ 65535) × (src + n ≤ length s.now) × (at + n ≤ length out.old) }

@@ -1,6 +1,6 @@
 // How the outputs of a row lie between neighbouring cells, by either siting, where a cell has more than one output.
 ghost use Rattle.std.specs.Prelude.{◌≡◌, ℕ, ◌≤◌, ◌<◌};
-ghost use Rattle.linear.specs.Inner.AcrossRows.{head_of, lead_of, first_of, part_of, parts_in};
+ghost use Rattle.linear.specs.Inner.AcrossRows.{head_of, first_of, part_of, parts_in};
 
 use laws::Siting;
 use taps::fraction;
@@ -13,17 +13,6 @@ pub fn head_of(siting: Siting, r: usize) -> usize
     match siting {
         Siting::Centred => r / 2,
         Siting::CoSited => 0,
-    }
-}
-
-// Inner: how many outputs of a row aren't counted where it is divided into pairs of cells: those of the head, and one at least. A co-sited
-// row that fills its cells has no head, and the outputs of its last cell lie in no pair.
-pub fn lead_of(siting: Siting, r: usize) -> usize
-    ensures { result ≡ lead_of siting r }
-{
-    match siting {
-        Siting::Centred => r / 2,
-        Siting::CoSited => 1,
     }
 }
 

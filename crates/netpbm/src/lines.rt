@@ -54,6 +54,7 @@ impl Line {
     }
 
     // The line with the digit of a number below 10 at its end. Its length is promised beside it, so that `put_number` can count room.
+    // By `as`: TryFrom would have an error that can't be.
     #[tactic(auto, unfolding(crate::specs::Inner::Texts::pushed))]
     fn push_digit(self, d: usize) -> Line
         requires { (self.len < 16) × (d < 10) }

@@ -15,7 +15,9 @@ fn fits_both(n: usize, a: usize, b: usize, r: usize) -> bool
     a == cells && b == cells
 }
 
-// The smallest ratio that fits both chroma images along a side of n pixels, of which they have a and b cells; 0 where none does.
+// The smallest ratio that fits both chroma images along a side of n pixels, of which they have a and b cells; 0 where none does. It is a
+// number and not an Option, since it goes into the layout (`input_layout` of specs/Reading): refusal 2 is asked of that before 5, which says
+// that none does.
 #[tactic(auto, using(crate::proofs::Ratios::tried_none, crate::proofs::Ratios::tried_more, crate::proofs::Ratios::tried_here, crate::proofs::Ratios::tried_all))]
 fn ratio_for(n: usize, a: usize, b: usize) -> usize
     ensures { result ≡ ratio_for n a b }
@@ -28,8 +30,8 @@ fn ratio_for(n: usize, a: usize, b: usize) -> usize
     0
 }
 
-// Inner: the layout of three images, with the first one's maxval, which is held as 65,536 at most and so fits a layout's type. A ratio of 0
-// in it says that none fits, which `no_ratio` tests.
+// Inner: the layout of three images, with the first one's maxval, which is held as 65,536 at most and so fits a layout's type: it is
+// cast by `as`, since TryFrom would have an error that can't be. A ratio of 0 in it says that none fits, which `no_ratio` tests.
 #[tactic(auto, unfolding(crate::specs::Inner::HeldInput::layout_held))]
 pub fn layout_of(y: Image, cb: Image, cr: Image) -> Layout
     requires { y.maxval ≤ 65536 }

@@ -35,7 +35,8 @@ pub fn row_answer(
     ])
 }
 
-// Inner: the state that an accepted row call leaves at row y.
+// Inner: the state that an accepted row call leaves at row y. `after_seek` differs in the counters alone: what the two share is `reader_at`, and
+// one function for both would be told the counters and save no line.
 #[tactic(auto, unfolding(guided::specs::Calls::after_row, guided::specs::Calls::reader_layout))]
 pub fn after_row(reader: Reader, y: usize) -> Reader
     requires sound { Sound (reader_layout reader) }

@@ -66,14 +66,8 @@ pub fn fresh_counters(layout: Layout, y: usize) -> Counters
     ensures { (result.h_next ≡ fresh_h layout y) × (result.f_next ≡ fresh_f layout y) }
 {
     let top = top_of(layout, y);
-    if top == 0 {
-        return Counters {
-            h_next: 0,
-            f_next: 0,
-        };
-    }
     Counters {
-        h_next: top - 1,
+        h_next: top.saturating_sub(1),
         f_next: top,
     }
 }

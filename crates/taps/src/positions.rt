@@ -21,7 +21,7 @@ pub fn lerp(a: f32, b: f32, f: f32) -> f32
     a + f * (b - a)
 }
 
-// Inner: k / d by one division. Both fit sixteen bits, so that their casts are exact.
+// Inner: k / d by one division. Both fit sixteen bits, so that their casts, by `as`, are exact: TryFrom would have an error that can't be.
 pub fn fraction(k: usize, d: usize) -> f32
     requires { (k < 65536) × (d < 65536) }
     ensures { result ≡ fraction_of k d }

@@ -295,7 +295,7 @@ fn bytes(text: &[u8], planes: Planes<'_>, s: &mut [f32]) -> Left {
 fn coloured(pixel: ChromaPixel) -> Left {
     Left {
         answer: pixel.refusal,
-        sum: pixel.r as u32 * 65_536 + pixel.g as u32 * 256 + pixel.b as u32,
+        sum: u32::from(pixel.r) * 65_536 + u32::from(pixel.g) * 256 + u32::from(pixel.b),
     }
 }
 

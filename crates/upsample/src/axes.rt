@@ -1,7 +1,8 @@
 // The weighing of a near and a far cell, and what is added where vertical sums are weighed, as the original's src/jpeg/upsample.rs has it.
 ghost use Rattle.std.specs.Prelude.{◌≡◌, ◌+◌, ◌*◌, ◌/◌, ◌≤◌};
 
-// Inner: three parts of the near cell and one of the far, divided by 4. Cells are of 16 bits, so that the quotient fits 16 too.
+// Inner: three parts of the near cell and one of the far, divided by 4. Cells are of 16 bits, so that the quotient fits 16 too, and it is
+// cast by `as`: TryFrom would have an error that can't be.
 pub fn one_axis(near: u16, far: u16, bias: u32) -> u16
     requires { bias ≤ 2 }
     ensures { result ≡ (3 * near + far + bias) / 4 }

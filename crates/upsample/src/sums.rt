@@ -42,7 +42,7 @@ impl Sum for u16 {
     }
 }
 
-// Two bytes: at most 4 * 65,535.
+// Two bytes: at most 4 * 65,535. A weighed sum fits 16 bits and is cast by `as`: TryFrom would have an error that can't be.
 impl Sum for u32 {
     ghost BYTES = { 2 };
 

@@ -3,17 +3,10 @@ ghost use Rattle.std.specs.Prelude.{◌≡◌};
 ghost use Rattle.reconstruction.specs.Geometry.{planes_seen};
 ghost use Rattle.reconstruction.specs.Reader.{side_of};
 ghost use Rattle.reconstruction.specs.Refusals.{first};
-ghost use Rattle.colorimetry.specs.Blends.{is_studio, same_range, same_geometry, unlike_of, blend_call, blend_tests};
+ghost use Rattle.colorimetry.specs.Blends.{same_geometry, unlike_of, blend_call, blend_tests};
 ghost use Rattle.colorimetry.specs.Inner.Settled.{is_state, lower_of, settled};
 
-use reconstruction::{Geometry, Planes, Range, Reader, Refusal};
-
-// Whether a range is studio.
-fn studio(range: Range) -> bool
-    ensures { result ≡ is_studio range }
-{
-    matches!(range, Range::Studio)
-}
+use reconstruction::{Geometry, Planes, Reader, Refusal};
 
 // Whether two geometries have the same sizes, ratios and range. Their phases follow from the ratio where both states are good.
 #[tactic(auto, unfolding(crate::specs::Blends::same_geometry, crate::specs::Blends::same_range))]
@@ -23,7 +16,7 @@ fn same_geometry(a: Geometry, b: Geometry) -> bool
     let picture = a.w == b.w && a.h == b.h;
     let ratios = a.rh == b.rh && a.rv == b.rv;
     let chroma = a.cw == b.cw && a.ch == b.ch;
-    picture && ratios && chroma && studio(a.range) == studio(b.range)
+    picture && ratios && chroma && a.range == b.range
 }
 
 // Refusal 22's test.
@@ -40,7 +33,7 @@ fn of_state(answer: Result<(), Refusal>) -> bool
 {
     match answer {
         Ok(()) => false,
-        Err(why) => why.number() == 1,
+        Err(why) => why == Refusal::BadState,
     }
 }
 

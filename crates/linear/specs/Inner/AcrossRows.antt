@@ -31,12 +31,6 @@ abbrev pub head_of : Siting → ℕ → ℕ
 head_of Centred r = r / 2
 head_of CoSited r = 0
 
--- how many outputs of a row aren't counted where it is divided into pairs, so that w outputs have (w - lead_of) / r of them: those of the head, and one at least,
--- since the outputs of the last cell lie in no pair
-abbrev pub lead_of : Siting → ℕ → ℕ
-lead_of Centred r = r / 2
-lead_of CoSited r = 1
-
 -- how far output k of a pair of neighbouring cells lies between them, at ratio r
 abbrev pub part_of : Siting → ℕ → ℕ → Float
 part_of Centred r k = fraction_of (2 * (r / 2 + k) + 1 - r) (2 * r)

@@ -1,5 +1,5 @@
 -- The table is its rule's own list by computation, and an entry of that list is raised to a natural number.
-use Rattle.std.proofs.Common.{arith}
+use Rattle.std.proofs.Common.{◌<◌, arith}
 use Rattle.laws.specs.Differences.{floor_div}
 use Rattle.kernels.specs.Kernels.{fixed_blue}
 use Rattle.kernels.proofs.TableRules.{entry_listed, blue_lifts}
@@ -7,12 +7,19 @@ use Rattle.kernels.proofs.tables.blue_raised.Goals as goal
 
 pub overflow_add-result : goal.overflow_add-result
 unfolding fixed_blue floor_div
-overflow_add-result c = (blue_lifts c.args.c c.requires (entry_listed fixed_blue c.args.c c.requires)).fits
+overflow_add-result c =
+    let h : c.args.c < 256 = omega arith in
+    rw c.from.ensures (blue_lifts c.args.c h (entry_listed fixed_blue c.args.c h)).fits
 
 pub overflow_cast-result : goal.overflow_cast-result
 unfolding fixed_blue floor_div
-overflow_cast-result c = let l = blue_lifts c.args.c c.requires (entry_listed fixed_blue c.args.c c.requires) in (l.over, omega (arith, l.is, l.small))
+overflow_cast-result c =
+    let h : c.args.c < 256 = omega arith in
+    let l = blue_lifts c.args.c h (entry_listed fixed_blue c.args.c h) in
+    rw c.from.ensures (l.over, omega (arith, l.is, l.small))
 
 pub returns : goal.returns
 unfolding fixed_blue floor_div
-returns c = (blue_lifts c.args.c c.requires (entry_listed fixed_blue c.args.c c.requires)).is
+returns c =
+    let h : c.args.c < 256 = omega arith in
+    rw c.from.ensures (blue_lifts c.args.c h (entry_listed fixed_blue c.args.c h)).is

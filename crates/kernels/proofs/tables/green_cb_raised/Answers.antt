@@ -1,17 +1,24 @@
 -- The table is its rule's own list by computation, and an entry of that list is raised to a natural number.
-use Rattle.std.proofs.Common.{arith}
+use Rattle.std.proofs.Common.{◌<◌, arith}
 use Rattle.kernels.specs.Kernels.{fixed_green_cb}
 use Rattle.kernels.proofs.TableRules.{entry_listed, green_cb_lifts}
 use Rattle.kernels.proofs.tables.green_cb_raised.Goals as goal
 
 pub overflow_add-result : goal.overflow_add-result
 unfolding fixed_green_cb
-overflow_add-result c = (green_cb_lifts c.args.c c.requires (entry_listed fixed_green_cb c.args.c c.requires)).fits
+overflow_add-result c =
+    let h : c.args.c < 256 = omega arith in
+    rw c.from.ensures (green_cb_lifts c.args.c h (entry_listed fixed_green_cb c.args.c h)).fits
 
 pub overflow_cast-result : goal.overflow_cast-result
 unfolding fixed_green_cb
-overflow_cast-result c = let l = green_cb_lifts c.args.c c.requires (entry_listed fixed_green_cb c.args.c c.requires) in (l.over, omega (arith, l.is, l.small))
+overflow_cast-result c =
+    let h : c.args.c < 256 = omega arith in
+    let l = green_cb_lifts c.args.c h (entry_listed fixed_green_cb c.args.c h) in
+    rw c.from.ensures (l.over, omega (arith, l.is, l.small))
 
 pub returns : goal.returns
 unfolding fixed_green_cb
-returns c = (green_cb_lifts c.args.c c.requires (entry_listed fixed_green_cb c.args.c c.requires)).is
+returns c =
+    let h : c.args.c < 256 = omega arith in
+    rw c.from.ensures (green_cb_lifts c.args.c h (entry_listed fixed_green_cb c.args.c h)).is

@@ -5,4 +5,4 @@ use Rattle.laws.proofs.Lists.{Run}
 use Rattle.linear.proofs.down.down_cells.Given as goal
 
 abbrev pub invariant-loop-i : goal.invariant-loop-i
-invariant-loop-i l = Run l.initial.s l.s l.dst l.i (down_at l.plane l.sample_bytes l.a l.b l.f)
+invariant-loop-i g l = Run l.initial.s l.s l.dst l.i (down_at l.plane g.row.BYTES l.a l.b l.f)

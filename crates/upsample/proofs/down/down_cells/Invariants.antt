@@ -5,4 +5,4 @@ use Rattle.upsample.specs.Inner.Pairs.{down_row, sums}
 use Rattle.upsample.proofs.down.down_cells.Given as goal
 
 abbrev pub invariant-loop-x : goal.invariant-loop-x
-invariant-loop-x l = Run l.initial.out l.out l.at l.x (down_row (sums l.sample_bytes l.rows) l.bias)
+invariant-loop-x g l = Run l.initial.out l.out l.at l.x (down_row (sums g.row.BYTES l.rows) l.bias)
