@@ -47,6 +47,7 @@ pub fn row_by_blocks<K: Kind>(lent: LentRow<'_>, size: usize, out: &mut [u8], at
         by_threes::<K>(lent, out, at);
         return;
     }
+    // By `as`: no From takes a usize to a u32.
     let low = size as u32 * 4_194_304 - 1;
     by_words::<K>(lent, out, at, low);
 }

@@ -18,9 +18,7 @@ pub fn luma_at(lent: LentRow<'_>, x: usize) -> u16
     requires { x < lent.layout.w }
     ensures { result ≡ sample_at lent.entry.layout.sample_bytes (seen lent.entry.plane) lent.entry.row x }
 {
-    let plane = lent.plane;
-    let bytes = lent.layout.sample_bytes;
-    image::sample(plane.bytes, bytes, lent.row * plane.stride + x * bytes)
+    image::row_sample(lent.plane, lent.layout.sample_bytes, lent.row, x)
 }
 
 // Inner: chroma in 256ths at maxval 255, limited to 65,536 = 256 * 256, since the kernel takes at most 32,768 to either side of 128 * 256.
@@ -34,6 +32,7 @@ pub fn chroma_256ths(v: f32) -> u32
 pub fn whole_chroma(v: f32) -> u8
     ensures { result ≡ round_clamped 255 v }
 {
+    // By `as`: the number was limited before, and TryFrom would have an error that can't be.
     fround::round_clamped_by_grid(v, 255) as u8
 }
 
