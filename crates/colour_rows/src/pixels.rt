@@ -78,8 +78,8 @@ fn ranged_pixel(kernel: YcbcrKernel, layout: Layout, y: u16, cb: f32, cr: f32) -
     }
 }
 
-// Inner: a row pixel by pixel, of `size` bytes each, to out from `at` on. The loop asks range, kernel and maxval of each pixel, which keeps
-// it one: the loops that ask nothing are those of blocks, for the rows that have one.
+// Inner: a row pixel by pixel, of `size` bytes each, to out from `at` on. One loop serves both ranges and both kernels: it asks for range,
+// kernel and maxval at each pixel, which the loops over blocks do not.
 pub fn plain_row(kernel: YcbcrKernel, lent: LentRow<'_>, size: usize, out: &mut [u8], at: usize)
     requires { (3 ≤ size) × (at + lent.layout.w * size ≤ length out.old) }
     ensures { out.new ≡ lent_row

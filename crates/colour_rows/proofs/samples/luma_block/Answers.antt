@@ -1,3 +1,4 @@
+-- The row lies within its plane (`block_room`), and x + 16 <= w puts the block inside the row.
 use Rattle.colour_rows.proofs.RowSamples.{block_room}
 use Rattle.colour_rows.proofs.samples.luma_block.Goals as goal
 
