@@ -12,7 +12,7 @@ fn rnd(n: i64, d: i64) -> i64 {
 }
 
 /// A luma at which no offset is limited.
-fn luma(offset: i64) -> u32 {
+fn luma(offset: i64) -> u16 {
     if offset >= 0 { 0 } else { 255 }
 }
 
