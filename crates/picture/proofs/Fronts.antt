@@ -1,12 +1,12 @@
 -- A line at the front of out, and what is behind it.
 -- `ppm_is` carries the program's output: out is cut behind the header, the part behind it is lent and comes back filled, and joined again
 -- they are `ppm_over`. The step is that the line's copy left what is behind it untouched (`behind_is`).
-use Rattle.std.proofs.Common.{◌≡◌, sym, ap, ◌∙◌, List, [], ◌++◌, append-nil, ℕ, ◌+◌, ◌≤◌, ◌<◌, ◌*◌, ◌-◌, arith, length, get_or, take, drop, length-drop, drop_of_length-le, ext_get_or, get_or-drop}
+use Rattle.std.proofs.Common.{◌≡◌, refl, sym, ap, ◌∙◌, List, [], ◌++◌, append-nil, ℕ, ◌+◌, ◌≤◌, ◌<◌, ◌*◌, ◌-◌, arith, length, get_or, take, drop, length-drop, drop_of_length-le, ext_get_or, get_or-drop}
 use lib.ListN.{get_or-append}
 use Rattle.laws.specs.Lists.{put, table}
 use Rattle.laws.proofs.Lists.{length_put, put_after, take_put, length_table, table_at}
 use Rattle.image.specs.declared.layout.Layout.{Layout}
-use Rattle.image.specs.Picture.{picture_of}
+use Rattle.image.specs.Picture.{Picture, picture_of}
 use Rattle.kernels.specs.declared.kernel.YcbcrKernel.TheVariants.{Exact}
 use Rattle.fill.specs.declared.options.ChromaUpsampling.TheVariants.{LumaGuided}
 use Rattle.fill.specs.Fill.{fill_colour, pixel_rows}
@@ -67,21 +67,25 @@ ppm_room {r = r} {line = line} t e g =
     let c = ppm_length_is r.layout line e in
     (omega arith, omega arith)
 
--- the header and the rows behind it, where the part behind the header was lent out and came back. `Taken` says no more here than which planes
--- the picture is made of.
-pub ppm_is : {s : List ℕ} {r : Reading} {line : Line} → Taken s r → line ≡ line_of (ppm_header r.layout.w r.layout.h) → (out front ys : List ℕ) → ppm_length r.layout ≤ length out → front ≡ put out 0 line.len (λ i. get_or line.bytes i 0)
+-- the header and the rows behind it, where the part behind the header was lent out and came back
+module _ (p : Picture) (l : Layout) (q : p.layout ≡ l) (line : Line) (e : line ≡ line_of (ppm_header l.w l.h)) (out : List ℕ) (g : length (ppm_header l.w l.h) ≤ length out) where
+  pub ppm_is : (front ys : List ℕ) → front ≡ put out 0 line.len (λ i. get_or line.bytes i 0) → ys ≡ pixel_rows l.w 3 (fill_colour LumaGuided Exact p) 0 l.h (take (length front - line.len) (drop line.len front)) → take line.len front ++ (ys ++ drop (length front - line.len) (drop line.len front)) ≡ ppm_over p out
+  unfolding ppm_over
+  ppm_is front ys f h =
+      let t = ppm_header l.w l.h in
+      let n = line_length t line e in
+      let a : take line.len front ≡ t = rw f (ap (λ (k : ℕ). take k (put out 0 line.len (λ i. get_or line.bytes i 0))) n ∙ front_is t line e out g) in
+      let b : drop line.len front ≡ drop (length t) out = rw f (ap (λ (k : ℕ). drop k (put out 0 line.len (λ i. get_or line.bytes i 0))) n ∙ behind_is t line e out) in
+      let c : drop (length front - line.len) (drop line.len front) ≡ [] = let m : length (drop line.len front) ≤ length front - line.len = let k = length-drop line.len front in omega arith in drop_of_length-le (drop line.len front) m in
+      let d : ys ≡ pixel_rows l.w 3 (fill_colour LumaGuided Exact p) 0 l.h (drop (length t) out) = h ∙ ap (pixel_rows l.w 3 (fill_colour LumaGuided Exact p) 0 l.h) (to_end front line.len ∙ b) in
+      ap (λ (x : List ℕ). take line.len front ++ (ys ++ x)) c
+      ∙ ap (λ (x : List ℕ). take line.len front ++ x) (append-nil ys ∙ d)
+      ∙ ap (λ (x : List ℕ). x ++ pixel_rows l.w 3 (fill_colour LumaGuided Exact p) 0 l.h (drop (length t) out)) a
+      ∙ rw q refl
+
+-- The same of a picture that was read, where out has room for all of the PPM. `Taken` says no more here than which planes the picture is made of.
+pub read_ppm_is : {s : List ℕ} {r : Reading} {line : Line} → Taken s r → line ≡ line_of (ppm_header r.layout.w r.layout.h) → (out front ys : List ℕ) → ppm_length r.layout ≤ length out → front ≡ put out 0 line.len (λ i. get_or line.bytes i 0)
     → ys ≡ pixel_rows r.layout.w 3 (fill_colour LumaGuided Exact (picture_from s r)) 0 r.layout.h (take (length front - line.len) (drop line.len front))
     → take line.len front ++ (ys ++ drop (length front - line.len) (drop line.len front)) ≡ ppm_over (picture_from s r) out
-unfolding ppm_length ppm_over picture_of
-ppm_is {s} {r} {line} o e out front ys g f h =
-    let l = r.layout in
-    let p = picture_from s r in
-    let t = ppm_header l.w l.h in
-    let n = line_length t line e in
-    let a : take line.len front ≡ t = rw f (ap (λ (k : ℕ). take k (put out 0 line.len (λ i. get_or line.bytes i 0))) n ∙ front_is t line e out (omega arith)) in
-    let b : drop line.len front ≡ drop (length t) out = rw f (ap (λ (k : ℕ). drop k (put out 0 line.len (λ i. get_or line.bytes i 0))) n ∙ behind_is t line e out) in
-    let c : drop (length front - line.len) (drop line.len front) ≡ [] = let m : length (drop line.len front) ≤ length front - line.len = let k = length-drop line.len front in omega arith in drop_of_length-le (drop line.len front) m in
-    let d : ys ≡ pixel_rows l.w 3 (fill_colour LumaGuided Exact p) 0 l.h (drop (length t) out) = h ∙ ap (pixel_rows l.w 3 (fill_colour LumaGuided Exact p) 0 l.h) (to_end front line.len ∙ b) in
-    ap (λ (x : List ℕ). take line.len front ++ (ys ++ x)) c
-    ∙ ap (λ (x : List ℕ). take line.len front ++ x) (append-nil ys ∙ d)
-    ∙ ap (λ (x : List ℕ). x ++ pixel_rows l.w 3 (fill_colour LumaGuided Exact p) 0 l.h (drop (length t) out)) a
+unfolding ppm_length picture_of
+read_ppm_is {s} {r} {line} o e out front ys g f h = ppm_is (picture_from s r) r.layout refl line e out (omega arith) front ys f h

@@ -76,7 +76,7 @@ fn put_pixels(planes: &[u8], reading: Reading, s: &mut [f32], out: &mut [u8]) ->
 }
 
 // Writes the header, and behind it the pixels of the picture whose planes these are.
-#[tactic(auto, using(crate::proofs::Fronts::ppm_room, laws::proofs::Lists::length_put, crate::proofs::Fronts::ppm_is))]
+#[tactic(auto, using(crate::proofs::Fronts::ppm_room, laws::proofs::Lists::length_put, crate::proofs::Fronts::read_ppm_is))]
 pub(crate) fn put_ppm(
     planes: &[u8],
     reading: Reading,
