@@ -117,7 +117,7 @@ larger_val m e h =
     out : (x y : ℕ) → max (8388608 + x) (8388608 + y - 1) ≡ 8388608 + max x (y - 1)
     out x y = omega arith
 
-centred_is : (x c : Float) → Limited 65536 x c → higher c ⊖ centre ≡ f32 (round_clamped 65536 x) ⊖ f32 32768
+pub centred_is : (x c : Float) → Limited 65536 x c → higher c ⊖ centre ≡ f32 (round_clamped 65536 x) ⊖ f32 32768
 centred_is x c L =
     let h = half_up (L.m * up L.e) (down L.e) in
     ap (λ (z : Float). higher z ⊖ centre) L.is

@@ -29,7 +29,7 @@ taken l p room e =
 
 -- ---- the three kinds
 
-across_kind : (l : Layout) → bad_triangular l ≡ false → l.rv ≡ 1 → (l.rh ≡ 2) × (2 < l.cw)
+pub across_kind : (l : Layout) → bad_triangular l ≡ false → l.rv ≡ 1 → (l.rh ≡ 2) × (2 < l.cw)
 unfolding bad_triangular
 across_kind l b e =
     let w = go (eqb l.rh 2) (eqb l.rh 1) (leb l.cw 2) (rw e at b) in
@@ -40,7 +40,7 @@ across_kind l b e =
     go false true e h = let z : ◌≡◌ {A = ℕ} 0 1 = cc in absurd (omega arith)
     go false false e h = let z : ◌≡◌ {A = ℕ} 0 1 = cc in absurd (omega arith)
 
-two_down : (l : Layout) → bad_triangular l ≡ false → (l.rv ≡ 1 → ⊥) → l.rv ≡ 2
+pub two_down : (l : Layout) → bad_triangular l ≡ false → (l.rv ≡ 1 → ⊥) → l.rv ≡ 2
 unfolding bad_triangular
 two_down l b e = eqb-true l.rv 2 (go (eqb l.rh 2) (eqb l.rh 1) (eqb l.rv 2) (leb l.cw 2) (rw (ne_eqb l.rv 1 e) at b))
   where
@@ -51,7 +51,7 @@ two_down l b e = eqb-true l.rv 2 (go (eqb l.rh 2) (eqb l.rh 1) (eqb l.rv 2) (leb
     go false true false e h = let z : ◌≡◌ {A = ℕ} 0 1 = cc in absurd (omega arith)
     go false false false e h = let z : ◌≡◌ {A = ℕ} 0 1 = cc in absurd (omega arith)
 
-both_kind : (l : Layout) → bad_triangular l ≡ false → (l.rh ≡ 1 → ⊥) → (l.rh ≡ 2) × (2 < l.cw)
+pub both_kind : (l : Layout) → bad_triangular l ≡ false → (l.rh ≡ 1 → ⊥) → (l.rh ≡ 2) × (2 < l.cw)
 unfolding bad_triangular
 both_kind l b f =
     let w = go (eqb l.rh 2) (eqb l.rv 1) (eqb l.rv 2) (leb l.cw 2) (rw (ne_eqb l.rh 1 f) at b) in
@@ -64,7 +64,7 @@ both_kind l b f =
     go false b d e h = let z : ◌≡◌ {A = ℕ} 0 1 = cc in absurd (omega arith)
 
 -- cells that are halves of the width, more than two
-doubled : (l : Layout) → Sound l → l.rh ≡ 2 → 2 < l.cw → Doubled l.cw l.w
+pub doubled : (l : Layout) → Sound l → l.rh ≡ 2 → 2 < l.cw → Doubled l.cw l.w
 unfolding div_ceil
 doubled l s e h =
     let d : l.cw ≡ (l.w + 1) / 2 = rw e at s.cw_is in

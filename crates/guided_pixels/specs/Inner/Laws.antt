@@ -31,7 +31,7 @@ unfolding across_to phased
 across_same l o g h x k e = phased_same g h l.cw (phase_of l.rh (x % l.rh)) (x / l.rh) (own_column l o x k) e
 
 -- what is written before the detail leaves the values
-value_same : (l : Layout) → Sound l → (t : ValueInputs) (xs ys : List Float) (len x : ℕ) → InputsInside t (3 * l.w) l.cw len → x < l.w → ((k : ℕ) → 2 * l.w ≤ k → get_or ys k nan ≡ get_or xs k nan) → value_at l ys t x ≡ value_at l xs t x
+pub value_same : (l : Layout) → Sound l → (t : ValueInputs) (xs ys : List Float) (len x : ℕ) → InputsInside t (3 * l.w) l.cw len → x < l.w → ((k : ℕ) → 2 * l.w ≤ k → get_or ys k nan ≡ get_or xs k nan) → value_at l ys t x ≡ value_at l xs t x
 unfolding value_at value_of
 value_same l o t xs ys len x b h e =
     rw (
