@@ -8,8 +8,8 @@
  * call that is refused changes no slice.
  *
  * Link target/staticlib/libffi.a, which `tools/build staticlib ffi` writes (x86-64-v2), or libchroma.a, as
- * tools/install names it (`pkg-config --cflags --libs chroma`). Of other libraries it needs memcpy,
- * memmove and memset alone.
+ * tools/install names it (`pkg-config --cflags --libs chroma`). Of other libraries it needs memcpy
+ * and memset alone.
  *
  * What a caller must keep, since no proof can see it:
  *   - A slice is a pointer and, right behind it, how many elements it has (not bytes). The
