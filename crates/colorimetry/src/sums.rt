@@ -21,13 +21,16 @@ fn row_sums(rgb: &[u8], at: usize, n: usize) -> Sums
     requires { (at + 3 * n ≤ length rgb.now) × (n ≤ 8192) }
     ensures { Totals (λ k. row_sum rgb.now at n k) (255 * n) result }
 {
-    let mut sums = Sums::NONE;
+    // Three locals: the fields of one `Sums` would be stored and read again for each pixel.
+    let mut r = 0u64;
+    let mut g = 0u64;
+    let mut b = 0u64;
     for i in 0..n {
-        sums.r += u64::from(rgb[at + 3 * i]);
-        sums.g += u64::from(rgb[at + 3 * i + 1]);
-        sums.b += u64::from(rgb[at + 3 * i + 2]);
+        r += u64::from(rgb[at + 3 * i]);
+        g += u64::from(rgb[at + 3 * i + 1]);
+        b += u64::from(rgb[at + 3 * i + 2]);
     }
-    sums
+    Sums { r, g, b }
 }
 
 // Inner: the sums over m rows of n pixels, the first of which begins at byte `at` and each of the others `pitch` bytes after the one

@@ -17,11 +17,14 @@ pub fn limit8(v: u32, bias: u32) -> u8
     v.saturating_sub(bias).min(255) as u8
 }
 
-// Inner: the floor of (p - n) / q, limited to 0..=255. What is subtracted comes apart, since the difference may lie below 0. By `as`,
-// likewise.
+// Inner: the floor of (p - n) / q, limited to 0..=255. What is subtracted comes apart, since the difference may lie below 0, and is then not
+// divided: a division costs as much as all else of a channel. By `as`, likewise.
 pub fn limit_quot(p: u64, n: u64, q: u64) -> u8
     requires { 0 < q }
     ensures { result ≡ min ((p - n) / q) 255 }
 {
-    (p.saturating_sub(n) / q).min(255) as u8
+    if p <= n {
+        return 0;
+    }
+    ((p - n) / q).min(255) as u8
 }
