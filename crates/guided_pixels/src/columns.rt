@@ -46,7 +46,9 @@ pub fn column_at(layout: Layout, row: RowOfCells) -> usize
     guided_window::buffer_at(layout, Window::BUFFERS + row.number())
 }
 
-// Inner: a buffer of the window, lerped down for picture row y into a row of cells.
+// Inner: a buffer of the window, lerped down for picture row y into a row of cells. It is made part of its callers for the same reason as
+// `row_at`.
+#[inline(always)]
 #[tactic(auto, using(crate::proofs::DownLerps::down_ready, crate::proofs::DownLerps::down_is))]
 pub fn down_row(layout: Layout, buffer: Buffer, row: RowOfCells, y: usize, s: &mut [f32])
     requires { Sound layout × (y < layout.h) × (scratch_need layout ≤ length s.old) }

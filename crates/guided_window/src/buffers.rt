@@ -124,7 +124,9 @@ fn result_at(layout: Layout, n: usize, r: usize) -> usize
     buffer_at(layout, Window::RESULTS + (r % 2 * Window::RESULT_SLOT + n))
 }
 
-// Inner: where a buffer of chroma row r begins in scratch.
+// Inner: where a buffer of chroma row r begins in scratch. Callers name the buffer by a constant, and it is made part of them, so that no case is
+// asked for: in a picture of a column or two these places are much of a row's time.
+#[inline(always)]
 pub fn row_at(layout: Layout, buffer: Buffer, r: usize) -> usize
     requires { Sound layout }
     ensures { RowAt layout buffer r result }

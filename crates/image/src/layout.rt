@@ -137,7 +137,8 @@ impl Layout {
     }
 
     // Inner: the first of refusals 2, 3, 4, 18 and 5 that applies, with which open, the calls for planes and fill begin. `whole` says that the call takes
-    // numerator 1 alone, `fixed` that the fixed kernel fills.
+    // numerator 1 alone, `fixed` that the fixed kernel fills. It is made part of each call, where a call of its own takes a fifth of an open.
+    #[inline(always)]
     #[tactic(auto, unfolding(laws::specs::Refusals::first, crate::specs::Tests::tests_for))]
     pub fn answer_for(self, whole: bool, fixed: bool) -> Result<(), Refusal>
         ensures { result ≡ first (tests_for whole fixed self) }
