@@ -232,8 +232,8 @@ fn mixed(
 
 // The reading of the rows given so far, as a picture of a line's sides, on the chart that its second plane is.
 fn reading(text: &[u8], rows: &[u8]) -> Result<ChartReading, Refusal> {
-    let buffers = Buffers::new(text, text);
-    let chart = buffers.planes(text).cb.bytes;
+    let chart = test_support::plane(text, text, 1);
+    let len = test_support::word(text, 13);
     let w = test_support::word(text, 0);
     let h = test_support::word(text, 1);
     let whole = Rectangle {
@@ -242,7 +242,7 @@ fn reading(text: &[u8], rows: &[u8]) -> Result<ChartReading, Refusal> {
         width: w,
         height: h,
     };
-    colorimetry::chart_reading(chart, whole, w, h, rows)
+    colorimetry::chart_reading(&chart[..len], whole, w, h, rows)
 }
 
 // A reading as numbers: the indices and the weight, 99 for none, the whole-number means and the number of pixels.

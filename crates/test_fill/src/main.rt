@@ -110,21 +110,20 @@ fn fill_lent(
     test_support::write_line(rt, answer, sum)
 }
 
-// Makes the call of a fill with the three planes that its line speaks of, and with scratch and `out` that no call has touched, as long as the
-// line says.
-fn fill(rt: &impl Print, text: &[u8], spelling: &[u8]) -> io::Result<()> {
-    let buffers = Buffers::new(text, spelling);
+// Makes the call of a fill with scratch and `out` that no call has touched, as long as its line says. They are the locals of a function of
+// their own: beside the planes' buffers each would be set twice.
+fn fill_marked(rt: &impl Print, text: &[u8], planes: Planes<'_>) -> io::Result<()> {
     let mut s = marked();
     let mut out = unwritten();
     let space = test_support::long(text, 21).min(600_000);
     let room = test_support::word(text, 23);
-    fill_lent(
-        rt,
-        text,
-        buffers.planes(text),
-        &mut s[..space],
-        &mut out[..room],
-    )
+    fill_lent(rt, text, planes, &mut s[..space], &mut out[..room])
+}
+
+// Makes the call of a fill with the three planes that its line speaks of.
+fn fill(rt: &impl Print, text: &[u8], spelling: &[u8]) -> io::Result<()> {
+    let buffers = Buffers::new(text, spelling);
+    fill_marked(rt, text, buffers.planes(text))
 }
 
 // Makes the call that a line's kind names.

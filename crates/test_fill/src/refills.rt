@@ -140,6 +140,14 @@ fn hold(text: &[u8], change: &[u8], old: Planes<'_>, out: &mut [u8]) {
     );
 }
 
+// What out holds before the call.
+fn held(text: &[u8], change: &[u8], old: Planes<'_>) -> [u8; 65_536] {
+    let mut out = crate::unwritten();
+    let room = word(text, 23);
+    hold(text, change, old, &mut out[..room]);
+    out
+}
+
 // Makes the call of a refill and writes its line. The sum is of all of out, and of the scratch that the call may not touch: all of it where
 // the rectangle has no cell.
 fn refill_lent(
@@ -179,10 +187,9 @@ fn refill_marked(
     new: Planes<'_>,
 ) -> io::Result<()> {
     let mut s = crate::marked();
-    let mut out = crate::unwritten();
+    let mut out = held(text, change, old);
     let space = test_support::long(text, 21).min(600_000);
     let room = word(text, 23);
-    hold(text, change, old, &mut out[..room]);
     refill_lent(
         rt,
         text,
@@ -194,11 +201,8 @@ fn refill_marked(
     )
 }
 
-// Inner: makes the call of a refill with the planes that its line and the change's speak of, and writes its line, which rt compares with the
-// stored one. It gives nothing but an error where writing failed and is lent nothing to write, so that there is nothing else to promise.
-pub fn refill(rt: &impl Print, text: &[u8], spelling: &[u8], change: &[u8]) -> io::Result<()> {
-    let buffers = Buffers::new(text, spelling);
-    let new = buffers.planes(text);
+// Makes the call of a refill with the planes before the change that go with those after it.
+fn refill_after(rt: &impl Print, text: &[u8], change: &[u8], new: Planes<'_>) -> io::Result<()> {
     let y = old_plane(text, change, new.y.bytes, 0);
     let cb = old_plane(text, change, new.cb.bytes, 1);
     let cr = old_plane(text, change, new.cr.bytes, 2);
@@ -208,4 +212,11 @@ pub fn refill(rt: &impl Print, text: &[u8], spelling: &[u8], change: &[u8]) -> i
         cr: front(&cr, word(change, 9), size(change, 6)),
     };
     refill_marked(rt, text, change, old, new)
+}
+
+// Inner: makes the call of a refill with the planes that its line and the change's speak of, and writes its line, which rt compares with the
+// stored one. It gives nothing but an error where writing failed and is lent nothing to write, so that there is nothing else to promise.
+pub fn refill(rt: &impl Print, text: &[u8], spelling: &[u8], change: &[u8]) -> io::Result<()> {
+    let buffers = Buffers::new(text, spelling);
+    refill_after(rt, text, change, buffers.planes(text))
 }

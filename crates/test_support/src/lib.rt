@@ -22,5 +22,7 @@ pub use checksums::{
 pub use floats::{bits, float};
 pub use input::{LINES, read_line};
 pub use lines::{kind, layout, numerator, range, range_of, scratch_part, siting};
-pub use planes::{Buffers, Shape, front, grow, grown, grown_held, large_buffer, spelled_plane};
+pub use planes::{
+    Buffers, Shape, front, grow, grown, grown_held, large_buffer, plane, spelled_plane,
+};
 pub use words::{byte, eight, long, size, value, word};

@@ -156,18 +156,29 @@ fn start(text: &[u8], k: usize) -> usize {
     }
 }
 
-// Plane k of the three that a line speaks of: 0 is Y, 1 Cb and 2 Cr. Shape 3 is spelled by `spelling`, a line of its own; the seeds of
-// the others follow each other, so that no two are alike. The samples of shape 6 are at most the line's maxval.
-fn plane(text: &[u8], spelling: &[u8], k: usize) -> [u8; 65_536]
-    requires { k < 3 }
+// Makes plane k of the three that a line speaks of at the front of a buffer that is lent: 0 is Y, 1 Cb and 2 Cr. Shape 3 is spelled by
+// `spelling`, a line of its own; the seeds of the others follow each other, so that no two are alike. The samples of shape 6 are at most the
+// line's maxval. A buffer that was given back by value would be copied for each plane of each line.
+fn put_plane(buffer: &mut [u8], text: &[u8], spelling: &[u8], k: usize)
+    requires { (k < 3) × (65535 ≤ length buffer.old) }
 {
     let n = word(text, 12 + k);
     let seed = word(text, 15) + k;
+    let plane = &mut buffer[..n];
     match word(text, 16 + k) {
-        3 => spelled_plane(n, spelling, start(text, k)),
-        6 => grown_held(n, seed, size(text, 6), long(text, 7) as u32),
-        shape => grown(n, seed, Shape::from(shape)),
+        3 => spell(plane, spelling, start(text, k)),
+        6 => grow_held(plane, seed, size(text, 6), long(text, 7) as u32),
+        shape => grow(plane, seed, Shape::from(shape)),
     }
+}
+
+// Inner: plane k of the three that a line speaks of, at the front of a buffer like that of `grown`.
+pub fn plane(text: &[u8], spelling: &[u8], k: usize) -> [u8; 65_536]
+    requires { k < 3 }
+{
+    let mut buffer = large_buffer();
+    put_plane(&mut buffer, text, spelling, k);
+    buffer
 }
 
 // Inner: the plane whose n bytes stand at the front of a buffer.
@@ -191,11 +202,15 @@ pub struct Buffers {
 impl Buffers {
     // Inner: the buffers of a line; `spelling` is the line that spells planes of shape 3.
     pub fn new(text: &[u8], spelling: &[u8]) -> Buffers {
-        Buffers {
-            y: plane(text, spelling, 0),
-            cb: plane(text, spelling, 1),
-            cr: plane(text, spelling, 2),
-        }
+        let mut buffers = Buffers {
+            y: large_buffer(),
+            cb: large_buffer(),
+            cr: large_buffer(),
+        };
+        put_plane(&mut buffers.y, text, spelling, 0);
+        put_plane(&mut buffers.cb, text, spelling, 1);
+        put_plane(&mut buffers.cr, text, spelling, 2);
+        buffers
     }
 
     // Inner: the planes as the line's call is lent them, as long as words 12 to 14 say and with the strides in words 9 to 11.
