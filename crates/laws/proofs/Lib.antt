@@ -4,6 +4,7 @@ pub mod Lists
 pub mod Copies
 pub mod Rows
 pub mod Refusals
+pub mod Folded
 pub mod Differences
 pub mod Order
 pub mod Halves
